@@ -1,0 +1,18 @@
+-- What is promised of the pivot. Definitions only. Assumes nothing.
+use mathlib.Core.Path.{_≡_}
+use mathlib.Core.Bool.{true, false}
+use mathlib.Core.Logic.{_⊎_}
+use mathlib.Core.List.{List}
+use Prim.Native.Nat.{ℕ, _+_, _<_}
+use lib.Ieee.{Float, nan, lt}
+use Rattle.numbers.specs.Numbers.{at, -1}
+use Rattle.householder.specs.Qr.{columnNorm}
+use Rattle.householder.specs.declared.Candidate.{Candidate}
+
+-- Of the c columns from k on, no norm is above the candidate's, and a column before it has a smaller norm or a NaN: ties keep the first, and NaN never wins.
+-- It is one of the columns with its norm; or it is (k, -1) still, and then no norm is above -1.
+pub record FirstLargest (m n k : ℕ) (r : List Float) (c : ℕ) (best : Candidate) : Type 0 where
+  pub number : best .norm ≡ nan → ⊥
+  pub one-of : ((i : ℕ) × (i < c) × (best .index ≡ k + i) × (best .norm ≡ columnNorm m n k r (k + i))) ⊎ ((best .index ≡ k) × (best .norm ≡ -1))
+  pub largest : (j : ℕ) → j < c → lt (best .norm) (columnNorm m n k r (k + j)) ≡ false
+  pub first : (j : ℕ) → j < c → k + j < best .index → (lt (columnNorm m n k r (k + j)) (best .norm) ≡ true) ⊎ (columnNorm m n k r (k + j) ≡ nan)

@@ -1,0 +1,7 @@
+// Householder QR with column pivoting.
+
+// A column and its norm.
+pub struct Candidate {
+    pub index: usize,
+    pub norm: f64,
+}

@@ -1,0 +1,12 @@
+pub mod Cases
+pub mod Sums
+pub mod Lists
+pub mod Fills
+pub mod Order
+pub mod FloorRoot
+pub mod RootAt
+pub mod Patterns
+pub mod Correct
+pub mod Monotone
+pub mod Apart
+pub mod Examples

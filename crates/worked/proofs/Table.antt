@@ -1,0 +1,28 @@
+-- The worked cases hold of the definitions. Assumes nothing.
+use mathlib.Core.Path.{_≡_, refl}
+use mathlib.Core.List.{map}
+use lib.Count.{trailingZeros}
+use lib.Ieee.{add, sub, mul, div, neg, lt, le, eq, isNan, sum, round, size, units, odd, span, climb}
+use Rattle.numbers.specs.Numbers.{Σ, tab, dot, gather, scatter, rows, grid, row, column, transposed}
+use Rattle.numbers.specs.Root.{floorRoot, rootOf, sqrtOf, norm}
+use Rattle.householder.specs.Qr.{along, image, columnNorm, pivot, swapped, reflector, pinned, advance, steps, factor, forth, back, applyQt, applyQ, upward, solveR, downward, solveRt, solve}
+use Rattle.nnls.specs.Nnls.{residual, dualOf, members, solveOf, choose, ratioOf, ranksBefore, blocking, stepTo, nextX, nextMark, moveX, moveP, judge, tryNext, tries, turnNext, turns, lastly, pass, roundNext, rounds, activeSet, nnls}
+use Rattle.lsei.specs.Lsei.{dualMatrix, dualSide, dualResidual, primal, ldp, reducedRows, reducedSides, restored, lsiFrom, lsi, fixed, turned, tailOf, shifted, gradient, equalityMultipliers, rejoined, lseiFrom, lsei}
+use Rattle.hessian.specs.Hessian.{identity, times, remainder, withRow, nextRow, firstRows, cholesky, theta, damped, revised, curved, update}
+use Rattle.subproblem.specs.Problem.{matrixOf, sidesOf, each, unit, boundRows, equalityRows, inequalityRows, opposedRows, loosenedRow, deltaRows, relaxedRows}
+use Rattle.subproblem.specs.Step.{weight, rootWeight, target, inOrder, exactStep, exact, relaxedMatrix, paired, clamped, relaxedStep, relaxed, step}
+use Rattle.subproblem.specs.Promise.{areKinds}
+use Rattle.worked.specs.Worked.{answered, table, others}
+
+pub worked : map answered table ≡ table
+unfolding add sub mul div neg lt le eq isNan sum round size units odd span climb trailingZeros Σ tab dot gather scatter rows grid row column transposed floorRoot rootOf sqrtOf norm along image columnNorm pivot swapped reflector pinned advance steps factor forth back applyQt applyQ upward solveR downward solveRt solve residual dualOf members solveOf choose ratioOf ranksBefore blocking stepTo nextX nextMark moveX moveP judge tryNext tries turnNext turns lastly pass roundNext rounds activeSet nnls dualMatrix dualSide dualResidual primal ldp reducedRows reducedSides restored lsiFrom lsi fixed turned tailOf shifted gradient equalityMultipliers rejoined lseiFrom lsei identity times remainder withRow nextRow firstRows cholesky theta damped revised curved update matrixOf sidesOf each unit boundRows equalityRows inequalityRows opposedRows loosenedRow deltaRows relaxedRows target inOrder exactStep exact relaxedMatrix paired clamped relaxedStep relaxed step areKinds
+worked = refl
+
+pub others-too : map answered others ≡ others
+unfolding add sub mul div neg lt le eq isNan sum round size units odd span climb trailingZeros Σ tab dot gather scatter rows grid row column transposed floorRoot rootOf sqrtOf norm along image columnNorm pivot swapped reflector pinned advance steps factor forth back applyQt applyQ upward solveR downward solveRt solve residual dualOf members solveOf choose ratioOf ranksBefore blocking stepTo nextX nextMark moveX moveP judge tryNext tries turnNext turns lastly pass roundNext rounds activeSet nnls dualMatrix dualSide dualResidual primal ldp reducedRows reducedSides restored lsiFrom lsi fixed turned tailOf shifted gradient equalityMultipliers rejoined lseiFrom lsei identity times remainder withRow nextRow firstRows cholesky theta damped revised curved update matrixOf sidesOf each unit boundRows equalityRows inequalityRows opposedRows loosenedRow deltaRows relaxedRows target inOrder exactStep exact relaxedMatrix paired clamped relaxedStep relaxed step areKinds
+others-too = refl
+
+-- the root of RELAXATION_WEIGHT is exactly 1000
+pub weight-root : sqrtOf weight ≡ rootWeight
+unfolding add sub mul div neg lt le eq isNan sum round size units odd span climb trailingZeros Σ tab dot gather scatter rows grid row column transposed floorRoot rootOf sqrtOf norm along image columnNorm pivot swapped reflector pinned advance steps factor forth back applyQt applyQ upward solveR downward solveRt solve residual dualOf members solveOf choose ratioOf ranksBefore blocking stepTo nextX nextMark moveX moveP judge tryNext tries turnNext turns lastly pass roundNext rounds activeSet nnls dualMatrix dualSide dualResidual primal ldp reducedRows reducedSides restored lsiFrom lsi fixed turned tailOf shifted gradient equalityMultipliers rejoined lseiFrom lsei identity times remainder withRow nextRow firstRows cholesky theta damped revised curved update matrixOf sidesOf each unit boundRows equalityRows inequalityRows opposedRows loosenedRow deltaRows relaxedRows target inOrder exactStep exact relaxedMatrix paired clamped relaxedStep relaxed step areKinds
+weight-root = refl
