@@ -1,8 +1,7 @@
 -- The QR part, lent and back: the factors, and the solution for b. Assumes nothing.
 use mathlib.Core.Path.{_≡_, refl, sym, ap, ap₂, _∙_}
 use mathlib.Core.List.{List}
-use Prim.Native.Nat.{ℕ, _+_, _-_, _*_, _≤_, _<_, min}
-use native.Mathlib.Nat.{min-le-left}
+use Prim.Native.Nat.{ℕ, _+_, _-_, _≤_, _<_}
 use native.Mathlib.Omega.{arith}
 use lib.ListN.{length, drop}
 use lib.Seq.{getD-drop}
@@ -10,11 +9,12 @@ use lib.Ieee.{Float, nan}
 use borrow.Rule.Slice.PartMut.{midOf, putMid}
 use Rattle.numbers.specs.Numbers.{at}
 use Rattle.workspace.specs.Readings.{vec, mat, Block}
-use Rattle.workspace.proofs.Readings.{vec-is, vec-same, vec-part, mat-same, mat-part, stack-same}
+use Rattle.workspace.proofs.Readings.{vec-is, vec-part, mat-part}
 use Rattle.workspace.proofs.Writes.{block-vec}
 use Rattle.workspace.proofs.Parts.{lent-is, back-part, back-get}
-use Rattle.householder.specs.Qr.{Factors, factor, solve}
+use Rattle.householder.specs.Qr.{factor, solve}
 use Rattle.householder.specs.Work.{held}
+use Rattle.householder.proofs.Held.{held-same}
 use Rattle.passive.specs.Work.{Factored, SolvedPart}
 
 pub factored-is : (m c k : ℕ) (w v : List Float) (l u : List ℕ) → 1422 ≤ length w → 198 ≤ length l
@@ -28,15 +28,6 @@ factored-is m c k w v l u hw hl e = record {
   chosen = λ x a. back-get 198 l u hl x 0 a;
 }
 
--- the factors do not lie where a right-hand side and a solution do
-held-same : (m n k : ℕ) (v v′ : List Float) (l : List ℕ) → m ≤ 18 → ((x : ℕ) → x < 342 → at v′ x ≡ at v x) → ((x : ℕ) → 426 ≤ x → at v′ x ≡ at v x)
-    → held m n k v′ l ≡ held m n k v l
-held-same m n k v v′ l m18 f g =
-    let er = mat-same 426 m n v v′ (λ i j hi hj. g (426 + j * 18 + i) (omega arith)) in
-    let eu = stack-same 0 (min m n) m v v′ (λ i j hi hj. f (0 + i * 18 + j) (omega (arith, min-le-left m n))) in
-    let eb = vec-same 324 (min m n) v v′ (λ i hi. f (324 + i) (omega (arith, min-le-left m n))) in
-    rw (er, eu, eb)
-
 -- w₁ is w with b copied in, v what the kernel left
 pub solved-part : (m c k : ℕ) (w w₁ v : List Float) (l : List ℕ) → m ≤ 18 → 1422 ≤ length w₁ → 198 ≤ length l
     → Block 1764 m (λ t. at w (1188 + t)) w w₁
@@ -49,9 +40,9 @@ solved-part m c k w w₁ v l m18 hw hl b e = record {
       ∙ e
       ∙ rw (lent-is 1422 w₁ v hw, lent-is 198 l l hl)
       (ap₂ (solve m c)
-      (held-same m c k (drop 1422 w) (drop 1422 w₁) (drop 198 l) m18
+      (held-same m c k (drop 1422 w) (drop 1422 w₁) (drop 198 l) (drop 198 l) m18
       (λ x a. getD-drop 1422 w₁ x nan ∙ b .before (1422 + x) (omega arith) ∙ sym (getD-drop 1422 w x nan))
-      (λ x a. getD-drop 1422 w₁ x nan ∙ b .after (1422 + x) (omega arith) ∙ sym (getD-drop 1422 w x nan)))
+      (λ x a d. getD-drop 1422 w₁ x nan ∙ b .after (1422 + x) (omega arith) ∙ sym (getD-drop 1422 w x nan)) (λ t a. refl))
       (vec-part 1422 342 m w₁ ∙ block-vec 1764 m (λ t. at w (1188 + t)) w w₁ b ∙ sym (vec-is 1188 m w _ (λ i hi. refl))));
   front = λ x a. back-get 1422 w₁ v hw x nan a ∙ b .before x (omega arith);
 }

@@ -11,12 +11,10 @@ use lib.Ieee.{Float}
 use Rattle.numbers.specs.Numbers.{+0, at, nth, tab, scatter, entry, grid}
 use Rattle.numbers.proofs.Lists.{tab-replicate, scatter-same}
 use Rattle.workspace.specs.Readings.{vec, mat, nums, Block}
-use Rattle.workspace.proofs.Readings.{vec-same, nth-nums}
+use Rattle.workspace.proofs.Readings.{vec-same, length-mat, nth-nums}
 use Rattle.workspace.proofs.Writes.{block-vec}
 use Rattle.householder.specs.Qr.{Factors, factor, solve}
-use Rattle.householder.specs.Work.{held}
-use Rattle.householder.proofs.Rank.{factor-rank}
-use Rattle.householder.proofs.Perm.{factor-perm}
+use Rattle.householder.proofs.Held.{held-rank, held-below}
 use Rattle.passive.specs.Passive.{members, solveOf}
 use Rattle.passive.specs.Work.{Listed, Collected, Factored, SolvedPart, Spread, Solves}
 use Rattle.passive.proofs.Members.{members-same, members-all, listed-most}
@@ -25,14 +23,10 @@ use Rattle.passive.proofs.Columns.{collected-mat}
 -- what a rank and a permutation in the QR part are
 module _ (m c k : ℕ) (w w′ : List Float) (l l′ : List ℕ) (f : Factored m c k w w′ l l′) where
   pub rank-most : k ≤ min m c
-  rank-most = let e : k ≡ (factor m c (mat 1848 m c w)) .rank = ap (λ (g : Factors). g .rank) (f .factors) in omega (arith, factor-rank m c (mat 1848 m c w))
+  rank-most = held-rank m c k (drop 1422 w′) (drop 198 l′) (mat 1848 m c w) (length-mat 1848 m c w) (f .factors)
 
   pub perm-below : (t : ℕ) → t < c → nth (drop 198 l′) t < c
-  perm-below t h =
-      let e : nums 0 c (drop 198 l′) ≡ (factor m c (mat 1848 m c w)) .perm = ap (λ (g : Factors). g .perm) (f .factors) in
-      let q : nth (drop 198 l′) t ≡ nth ((factor m c (mat 1848 m c w)) .perm) t =
-      ap (λ (x : ℕ). nth (drop 198 l′) x) (sym (zero-add t)) ∙ sym (nth-nums 0 c (drop 198 l′) t h) ∙ ap (λ (u : List ℕ). nth u t) e in
-      rw q (factor-perm m c (mat 1848 m c w) t h)
+  perm-below = held-below m c k (drop 1422 w′) (drop 198 l′) (mat 1848 m c w) (length-mat 1848 m c w) (f .factors)
 
 module _ (m n c k : ℕ) (full : Bool) (w w₁ w₂ w₃ w₄ w₅ : List Float) (l l₁ l₂ : List ℕ) (m18 : m ≤ 18) (n66 : n ≤ 66)
     (L : Listed n c l l₁) (C : Collected m c l₁ w w₁) (F : Factored m c k w₁ w₂ l₁ l₂) (S : SolvedPart m c k w₂ w₃ l₂)
