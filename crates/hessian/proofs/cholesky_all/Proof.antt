@@ -6,7 +6,6 @@ use native.Mathlib.Omega.{arith}
 use lib.Seq.{length-take-le}
 use Rattle.numbers.specs.Numbers.{+0}
 use Rattle.workspace.proofs.Clears.{cleared-behind}
-use borrow.Author.Needs.{needs}
 use Rattle.hessian.proofs.cholesky_all.Statement.{statement}
 use Rattle.hessian.proofs.cholesky_all.Tie as tie
 
@@ -35,16 +34,16 @@ factor-into-requires c κs = let a = c .before .before .before .before .before .
     (p, omega arith, omega arith, length-take-le (a .n * a .n) (a .w .now) (omega (arith, q)))
 
 clear-requires : tie.Need-clear-requires
-clear-requires c κs = search needs
+clear-requires c κs = omega arith
 
 same-length : tie.Need-same-length
-same-length c = search needs
+same-length c = omega arith
 
 same-length-2 : tie.Need-same-length-2
-same-length-2 c = search needs
+same-length-2 c = omega arith
 
 same-length-3 : tie.Need-same-length-3
-same-length-3 c = search needs
+same-length-3 c = omega arith
 
 returns : tie.Need-returns
 returns c = let a = c .before .before .before .before .before .before .before .before .before .before .before .before .before .before .before .before .before .before .args in

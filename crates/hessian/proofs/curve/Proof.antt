@@ -5,18 +5,17 @@ use lib.ListN.{length-take, length-drop}
 use lib.Seq.{length-take-le}
 use Rattle.numbers.specs.Numbers.{dot}
 use Rattle.hessian.proofs.Updates.{together}
-use borrow.Author.Needs.{needs}
 use Rattle.hessian.proofs.curve.Statement.{statement}
 use Rattle.hessian.proofs.curve.Tie as tie
 
 dot-requires : tie.Need-dot-requires
-dot-requires c κs = search needs
+dot-requires c κs = omega arith
 
 theta-of-requires : tie.Need-theta-of-requires
-theta-of-requires c κs = search needs
+theta-of-requires c κs = omega arith
 
 damp-requires : tie.Need-damp-requires
-damp-requires c κs = search needs
+damp-requires c κs = omega arith
 
 slice-aggregate-bs : tie.Need-slice-aggregate-bs
 slice-aggregate-bs c =
@@ -24,19 +23,19 @@ slice-aggregate-bs c =
     sym (length-take-le (a .n) (c .before .before .before .before .damp .last .1 .1 .1 .0) (omega (arith, c .before .before .before .before .damp .kept)))
 
 mul-r : tie.Need-mul-r
-mul-r c = search needs
+mul-r c = omega arith
 
 sub-r : tie.Need-sub-r
-sub-r c = search needs
+sub-r c = omega arith
 
 part-r-start : tie.Need-part-r-start
-part-r-start c = search needs
+part-r-start c = omega arith
 
 part-r-end : tie.Need-part-r-end
-part-r-end c = search needs
+part-r-end c = omega arith
 
 dot-requires-2 : tie.Need-dot-requires-2
-dot-requires-2 c κs = search needs
+dot-requires-2 c κs = omega arith
 
 revise-requires : tie.Need-revise-requires
 revise-requires c κs =
@@ -46,10 +45,10 @@ revise-requires c κs =
     (omega arith, simp (length-take, length-drop) (omega (arith, k)), length-take-le n w (omega (arith, k)))
 
 same-length : tie.Need-same-length
-same-length c = search needs
+same-length c = omega arith
 
 same-length-2 : tie.Need-same-length-2
-same-length-2 c = search needs
+same-length-2 c = omega arith
 
 returns : tie.Need-returns
 returns c =

@@ -9,7 +9,6 @@ use Rattle.numbers.specs.Numbers.{at, one, _⊕_, _⊖_, _⊗_}
 use Rattle.hessian.specs.Hessian.{damped}
 use Rattle.numbers.proofs.Lists.{tab-same}
 use Rattle.numbers.proofs.Fills.{Put, put-none, put-more, put-before, put-front, put-back}
-use borrow.Author.Needs.{needs}
 use native.Mathlib.Omega.{arith}
 use Rattle.hessian.proofs.damp.Statement.{statement}
 use Rattle.hessian.proofs.damp.Tie as tie
@@ -27,31 +26,31 @@ loop-holds : tie.Need-loop-holds Inv-loop μ-loop
 loop-holds c = (omega arith, put-none _ _ _)
 
 mul-w : tie.Need-mul-w Inv-loop μ-loop
-mul-w c = search needs
+mul-w c = omega arith
 
 shared-slice-read-w : tie.Need-shared-slice-read-w Inv-loop μ-loop
-shared-slice-read-w c = search needs
+shared-slice-read-w c = omega arith
 
 mul-w-2 : tie.Need-mul-w-2 Inv-loop μ-loop
-mul-w-2 c = search needs
+mul-w-2 c = omega arith
 
 slice-read-w : tie.Need-slice-read-w Inv-loop μ-loop
-slice-read-w c = search needs
+slice-read-w c = omega arith
 
 add-w : tie.Need-add-w Inv-loop μ-loop
-add-w c = search needs
+add-w c = omega arith
 
 mul-w-3 : tie.Need-mul-w-3 Inv-loop μ-loop
-mul-w-3 c = search needs
+mul-w-3 c = omega arith
 
 slice-write-w : tie.Need-slice-write-w Inv-loop μ-loop
-slice-write-w c = search needs
+slice-write-w c = omega arith
 
 add-i : tie.Need-add-i Inv-loop μ-loop
-add-i c = search needs
+add-i c = omega arith
 
 loop-less : tie.Need-loop-less Inv-loop μ-loop
-loop-less c = search needs
+loop-less c = omega arith
 
 loop-again : tie.Need-loop-again Inv-loop μ-loop
 unfolding ofBits round
@@ -60,7 +59,7 @@ loop-again c =
     (omega arith, put-more (k .inv .1) (omega arith) (cc (put-before (k .inv .1) (k .i) (omega arith) (omega arith))))
 
 same-length : tie.Need-same-length Inv-loop μ-loop
-same-length c = search needs
+same-length c = omega arith
 
 returns : tie.Need-returns Inv-loop μ-loop
 unfolding damped

@@ -9,7 +9,6 @@ use Rattle.numbers.specs.Numbers.{+0, one}
 use Rattle.hessian.specs.Hessian.{identity}
 use Rattle.numbers.proofs.Lists.{row-fits}
 use Rattle.numbers.proofs.Fills.{Rows, rows-none, rows-more, rows-all}
-use borrow.Author.Needs.{needs}
 use native.Mathlib.Omega.{arith}
 use Rattle.hessian.proofs.identity_into.Statement.{statement}
 use Rattle.hessian.proofs.identity_into.Tie as tie
@@ -49,13 +48,13 @@ part-unit-row-end : tie.Need-part-unit-row-end Inv-loop μ-loop
 part-unit-row-end c = omega (arith, in-row c)
 
 unit-row-requires : tie.Need-unit-row-requires Inv-loop μ-loop
-unit-row-requires c κs = search needs
+unit-row-requires c κs = omega arith
 
 add-i : tie.Need-add-i Inv-loop μ-loop
-add-i c = search needs
+add-i c = omega arith
 
 loop-less : tie.Need-loop-less Inv-loop μ-loop
-loop-less c = search needs
+loop-less c = omega arith
 
 loop-again : tie.Need-loop-again Inv-loop μ-loop
 loop-again c =
@@ -68,7 +67,7 @@ loop-again c =
     )
 
 same-length : tie.Need-same-length Inv-loop μ-loop
-same-length c = search needs
+same-length c = omega arith
 
 returns : tie.Need-returns Inv-loop μ-loop
 unfolding identity

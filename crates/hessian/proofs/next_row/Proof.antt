@@ -3,22 +3,22 @@ use mathlib.Core.Path.{sym, _∙_}
 use borrow.Author.Tests.{not-true, not-false}
 use Rattle.numbers.proofs.Lists.{index-lt}
 use Rattle.hessian.proofs.Turns.{row-bad, row-good}
+use lib.ListN.{length-set}
 use native.Mathlib.Omega.{arith}
-use borrow.Author.Needs.{needs}
 use Rattle.hessian.proofs.next_row.Statement.{statement}
 use Rattle.hessian.proofs.next_row.Tie as tie
 
 with-row-requires : tie.Need-with-row-requires
-with-row-requires c κs = search needs
+with-row-requires c κs = omega arith
 
 remainder-of-requires : tie.Need-remainder-of-requires
-remainder-of-requires c κs = search needs
+remainder-of-requires c κs = omega arith
 
 is-pivot-requires : tie.Need-is-pivot-requires
-is-pivot-requires c κs = search needs
+is-pivot-requires c κs = omega arith
 
 same-length : tie.Need-same-length
-same-length c = search needs
+same-length c = omega arith
 
 returns : tie.Need-returns
 returns c =
@@ -26,7 +26,7 @@ returns c =
     row-bad (a .n) (a .b .now) (a .i) (a .l .now) _ (a .l .now) _ (c .before .before .before .before .before .before .with-row .ensures) (c .before .before .remainder-of .ensures) (sym (c .before .is-pivot .ensures) ∙ not-true _ (c .if1 .taken))
 
 sqrt-requires : tie.Need-sqrt-requires
-sqrt-requires c κs = search needs
+sqrt-requires c κs = omega arith
 
 mul-l : tie.Need-mul-l
 mul-l c = (let a = c .before .before .before .before .before .before .before .before .before .before .before .args in omega (arith, index-lt (a .n) (a .n) (a .i) (a .i) (omega arith) (omega arith)))
@@ -41,7 +41,7 @@ slice-write-l : tie.Need-slice-write-l
 slice-write-l c = (let a = c .before .before .before .before .before .before .before .before .before .before .before .args in omega (arith, index-lt (a .n) (a .n) (a .i) (a .i) (omega arith) (omega arith)))
 
 same-length-2 : tie.Need-same-length-2
-same-length-2 c = search needs
+same-length-2 c = simp length-set (omega arith)
 
 returns-2 : tie.Need-returns-2
 returns-2 c =

@@ -5,12 +5,11 @@ use lib.Seq.{length-take-le}
 use lib.Ieee.{ofBits}
 use Rattle.numbers.specs.Numbers.{dot}
 use Rattle.hessian.proofs.Updates.{front-length, front-le, stays, moves}
-use borrow.Author.Needs.{needs}
 use Rattle.hessian.proofs.renew.Statement.{statement}
 use Rattle.hessian.proofs.renew.Tie as tie
 
 slice-relend-prefix-times-into : tie.Need-slice-relend-prefix-times-into
-slice-relend-prefix-times-into c = search needs
+slice-relend-prefix-times-into c = omega arith
 
 slice-aggregate-times-into : tie.Need-slice-aggregate-times-into
 slice-aggregate-times-into c = let a = c .before .before .before .before .before .before .args in sym (length-take-le (a .n) (a .w .now) (omega arith))
@@ -19,7 +18,7 @@ times-into-requires : tie.Need-times-into-requires
 times-into-requires c κs = let a = c .before .before .before .before .before .before .args in (omega arith, omega arith, length-take-le (a .n) (a .w .now) (omega arith))
 
 slice-reshare-prefix-dot : tie.Need-slice-reshare-prefix-dot
-slice-reshare-prefix-dot c = search needs
+slice-reshare-prefix-dot c = omega arith
 
 slice-aggregate-dot : tie.Need-slice-aggregate-dot
 slice-aggregate-dot c = let a = c .before .before .before .before .before .before .before .before .before .before .args in sym (front-length _ (a .b .now) (a .s .now) _ _ (c .before .before .before .times-into .ensures))
@@ -28,10 +27,10 @@ dot-requires : tie.Need-dot-requires
 dot-requires c κs = let a = c .before .before .before .before .before .before .before .before .before .before .args in (omega arith, (front-le _ (a .b .now) (a .s .now) _ _ (c .before .before .before .times-into .ensures)))
 
 same-length : tie.Need-same-length
-same-length c = search needs
+same-length c = omega arith
 
 same-length-2 : tie.Need-same-length-2
-same-length-2 c = search needs
+same-length-2 c = omega arith
 
 returns : tie.Need-returns
 unfolding ofBits
@@ -40,13 +39,13 @@ returns c =
     stays (a .n) (a .b .now) (a .s .now) (a .y .now) _ _ _ (c .before .before .before .before .before .times-into .ensures) (c .before .dot .ensures) (c .if1 .taken)
 
 curve-requires : tie.Need-curve-requires
-curve-requires c κs = search needs
+curve-requires c κs = omega arith
 
 same-length-3 : tie.Need-same-length-3
-same-length-3 c = search needs
+same-length-3 c = omega arith
 
 same-length-4 : tie.Need-same-length-4
-same-length-4 c = search needs
+same-length-4 c = omega arith
 
 returns-2 : tie.Need-returns-2
 unfolding ofBits

@@ -9,7 +9,6 @@ use Rattle.numbers.specs.Numbers.{at, _⊕_, _⊖_, _⊗_, _⊘_}
 use Rattle.hessian.specs.Hessian.{revised}
 use Rattle.numbers.proofs.Lists.{tab-same, row-fits}
 use Rattle.numbers.proofs.Fills.{Rows, rows-none, rows-part, rows-more, rows-all}
-use borrow.Author.Needs.{needs}
 use native.Mathlib.Omega.{arith}
 use Rattle.hessian.proofs.revise.Statement.{statement}
 use Rattle.hessian.proofs.revise.Tie as tie
@@ -53,25 +52,25 @@ part-revise-row-end : tie.Need-part-revise-row-end Inv-loop μ-loop
 part-revise-row-end c = omega (arith, in-row c)
 
 mul-revise-row-2 : tie.Need-mul-revise-row-2 Inv-loop μ-loop
-mul-revise-row-2 c = search needs
+mul-revise-row-2 c = omega arith
 
 shared-slice-read-revise-row : tie.Need-shared-slice-read-revise-row Inv-loop μ-loop
-shared-slice-read-revise-row c = search needs
+shared-slice-read-revise-row c = omega arith
 
 mul-revise-row-3 : tie.Need-mul-revise-row-3 Inv-loop μ-loop
-mul-revise-row-3 c = search needs
+mul-revise-row-3 c = omega arith
 
 shared-slice-read-revise-row-2 : tie.Need-shared-slice-read-revise-row-2 Inv-loop μ-loop
-shared-slice-read-revise-row-2 c = search needs
+shared-slice-read-revise-row-2 c = omega arith
 
 revise-row-requires : tie.Need-revise-row-requires Inv-loop μ-loop
-revise-row-requires c κs = search needs
+revise-row-requires c κs = omega arith
 
 add-i : tie.Need-add-i Inv-loop μ-loop
-add-i c = search needs
+add-i c = omega arith
 
 loop-less : tie.Need-loop-less Inv-loop μ-loop
-loop-less c = search needs
+loop-less c = omega arith
 
 loop-again : tie.Need-loop-again Inv-loop μ-loop
 loop-again c =
@@ -84,7 +83,7 @@ loop-again c =
     )
 
 same-length : tie.Need-same-length Inv-loop μ-loop
-same-length c = search needs
+same-length c = omega arith
 
 returns : tie.Need-returns Inv-loop μ-loop
 unfolding revised

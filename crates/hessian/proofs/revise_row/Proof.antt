@@ -4,7 +4,6 @@ use Prim.Native.Nat.{ℕ, _≤_, _-_}
 use lib.Ieee.{Float}
 use Rattle.numbers.specs.Numbers.{at, _⊕_, _⊖_, _⊗_, _⊘_}
 use Rattle.numbers.proofs.Fills.{Fill, fill-none, fill-more, fill-all, fill-next}
-use borrow.Author.Needs.{needs}
 use native.Mathlib.Omega.{arith}
 use Rattle.hessian.proofs.revise_row.Statement.{statement}
 use Rattle.hessian.proofs.revise_row.Tie as tie
@@ -23,34 +22,34 @@ loop-holds : tie.Need-loop-holds Inv-loop μ-loop
 loop-holds c = (omega arith, fill-none _ _)
 
 mul-x : tie.Need-mul-x Inv-loop μ-loop
-mul-x c = search needs
+mul-x c = omega arith
 
 slice-read-x : tie.Need-slice-read-x Inv-loop μ-loop
-slice-read-x c = search needs
+slice-read-x c = omega arith
 
 mul-x-2 : tie.Need-mul-x-2 Inv-loop μ-loop
-mul-x-2 c = search needs
+mul-x-2 c = omega arith
 
 shared-slice-read-x : tie.Need-shared-slice-read-x Inv-loop μ-loop
-shared-slice-read-x c = search needs
+shared-slice-read-x c = omega arith
 
 mul-x-3 : tie.Need-mul-x-3 Inv-loop μ-loop
-mul-x-3 c = search needs
+mul-x-3 c = omega arith
 
 shared-slice-read-x-2 : tie.Need-shared-slice-read-x-2 Inv-loop μ-loop
-shared-slice-read-x-2 c = search needs
+shared-slice-read-x-2 c = omega arith
 
 mul-x-4 : tie.Need-mul-x-4 Inv-loop μ-loop
-mul-x-4 c = search needs
+mul-x-4 c = omega arith
 
 slice-write-x : tie.Need-slice-write-x Inv-loop μ-loop
-slice-write-x c = search needs
+slice-write-x c = omega arith
 
 add-j : tie.Need-add-j Inv-loop μ-loop
-add-j c = search needs
+add-j c = omega arith
 
 loop-less : tie.Need-loop-less Inv-loop μ-loop
-loop-less c = search needs
+loop-less c = omega arith
 
 loop-again : tie.Need-loop-again Inv-loop μ-loop
 loop-again c =
@@ -58,7 +57,7 @@ loop-again c =
     (omega arith, fill-more (k .inv .1) (omega arith) (cc (fill-next (k .inv .1) (omega arith))))
 
 same-length : tie.Need-same-length Inv-loop μ-loop
-same-length c = search needs
+same-length c = omega arith
 
 returns : tie.Need-returns Inv-loop μ-loop
 returns c = fill-all (c .before .loop .inv .1) (omega arith) (omega arith)

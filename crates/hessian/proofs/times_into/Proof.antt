@@ -6,7 +6,6 @@ use Rattle.hessian.specs.Hessian.{times}
 use Rattle.numbers.proofs.Fills.{Fill, fill-none, fill-more, fill-all}
 use Rattle.numbers.proofs.Lists.{row-fits}
 use Rattle.hessian.proofs.Parts.{times-entry}
-use borrow.Author.Needs.{needs}
 use native.Mathlib.Omega.{arith}
 use Rattle.hessian.proofs.times_into.Statement.{statement}
 use Rattle.hessian.proofs.times_into.Tie as tie
@@ -46,19 +45,19 @@ part-dot-end : tie.Need-part-dot-end Inv-loop μ-loop
 part-dot-end c = omega (arith, in-row c)
 
 dot-requires : tie.Need-dot-requires Inv-loop μ-loop
-dot-requires c κs = search needs
+dot-requires c κs = omega arith
 
 mul-out : tie.Need-mul-out Inv-loop μ-loop
-mul-out c = search needs
+mul-out c = omega arith
 
 slice-write-out : tie.Need-slice-write-out Inv-loop μ-loop
-slice-write-out c = search needs
+slice-write-out c = omega arith
 
 add-i : tie.Need-add-i Inv-loop μ-loop
-add-i c = search needs
+add-i c = omega arith
 
 loop-less : tie.Need-loop-less Inv-loop μ-loop
-loop-less c = search needs
+loop-less c = omega arith
 
 loop-again : tie.Need-loop-again Inv-loop μ-loop
 loop-again c =
@@ -68,7 +67,7 @@ loop-again c =
     (omega arith, fill-more (l .inv .1) (omega arith) (times-entry (a .n) (l .i) (a .b .now) (a .v .now) _ h (c .dot .ensures)))
 
 same-length : tie.Need-same-length Inv-loop μ-loop
-same-length c = search needs
+same-length c = omega arith
 
 returns : tie.Need-returns Inv-loop μ-loop
 unfolding times

@@ -5,7 +5,6 @@ use lib.Dec.{eqb}
 use Rattle.numbers.specs.Numbers.{+0, one}
 use Rattle.numbers.proofs.Fills.{Fill, fill-none, fill-more, fill-all}
 use native.Mathlib.Omega.{arith}
-use borrow.Author.Needs.{needs}
 use Rattle.hessian.proofs.unit_row.Statement.{statement}
 use Rattle.hessian.proofs.unit_row.Tie as tie
 
@@ -19,25 +18,25 @@ loop-holds : tie.Need-loop-holds Inv-loop μ-loop
 loop-holds c = (omega arith, fill-none _ _)
 
 unit-entry-requires : tie.Need-unit-entry-requires Inv-loop μ-loop
-unit-entry-requires c κs = search needs
+unit-entry-requires c κs = omega arith
 
 mul-x : tie.Need-mul-x Inv-loop μ-loop
-mul-x c = search needs
+mul-x c = omega arith
 
 slice-write-x : tie.Need-slice-write-x Inv-loop μ-loop
-slice-write-x c = search needs
+slice-write-x c = omega arith
 
 add-j : tie.Need-add-j Inv-loop μ-loop
-add-j c = search needs
+add-j c = omega arith
 
 loop-less : tie.Need-loop-less Inv-loop μ-loop
-loop-less c = search needs
+loop-less c = omega arith
 
 loop-again : tie.Need-loop-again Inv-loop μ-loop
 loop-again c = (omega arith, fill-more (c .before .before .loop .inv .1) (omega arith) (c .unit-entry .ensures))
 
 same-length : tie.Need-same-length Inv-loop μ-loop
-same-length c = search needs
+same-length c = omega arith
 
 returns : tie.Need-returns Inv-loop μ-loop
 returns c = fill-all (c .before .loop .inv .1) (omega arith) (omega arith)

@@ -5,15 +5,14 @@ use native.Mathlib.Omega.{arith}
 use lib.Seq.{length-take-le}
 use Rattle.numbers.specs.Numbers.{+0}
 use Rattle.workspace.proofs.Clears.{cleared-behind}
-use borrow.Author.Needs.{needs}
 use Rattle.hessian.proofs.update_all.Statement.{statement}
 use Rattle.hessian.proofs.update_all.Tie as tie
 
 add-m : tie.Need-add-m
-add-m c = search needs
+add-m c = omega arith
 
 slice-relend-prefix-renew : tie.Need-slice-relend-prefix-renew
-slice-relend-prefix-renew c = search needs
+slice-relend-prefix-renew c = omega arith
 
 slice-aggregate-renew : tie.Need-slice-aggregate-renew
 slice-aggregate-renew c = let a = c .before .before .before .before .before .before .before .args in sym (length-take-le (a .n + a .n) (a .w .now) (omega arith))
@@ -22,16 +21,16 @@ renew-requires : tie.Need-renew-requires
 renew-requires c κs = let a = c .before .before .before .before .before .before .before .args in (omega arith, omega arith, omega arith, length-take-le (a .n + a .n) (a .w .now) (omega arith))
 
 clear-requires : tie.Need-clear-requires
-clear-requires c κs = search needs
+clear-requires c κs = omega arith
 
 same-length : tie.Need-same-length
-same-length c = search needs
+same-length c = omega arith
 
 same-length-2 : tie.Need-same-length-2
-same-length-2 c = search needs
+same-length-2 c = omega arith
 
 same-length-3 : tie.Need-same-length-3
-same-length-3 c = search needs
+same-length-3 c = omega arith
 
 returns : tie.Need-returns
 returns c = let a = c .before .before .before .before .before .before .before .before .before .before .before .before .before .before .before .before .before .before .before .args in

@@ -6,7 +6,6 @@ use Rattle.hessian.specs.Hessian.{withRow}
 use Rattle.numbers.proofs.Lists.{index-lt}
 use Rattle.hessian.proofs.Turns.{with-none, with-more}
 use native.Mathlib.Omega.{arith}
-use borrow.Author.Needs.{needs}
 use Rattle.hessian.proofs.with_row.Statement.{statement}
 use Rattle.hessian.proofs.with_row.Tie as tie
 
@@ -47,10 +46,10 @@ slice-write-l : tie.Need-slice-write-l Inv-loop μ-loop
 slice-write-l c = (let a = c .before .before .before .before .before .before .before .args in let l = c .before .before .before .before .loop in omega (arith, index-lt (a .n) (a .n) (a .i) (l .j) (omega arith) (omega arith)))
 
 add-j : tie.Need-add-j Inv-loop μ-loop
-add-j c = search needs
+add-j c = omega arith
 
 loop-less : tie.Need-loop-less Inv-loop μ-loop
-loop-less c = search needs
+loop-less c = omega arith
 
 loop-again : tie.Need-loop-again Inv-loop μ-loop
 loop-again c =
@@ -59,7 +58,7 @@ loop-again c =
     (omega arith, with-more (a .n) (a .b .now) (a .i) (a .l .now) (l .j) (l .l) _ (l .inv .1) (c .before .remainder-of .ensures), simp length-set (l .inv .2))
 
 same-length : tie.Need-same-length Inv-loop μ-loop
-same-length c = search needs
+same-length c = omega arith
 
 returns : tie.Need-returns Inv-loop μ-loop
 returns c = let e : c .before .loop .j ≡ c .before .before .before .before .args .i = omega arith in let a = c .before .before .before .before .args in c .before .loop .inv .1 ∙ ap (λ (k : ℕ). withRow (a .n) (a .b .now) (a .i) (a .l .now) k) e

@@ -1,16 +1,16 @@
 -- `cholesky`: the tests in their order, then the factor and the clearing. Assumes nothing.
 use mathlib.Core.Path.{sym, _∙_}
 use mathlib.Core.Bool.{true, false}
+use native.Mathlib.Omega.{arith}
 use borrow.Author.Tests.{not-true, not-false}
 use Rattle.workspace.proofs.Tests.{dimension-le, room-ge}
 use Rattle.hessian.specs.Hessian.{cholesky}
 use Rattle.hessian.proofs.Calls.{size-refused, length-refused, room-refused, factored, squares-of}
-use borrow.Author.Needs.{needs}
 use Rattle.hessian.proofs.Hessian.cholesky.Statement.{statement}
 use Rattle.hessian.proofs.Hessian.cholesky.Tie as tie
 
 is-dimension-requires : tie.Need-is-dimension-requires
-is-dimension-requires c κs = search needs
+is-dimension-requires c κs = tt
 
 returns : tie.Need-returns
 returns c = size-refused _ _ _ _ _ _ _ (sym (c .before .is-dimension .ensures) ∙ not-true _ (c .if1 .taken))
@@ -22,7 +22,7 @@ returns-2 : tie.Need-returns-2
 returns-2 c = length-refused _ _ _ _ _ _ _ (sym (c .before .before .before .is-dimension .ensures) ∙ not-false _ (c .before .before .if1 .left)) (sym (c .before .are-squares .ensures) ∙ not-true _ (c .if2 .taken))
 
 is-room-requires : tie.Need-is-room-requires
-is-room-requires c κs = search needs
+is-room-requires c κs = tt
 
 returns-3 : tie.Need-returns-3
 returns-3 c = room-refused _ _ _ _ _ _ _ (sym (c .before .before .before .before .before .is-dimension .ensures) ∙ not-false _ (c .before .before .before .before .if1 .left)) (sym (c .before .before .before .are-squares .ensures) ∙ not-false _ (c .before .before .if2 .left)) (sym (c .before .is-room .ensures) ∙ not-true _ (c .if3 .taken))
@@ -37,13 +37,13 @@ cholesky-all-requires c κs =
     (dimension-le _ (sym (t .before .before .before .before .before .is-dimension .ensures) ∙ not-false _ (t .before .before .before .before .if1 .left)), s .0, s .1, r .0, r .1)
 
 same-length : tie.Need-same-length
-same-length c = search needs
+same-length c = omega arith
 
 same-length-2 : tie.Need-same-length-2
-same-length-2 c = search needs
+same-length-2 c = omega arith
 
 same-length-3 : tie.Need-same-length-3
-same-length-3 c = search needs
+same-length-3 c = omega arith
 
 returns-4 : tie.Need-returns-4
 returns-4 c =
@@ -56,13 +56,13 @@ returns-4 c =
     (k .ensures) (not-true _ (c .if4 .taken))
 
 same-length-4 : tie.Need-same-length-4
-same-length-4 c = search needs
+same-length-4 c = omega arith
 
 same-length-5 : tie.Need-same-length-5
-same-length-5 c = search needs
+same-length-5 c = omega arith
 
 same-length-6 : tie.Need-same-length-6
-same-length-6 c = search needs
+same-length-6 c = omega arith
 
 returns-5 : tie.Need-returns-5
 returns-5 c =

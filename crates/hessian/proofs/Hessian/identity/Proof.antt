@@ -1,15 +1,15 @@
 -- `identity`: the tests in their order, then the rows and the clearing. Assumes nothing.
 use mathlib.Core.Path.{sym, _∙_}
+use native.Mathlib.Omega.{arith}
 use borrow.Author.Tests.{not-true, not-false}
 use Rattle.workspace.proofs.Tests.{dimension-le, has-length, room-ge}
 use Prim.Native.Nat.{_*_}
 use Rattle.hessian.proofs.Calls.{size-refused, length-refused, room-refused, made}
-use borrow.Author.Needs.{needs}
 use Rattle.hessian.proofs.Hessian.identity.Statement.{statement}
 use Rattle.hessian.proofs.Hessian.identity.Tie as tie
 
 is-dimension-requires : tie.Need-is-dimension-requires
-is-dimension-requires c κs = search needs
+is-dimension-requires c κs = tt
 
 returns : tie.Need-returns
 returns c = size-refused _ _ _ _ _ _ _ (sym (c .before .is-dimension .ensures) ∙ not-true _ (c .if1 .taken))
@@ -21,7 +21,7 @@ returns-2 : tie.Need-returns-2
 returns-2 c = length-refused _ _ _ _ _ _ _ (sym (c .before .before .before .is-dimension .ensures) ∙ not-false _ (c .before .before .if1 .left)) (sym (c .before .is-square .ensures) ∙ not-true _ (c .if2 .taken))
 
 is-room-requires : tie.Need-is-room-requires
-is-room-requires c κs = search needs
+is-room-requires c κs = tt
 
 returns-3 : tie.Need-returns-3
 returns-3 c = room-refused _ _ _ _ _ _ _ (sym (c .before .before .before .before .before .is-dimension .ensures) ∙ not-false _ (c .before .before .before .before .if1 .left)) (sym (c .before .before .before .is-square .ensures) ∙ not-false _ (c .before .before .if2 .left)) (sym (c .before .is-room .ensures) ∙ not-true _ (c .if3 .taken))
@@ -37,13 +37,13 @@ clear-requires c κs =
     (sym (t .before .is-room .ensures) ∙ not-false _ (t .if3 .left))
 
 same-length : tie.Need-same-length
-same-length c = search needs
+same-length c = omega arith
 
 same-length-2 : tie.Need-same-length-2
-same-length-2 c = search needs
+same-length-2 c = omega arith
 
 same-length-3 : tie.Need-same-length-3
-same-length-3 c = search needs
+same-length-3 c = omega arith
 
 returns-4 : tie.Need-returns-4
 returns-4 c =
