@@ -3,7 +3,11 @@ ghost use mathlib.Core.Path.{_≡_};
 ghost use Rattle.numbers.specs.Root.{sqrtOf, sumOf, norm};
 ghost use Rattle.hessian.specs.Promise.{Writes, identityCall, timesCall, choleskyCall, updateCall};
 ghost use Rattle.hessian.specs.Outcomes.{numberOf};
+ghost use Rattle.nnls.specs.Promise.{nnlsCall};
+ghost use Rattle.cabinet.specs.Interface.{NnlsLeaves, orOld, CountsFit};
+ghost use Rattle.nonnegative.specs.Outcomes as Counts;
 use hessian::Hessian;
+use nonnegative::Nnls;
 
 // The square root.
 #[no_mangle]
@@ -27,6 +31,72 @@ pub extern "C" fn gritstrut_norm(x: &[f64]) -> f64
     ensures { λ r. ⌜ r ≡ norm (now (x .entry)) ⌝ }
 {
     numbers::norm(x)
+}
+
+// ---- least squares
+
+// The number of an answer of NNLS.
+fn nnls_number(answer: nonnegative::Outcome) -> u32
+    ensures { λ k. ⌜ k ≡ Counts.numberOf answer ⌝ }
+{
+    match answer {
+        nonnegative::Outcome::Done(rounds, factorings) => 0,
+        nonnegative::Outcome::Size => 1,
+        nonnegative::Outcome::Length => 2,
+        nonnegative::Outcome::Room => 3,
+        nonnegative::Outcome::Capped => 7,
+    }
+}
+
+// Its rounds, or the old value.
+fn rounds_or(answer: nonnegative::Outcome, old: u32) -> u32
+    requires { ⌜ CountsFit answer ⌝ }
+    ensures { λ r. ⌜ r ≡ orOld (Counts.roundsOf answer) old ⌝ }
+{
+    match answer {
+        nonnegative::Outcome::Done(rounds, factorings) => rounds as u32,
+        nonnegative::Outcome::Size => old,
+        nonnegative::Outcome::Length => old,
+        nonnegative::Outcome::Room => old,
+        nonnegative::Outcome::Capped => old,
+    }
+}
+
+// Its factorings, or the old value.
+fn factorings_or(answer: nonnegative::Outcome, old: u32) -> u32
+    requires { ⌜ CountsFit answer ⌝ }
+    ensures { λ r. ⌜ r ≡ orOld (Counts.factoringsOf answer) old ⌝ }
+{
+    match answer {
+        nonnegative::Outcome::Done(rounds, factorings) => factorings as u32,
+        nonnegative::Outcome::Size => old,
+        nonnegative::Outcome::Length => old,
+        nonnegative::Outcome::Room => old,
+        nonnegative::Outcome::Capped => old,
+    }
+}
+
+// Nonnegative least squares.
+#[no_mangle]
+pub extern "C" fn gritstrut_nnls(
+    m: usize,
+    n: usize,
+    k: usize,
+    a: &[f64],
+    b: &[f64],
+    x: &mut [f64],
+    rounds: &mut u32,
+    factorings: &mut u32,
+    w: &mut [f64],
+    iw: &mut [u32],
+) -> u32
+    ensures { λ r. ⌜ NnlsLeaves (nnlsCall m n k (now (a .entry)) (now (b .entry)) (now (x .entry)) (now (w .entry)) (now (iw .entry))) r
+        (now (rounds .entry)) (now (rounds .exit)) (now (factorings .entry)) (now (factorings .exit)) (now (x .entry)) (now (x .exit)) (now (w .entry)) (now (w .exit)) (now (iw .entry)) (now (iw .exit)) ⌝ }
+{
+    let answer = Nnls::solve(m, n, k, a, b, x, w, iw);
+    *rounds = rounds_or(answer, *rounds);
+    *factorings = factorings_or(answer, *factorings);
+    nnls_number(answer)
 }
 
 // ---- the approximation B
