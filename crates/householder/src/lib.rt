@@ -267,7 +267,7 @@ fn count(iw: &mut [u32], n: usize)
 }
 
 // The smaller of two numbers.
-fn smaller(m: usize, n: usize) -> usize
+pub fn smaller(m: usize, n: usize) -> usize
     ensures { λ r. ⌜ r ≡ min m n ⌝ }
 {
     if m <= n { m } else { n }
