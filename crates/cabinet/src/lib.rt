@@ -4,10 +4,13 @@ ghost use Rattle.numbers.specs.Root.{sqrtOf, sumOf, norm};
 ghost use Rattle.hessian.specs.Promise.{Writes, identityCall, timesCall, choleskyCall, updateCall};
 ghost use Rattle.hessian.specs.Outcomes.{numberOf};
 ghost use Rattle.nnls.specs.Promise.{nnlsCall};
-ghost use Rattle.cabinet.specs.Interface.{NnlsLeaves, orOld, CountsFit};
+ghost use Rattle.cabinet.specs.Interface.{QrLeaves, NnlsLeaves, orOld, RankFits, CountsFit};
+ghost use Rattle.qr.specs.Promise.{qrCall};
+ghost use Rattle.qr.specs.Outcomes as Ranks;
 ghost use Rattle.nonnegative.specs.Outcomes as Counts;
 use hessian::Hessian;
 use nonnegative::Nnls;
+use qr::Qr;
 
 // The square root.
 #[no_mangle]
@@ -34,6 +37,53 @@ pub extern "C" fn gritstrut_norm(x: &[f64]) -> f64
 }
 
 // ---- least squares
+
+// The number of an answer of QR.
+fn qr_number(answer: qr::Outcome) -> u32
+    ensures { λ k. ⌜ k ≡ Ranks.numberOf answer ⌝ }
+{
+    match answer {
+        qr::Outcome::Done(rank) => 0,
+        qr::Outcome::Size => 1,
+        qr::Outcome::Length => 2,
+        qr::Outcome::Room => 3,
+    }
+}
+
+// Its rank, or the old value.
+fn rank_or(answer: qr::Outcome, old: u32) -> u32
+    requires { ⌜ RankFits answer ⌝ }
+    ensures { λ r. ⌜ r ≡ orOld (Ranks.rankOf answer) old ⌝ }
+{
+    match answer {
+        qr::Outcome::Done(rank) => rank as u32,
+        qr::Outcome::Size => old,
+        qr::Outcome::Length => old,
+        qr::Outcome::Room => old,
+    }
+}
+
+// Householder QR with column pivoting.
+#[no_mangle]
+pub extern "C" fn gritstrut_qr(
+    m: usize,
+    n: usize,
+    a: &[f64],
+    r: &mut [f64],
+    perm: &mut [u32],
+    u: &mut [f64],
+    b: &mut [f64],
+    rank: &mut u32,
+    w: &mut [f64],
+    iw: &mut [u32],
+) -> u32
+    ensures { λ k. ⌜ QrLeaves (qrCall m n (now (a .entry)) (now (r .entry)) (now (perm .entry)) (now (u .entry)) (now (b .entry)) (now (w .entry)) (now (iw .entry))) k (now (rank .entry)) (now (rank .exit))
+        (now (r .entry)) (now (r .exit)) (now (perm .entry)) (now (perm .exit)) (now (u .entry)) (now (u .exit)) (now (b .entry)) (now (b .exit)) (now (w .entry)) (now (w .exit)) (now (iw .entry)) (now (iw .exit)) ⌝ }
+{
+    let answer = Qr::factor(a, r, perm, u, b, w, iw, m, n);
+    *rank = rank_or(answer, *rank);
+    qr_number(answer)
+}
 
 // The number of an answer of NNLS.
 fn nnls_number(answer: nonnegative::Outcome) -> u32

@@ -1,6 +1,6 @@
 -- `factorings_or`: the count that comes with a done answer fits. Assumes nothing.
 use native.Mathlib.Omega.{arith}
-use Rattle.cabinet.proofs.Interface.{done-fits}
+use Rattle.cabinet.proofs.Counts.{done-fits}
 use borrow.Author.Needs.{needs}
 use Rattle.cabinet.proofs.factorings_or.Statement.{statement}
 use Rattle.cabinet.proofs.factorings_or.Tie as tie

@@ -1,6 +1,6 @@
 -- `gritstrut_nnls`: the counts fit, and go out where the call is done. Assumes nothing.
 use native.Mathlib.Omega.{arith}
-use Rattle.cabinet.proofs.Interface.{counts-fit, nnls-leaves}
+use Rattle.cabinet.proofs.Counts.{counts-fit, nnls-leaves}
 use borrow.Author.Needs.{needs}
 use Rattle.cabinet.proofs.gritstrut_nnls.Statement.{statement}
 use Rattle.cabinet.proofs.gritstrut_nnls.Tie as tie
