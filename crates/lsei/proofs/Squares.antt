@@ -28,11 +28,11 @@ use Rattle.householder.proofs.Held.{held-same}
 
 -- ---- a solution placed where the permutation says
 
-pub placed-is : (n k : ℕ) (iw : List ℕ) (v w w′ w″ : List Float) → k ≤ n → k ≤ 18 → vec 342 k w ≡ v → Block 360 n (λ _. +0) w w′ → Placed n k iw w′ w″
+pub placed-is : (n k c : ℕ) (iw : List ℕ) (v w w′ w″ : List Float) → k ≤ n → k ≤ c → c ≤ 18 → vec 342 c w ≡ v → Block 360 n (λ _. +0) w w′ → Placed n k iw w′ w″
     → vec 360 n w″ ≡ scatter k (nums 0 n iw) v (replicate n +0)
-placed-is n k iw v w w′ w″ kn k18 e B P =
-    P .value k (omega arith) k18
-    ∙ ap₂ (scatter k iw) (vec-same 342 k w w′ (λ i h. B .before (342 + i) (omega arith)) ∙ e) (block-vec 360 n (λ _. +0) w w′ B ∙ tab-replicate n +0)
+placed-is n k c iw v w w′ w″ kn kc c18 e B P =
+    P .value c kc c18
+    ∙ ap₂ (scatter k iw) (vec-same 342 c w w′ (λ i h. B .before (342 + i) (omega arith)) ∙ e) (block-vec 360 n (λ _. +0) w w′ B ∙ tab-replicate n +0)
     ∙ scatter-same k iw (nums 0 n iw) v v (replicate n +0)
     (λ t h. sym (nth-nums 0 n iw t (omega arith) ∙ ap (λ (x : ℕ). nth iw x) (let z : 0 + t ≡ t = omega arith in z))) (λ t h. refl)
 
@@ -41,7 +41,7 @@ pub restored-is : (n : ℕ) (iw : List ℕ) (w w₁ w₂ w₃ w₄ : List Float)
 unfolding restored
 restored-is n iw w w₁ w₂ w₃ w₄ n17 A S B P = record {
   x = λ m hm m18.
-      placed-is n n iw _ w₂ w₃ w₄ (omega arith) (omega arith)
+      placed-is n n n iw _ w₂ w₃ w₄ (omega arith) (omega arith) (omega arith)
       (S .value m n n iw hm (omega arith) (omega arith) (omega arith)
       ∙ ap₂ (solveR n)
       (held-same m n n w w₁ iw iw m18 (λ x h. A .before x h) (λ x h g. A .after x (omega arith)) (λ t h. refl))
