@@ -13,13 +13,18 @@ use Rattle.numbers.specs.Numbers.{+0, one, near, at, tab, entry, Σ, _⊖_, _�
 use Rattle.numbers.proofs.Cases.{lt-or-ge}
 use Rattle.numbers.proofs.Lists.{getD-tab, tab-same}
 use Rattle.numbers.proofs.Sums.{Σ-same}
-use Rattle.workspace.specs.Tables.{Answer, infeasible}
-use Rattle.workspace.specs.Readings.{vec, mat, stack, Block}
-use Rattle.workspace.proofs.Readings.{at-vec, vec-is, entry-mat, mat-is, entry-stack}
+use Rattle.workspace.specs.Tables.{Answer, done, infeasible, iterationCap}
+use Rattle.workspace.specs.Readings.{vec, mat, stack, nums, Block}
+use Rattle.workspace.proofs.Readings.{at-vec, vec-is, entry-mat, mat-is, mat-same, entry-stack}
 use Rattle.workspace.proofs.Writes.{written-more, written-as, block-vec}
-use Rattle.lsei.specs.Lsei.{Solution, infeasibility, feasible, dualMatrix, dualSide, dualResidual, primal}
-use Rattle.lsei.specs.Work.{answered, sides, distanceIn}
-use Rattle.lsei.specs.declared.Ending.the-variants.{Done, Infeasible}
+use Rattle.nnls.specs.Counted.{Counted, then, andThen}
+use Rattle.nnls.specs.Nnls.{Accepted, nnls}
+use Rattle.nnls.specs.State.{State, read, answerOf, Rounded}
+use Rattle.nnls.specs.declared.Ended as Nnls
+use Rattle.lsei.specs.Lsei.{Solution, infeasibility, feasible, dualMatrix, dualSide, dualResidual, primal, ldp}
+use Rattle.lsei.specs.Work.{answered, told, sides, distanceIn}
+use Rattle.lsei.specs.declared.Ending.{Ending}
+use Rattle.lsei.specs.declared.Ending.the-variants.{Done, Infeasible, Capped}
 
 -- ---- the code's literals
 
@@ -119,3 +124,46 @@ module _ (m n : ℕ) (w w₁ : List Float) (m66 : m ≤ 66) (n17 : n ≤ 17) (f 
       U .inside t l
       ∙ ap₂ _⊘_ (X .before (1206 + t) (omega arith) ∙ R .before (1206 + t) (omega arith) ∙ sym (at-vec 1206 m w t l)) denominator-is))
       ∙ tested c false ec h
+
+-- ---- the whole, from the answer of NNLS
+
+module _ (m n : ℕ) (w w₁ w₂ : List Float) (l l₂ : List ℕ) (e : Nnls.Ended) (m66 : m ≤ 66) (n17 : n ≤ 17) (B : Block 1188 (n + 1) (λ j. cond (ltb j n) +0 one) w w₁)
+    (N : Rounded (nnls (n + 1) m (mat 0 (n + 1) m w₁) (vec 1188 (n + 1) w₁) (3 * m)) e (read (n + 1) m w₁ l) (read (n + 1) m w₂ l₂)) where
+  abbrev matrix : List Float
+  matrix = dualMatrix m n (stack 0 m n w) (sides 0 m n w)
+
+  abbrev onward : List Float → Accepted → Answer Solution
+  onward a u = primal m n (u .x) (dualResidual m n a (u .x))
+
+  matrix₁ : mat 0 (n + 1) m w₁ ≡ matrix
+  matrix₁ = mat-same 0 (n + 1) m w w₁ (λ i j hi hj. B .before (0 + j * 18 + i) (omega arith)) ∙ matrix-is m n w
+
+  matrix₂ : mat 0 (n + 1) m w₂ ≡ matrix
+  matrix₂ = ap (λ (s : State). s .a) (N .after) ∙ matrix₁
+
+  pub side₂ : vec 1188 (n + 1) w₂ ≡ dualSide n
+  side₂ = ap (λ (s : State). s .b) (N .after) ∙ side-is n w w₁ B
+
+  whole : andThen (answerOf e (read (n + 1) m w₂ l₂)) (onward (mat 0 (n + 1) m w₂)) ≡ ldp m n (stack 0 m n w) (sides 0 m n w)
+  unfolding ldp
+  whole =
+      ap (λ (c : Counted Accepted). andThen c (onward (mat 0 (n + 1) m w₂)))
+      (N .answer ∙ ap₂ (λ (a : List Float) (b : List Float). nnls (n + 1) m a b (3 * m)) matrix₁ (side-is n w w₁ B))
+      ∙ ap (λ (a : List Float). andThen (nnls (n + 1) m matrix (dualSide n) (3 * m)) (onward a)) matrix₂
+
+  -- by the test of acceptance, which stands in the answer
+  abbrev judged : Bool → Counted Solution
+  judged b = record {
+    answer = then (cond b (done (record { x = vec 1206 m w₂; passive = nums 0 m l₂; rejected = nums 66 m l₂ })) iterationCap) (onward (mat 0 (n + 1) m w₂));
+    rounds = e .rounds;
+    factorings = e .factorings;
+  }
+
+  pub ldp-capped : e .accepted ≡ false → (s : Solution) → told (record { ending = Capped; rounds = e .rounds; factorings = e .factorings }) s ≡ ldp m n (stack 0 m n w) (sides 0 m n w)
+  ldp-capped h s = ap judged (sym h) ∙ whole
+
+  pub ldp-ended : e .accepted ≡ true → (o : Ending) (s : Solution)
+      → answered o s ≡ primal m n (vec 1206 m w₂) (dualResidual m n (mat 0 (n + 1) m w₂) (vec 1206 m w₂))
+      → told (record { ending = o; rounds = e .rounds; factorings = e .factorings }) s ≡ ldp m n (stack 0 m n w) (sides 0 m n w)
+  ldp-ended h o s q =
+      ap (λ (a : Answer Solution). record { answer = a; rounds = e .rounds; factorings = e .factorings }) q ∙ ap judged (sym h) ∙ whole

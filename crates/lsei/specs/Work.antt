@@ -8,8 +8,8 @@ use Prim.Native.Nat.{ℕ, _+_, _*_, _<_, _≤_}
 use lib.Ieee.{Float}
 use Rattle.numbers.specs.Numbers.{at, tab, gather, Σ, _⊖_, _⊗_}
 use Rattle.workspace.specs.Tables.{Answer, done, rankDeficient, infeasible, iterationCap}
-use Rattle.workspace.specs.Readings.{vec, stack, nums}
-use Rattle.householder.specs.Qr.{Factors, applyQt, solveRt}
+use Rattle.workspace.specs.Readings.{vec, mat, stack, nums}
+use Rattle.householder.specs.Qr.{Factors, factor, applyQt, solveRt}
 use Rattle.householder.specs.Work.{held}
 use Rattle.nnls.specs.Counted.{Counted}
 use Rattle.lsei.specs.Lsei.{Solution, reducedRows, reducedSides, restored}
@@ -42,6 +42,11 @@ distanceIn m n w = record { x = vec 1404 n w; multipliers = vec 1338 m w }
 -- what it leaves
 abbrev pub squaresIn : (n mg : ℕ) → List Float → Solution
 squaresIn n mg w = record { x = vec 360 n w; multipliers = vec 2088 mg w }
+
+-- the factors of the m by n matrix at 426 stand in the first b entries, and the others are as they were
+pub record FactoredFront (m n b k : ℕ) (w w′ : List Float) (iw′ : List ℕ) : Type 0 where
+  pub factors : held m n k w′ iw′ ≡ factor m n (mat 426 m n w)
+  pub after : (x : ℕ) → b ≤ x → at w′ x ≡ at w x
 
 -- row i permuted and under R'^-1, for an R of m rows, and its side less its product with the vector at 732
 pub record ReducedRow (n i : ℕ) (iw : List ℕ) (w w′ : List Float) : Type 0 where

@@ -6,8 +6,8 @@ ghost use lib.Dec.{ltb};
 ghost use lib.ListN.{length};
 ghost use Rattle.numbers.specs.Numbers.{+0, one, at, nth, Σ, _⊕_, _⊖_, _⊗_, _⊘_};
 ghost use Rattle.workspace.specs.Readings.{vec, mat, stack, Block};
-ghost use Rattle.lsei.specs.Lsei.{dualSide, dualResidual, primal};
-ghost use Rattle.lsei.specs.Work.{answered, distanceIn, ReducedRow, Reduced, Restored};
+ghost use Rattle.lsei.specs.Lsei.{dualSide, dualResidual, primal, ldp, lsi};
+ghost use Rattle.lsei.specs.Work.{answered, told, sides, distanceIn, squaresIn, FactoredFront, ReducedRow, Reduced, Restored};
 
 // How a solve ends.
 pub enum Ending {
@@ -88,7 +88,37 @@ fn finish(w: &mut [f64], m: usize, n: usize) -> Ending
     Ending::Done
 }
 
+// LDP of the m inequalities in the part, in n unknowns.
+pub fn solve_ldp(w: &mut [f64], iw: &mut [u32], m: usize, n: usize) -> Ended
+    requires { ⌜ (m ≤ 66) × (n ≤ 17) × (3036 ≤ length (now w)) × (264 ≤ length (now iw)) ⌝ }
+    ensures { λ r. ⌜ told r (distanceIn m n (now (w .exit))) ≡ ldp m n (stack 0 m n (now (w .entry))) (sides 0 m n (now (w .entry))) ⌝ }
+{
+    write_side(w, n);
+    let e = nnls::solve_in(w, iw, n + 1, m, 3 * m);
+    if !e.accepted {
+        return Ended {
+            ending: Ending::Capped,
+            rounds: e.rounds,
+            factorings: e.factorings,
+        };
+    }
+    let ending = finish(w, m, n);
+    Ended {
+        ending,
+        rounds: e.rounds,
+        factorings: e.factorings,
+    }
+}
+
 // ---- least squares with inequalities
+
+// The factors of the m by n matrix at 426, in the first b entries, and their rank.
+pub fn factor_front(w: &mut [f64], iw: &mut [u32], m: usize, n: usize, b: usize) -> usize
+    requires { ⌜ (m ≤ 18) × (n ≤ 18) × (426 + n * 18 ≤ b) × (b ≤ length (now w)) × (18 ≤ length (now iw)) ⌝ }
+    ensures { λ r. ⌜ FactoredFront m n b r (now (w .entry)) (now (w .exit)) (now (iw .exit)) ⌝ }
+{
+    householder::factor_in(&mut w[..b], &mut iw[..18], m, n)
+}
 
 // Row i of the inequalities, permuted and under R'^-1, and its side less its product with Q'f.
 fn reduce_row(w: &mut [f64], iw: &[u32], n: usize, i: usize)
@@ -133,4 +163,32 @@ fn restore(w: &mut [f64], iw: &[u32], n: usize)
     householder::solve_r(w, n);
     workspace::blank(w, 360, n);
     householder::place(w, iw, n, n);
+}
+
+// LSI of E, f and the inequalities in the part: E is me by n, and there are mg inequalities.
+pub fn solve_lsi(w: &mut [f64], iw: &mut [u32], n: usize, me: usize, mg: usize) -> Ended
+    requires { ⌜ (n ≤ 17) × (me ≤ 17) × (mg ≤ 66) × (3786 ≤ length (now w)) × (282 ≤ length (now iw)) ⌝ }
+    ensures { λ r. ⌜ told r (squaresIn n mg (now (w .exit))) ≡ lsi n me mg (mat 426 me n (now (w .entry))) (vec 732 me (now (w .entry))) (stack 750 mg n (now (w .entry))) (sides 750 mg n (now (w .entry))) ⌝ }
+{
+    let rank = factor_front(w, iw, me, n, 732);
+    if rank < n {
+        return Ended {
+            ending: Ending::Deficient,
+            rounds: 0,
+            factorings: 1,
+        };
+    }
+    reduce(w, iw, n, me, mg);
+    let e = solve_ldp(&mut w[750..], &mut iw[18..], mg, n);
+    let ending = e.ending;
+    let total = Ended {
+        ending,
+        rounds: e.rounds,
+        factorings: e.factorings + 1,
+    };
+    let Ending::Done = ending else {
+        return total;
+    };
+    restore(w, iw, n);
+    total
 }

@@ -55,8 +55,7 @@ loop-less c = omega arith
 loop-again : tie.Need-loop-again Inv-loop μ-loop
 loop-again c = let a = c .before .before .before .before .args in
     let l = c .before .before .before .loop in
-    let r = l .inv .2 in
-    (
+    let r = l .inv .2 in (
       omega arith,
       simp length-set (l .inv .1),
       written-more nan 342 (l .t) _ (a .w .now) (l .w) _ (omega arith) (ap₂ _⊕_ (r .after (2154 + l .t) (omega arith)) (r .after (732 + l .t) (omega arith))) r,

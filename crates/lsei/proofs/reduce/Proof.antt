@@ -32,8 +32,7 @@ loop-less c = omega arith
 loop-again : tie.Need-loop-again Inv-loop μ-loop
 loop-again c = let s = c .before .before .before .before .before .before .before .before .before .before .before .before in
     let l = c .before .before .before .before .before .loop in
-    let k = c .before .before .reduce-row in
-    (
+    let k = c .before .before .reduce-row in (
       omega arith,
       k .kept .0 ∙ l .inv .1,
       rows-more (s .args .n) (s .args .me) (l .i) (s .args .iw .now) _ (l .w) (k .last .0) (omega (arith, s .pre)) (s .pre .0) (omega (arith, s .pre)) (k .ensures) (l .inv .2),

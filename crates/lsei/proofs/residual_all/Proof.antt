@@ -41,15 +41,14 @@ loop-less c = omega arith
 loop-again : tie.Need-loop-again Inv-loop μ-loop
 loop-again c = let a = c .before .before .before .before .before .args in
     let l = c .before .before .before .loop in
-    let r = l .inv .2 in
-    (
+    let r = l .inv .2 in (
       omega arith,
       simp length-set (l .inv .1),
       written-more nan 1272 (l .j) _ (a .w .now) (l .w) _ (omega arith)
-      (c .residual-at .ensures
-      ∙ ap₂ _⊖_ (Σ-same (a .m) _ _ (λ i h. ap₂ _⊗_ (r .before (l .j + i * 18) (omega arith)) (r .before (1206 + i * 1) (omega arith))))
-      (r .before (1188 + l .j) (omega arith)))
-      r,
+          (c .residual-at .ensures
+          ∙ ap₂ _⊖_ (Σ-same (a .m) _ _ (λ i h. ap₂ _⊗_ (r .before (l .j + i * 18) (omega arith)) (r .before (1206 + i * 1) (omega arith))))
+          (r .before (1188 + l .j) (omega arith)))
+          r,
     )
 
 same-length : tie.Need-same-length Inv-loop μ-loop

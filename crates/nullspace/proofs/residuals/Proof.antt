@@ -56,15 +56,14 @@ loop-less c = omega arith
 loop-again : tie.Need-loop-again Inv-loop μ-loop
 loop-again c = let a = c .before .before .before .before .before .before .args in
     let l = c .before .before .before .before .loop in
-    let r = l .inv .2 in
-    (
+    let r = l .inv .2 in (
       omega arith,
       simp length-set (l .inv .1),
       written-more nan 360 (l .i) _ (a .w .now) (l .w) _ (omega arith)
-      (ap₂ _⊖_
-      (c .before .dot-within .ensures ∙ Σ-same (a .n) _ _ (λ j h. ap₂ _⊗_ (r .after (732 + l .i * 18 + j) (omega arith)) (r .after (714 + j) (omega arith))))
-      (r .after (1038 + l .i) (omega arith)))
-      r,
+          (ap₂ _⊖_
+          (c .before .dot-within .ensures ∙ Σ-same (a .n) _ _ (λ j h. ap₂ _⊗_ (r .after (732 + l .i * 18 + j) (omega arith)) (r .after (714 + j) (omega arith))))
+          (r .after (1038 + l .i) (omega arith)))
+          r,
     )
 
 same-length : tie.Need-same-length Inv-loop μ-loop

@@ -42,15 +42,14 @@ loop-less c = omega arith
 loop-again : tie.Need-loop-again Inv-loop μ-loop
 loop-again c = let a = c .before .before .before .before .before .args in
     let l = c .before .before .before .loop in
-    let r = l .inv .2 in
-    (
+    let r = l .inv .2 in (
       omega arith,
       simp length-set (l .inv .1),
       written-more nan 342 (l .j) _ (a .w .now) (l .w) _ (omega arith)
-      (c .slope-at .ensures
-      ∙ ap₂ _⊖_ (Σ-same (a .me) _ _ (λ i h. ap₂ _⊗_ (r .after (732 + l .j + i * 18) (omega arith)) (r .after (360 + i * 1) (omega arith))))
-      (Σ-same (a .mg) _ _ (λ k h. ap₂ _⊗_ (r .after (1056 + l .j + k * 18) (omega arith)) (r .after (4332 + k * 1) (omega arith)))))
-      r,
+          (c .slope-at .ensures
+          ∙ ap₂ _⊖_ (Σ-same (a .me) _ _ (λ i h. ap₂ _⊗_ (r .after (732 + l .j + i * 18) (omega arith)) (r .after (360 + i * 1) (omega arith))))
+          (Σ-same (a .mg) _ _ (λ k h. ap₂ _⊗_ (r .after (1056 + l .j + k * 18) (omega arith)) (r .after (4332 + k * 1) (omega arith)))))
+          r,
     )
 
 same-length : tie.Need-same-length Inv-loop μ-loop
