@@ -4,8 +4,9 @@
 use mathlib.Core.Path.{_≡_}
 use mathlib.Core.List.{List, _++_}
 use Prim.Native.Nat.{ℕ, _+_, _-_, _*_, _<_, _≤_}
+use lib.ListN.{length}
 use lib.Ieee.{Float}
-use Rattle.numbers.specs.Numbers.{at, dot, Σ, _⊖_, _⊗_}
+use Rattle.numbers.specs.Numbers.{at, nth, dot, Σ, _⊖_, _⊗_}
 use Rattle.workspace.specs.Readings.{vec, mat, stack}
 use Rattle.householder.specs.Qr.{Factors, applyQt, applyQ}
 use Rattle.householder.specs.Work.{held}
@@ -15,6 +16,17 @@ use Rattle.lsei.specs.Work.{sides}
 -- what LSEI leaves
 abbrev pub solutionIn : (n mc mg : ℕ) → List Float → Solution
 solutionIn n mc mg w = record { x = vec 714 n w; multipliers = vec 360 mc w ++ vec 4332 mg w }
+
+-- sizes, room, and a permutation of the equalities
+pub record Ready (n mc me mg : ℕ) (w : List Float) (iw : List ℕ) : Type 0 where
+  pub n17 : n ≤ 17
+  pub c16 : mc ≤ 16
+  pub cn : mc ≤ n
+  pub e17 : me ≤ 17
+  pub g66 : mg ≤ 66
+  pub room : 6030 ≤ length w
+  pub words : mc ≤ length iw
+  pub perm : (t : ℕ) → t < mc → nth iw t < mc
 
 -- y with R'y = P'd, in the place of d, for an R of m rows
 pub record Fixed (mc : ℕ) (iw : List ℕ) (w w′ : List Float) : Type 0 where
@@ -61,6 +73,16 @@ pub record TailOfG (n mc mg : ℕ) (w w′ : List Float) : Type 0 where
   pub low : (x : ℕ) → x < 342 → at w′ x ≡ at w x
   pub middle : (x : ℕ) → 360 ≤ x → x < 2994 → at w′ x ≡ at w x
 
+-- y, and LSI's problem in y_2; the factors of C' and the problem stay
+pub record Reduced (n mc me mg : ℕ) (iw : List ℕ) (w w′ : List Float) : Type 0 where
+  pub y : vec 714 mc w′ ≡ fixed mc (held n mc mc w iw) (vec 714 mc w)
+  pub tail-of-e : mat 2670 me (n - mc) w′ ≡ tailOf n mc me (turned n me (held n mc mc w iw) (stack 732 me n w))
+  pub shift-of-f : vec 2976 me w′ ≡ shifted n mc me (turned n me (held n mc mc w iw) (stack 732 me n w)) (vec 714 mc w′) (vec 1038 me w)
+  pub tail-of-g : stack 2994 mg (n - mc) w′ ≡ tailOf n mc mg (turned n mg (held n mc mc w iw) (stack 1056 mg n w))
+  pub shift-of-h : sides 2994 mg (n - mc) w′ ≡ shifted n mc mg (turned n mg (held n mc mc w iw) (stack 1056 mg n w)) (vec 714 mc w′) (sides 1056 mg n w)
+  pub factors : held n mc mc w′ iw ≡ held n mc mc w iw
+  pub problem : (x : ℕ) → 732 ≤ x → x < 2244 → at w′ x ≡ at w x
+
 -- entry j of E'r - G'lambda, for the residual r at 360
 abbrev pub slopeIn : (me mg j : ℕ) → List Float → Float
 slopeIn me mg j w = Σ me (λ i. at w (732 + j + i * 18) ⊗ at w (360 + i * 1)) ⊖ Σ mg (λ k. at w (1056 + j + k * 18) ⊗ at w (4332 + k * 1))
@@ -76,3 +98,10 @@ pub record Priced (n mc me mg : ℕ) (iw : List ℕ) (w w′ : List Float) : Typ
   pub multipliers : vec 360 mc w′
       ≡ equalityMultipliers n mc (held n mc mc w iw) (gradient n me mg (stack 732 me n w) (vec 1038 me w) (stack 1056 mg n w) (vec 714 n w) (vec 4332 mg w))
   pub after : (x : ℕ) → 426 ≤ x → at w′ x ≡ at w x
+
+-- x and the equalities' multipliers
+pub record Completed (n mc me mg : ℕ) (iw : List ℕ) (w w′ : List Float) : Type 0 where
+  pub x : vec 714 n w′ ≡ applyQ n (held n mc mc w iw) (vec 714 mc w ++ vec 2604 (n - mc) w)
+  pub multipliers : vec 360 mc w′
+      ≡ equalityMultipliers n mc (held n mc mc w iw) (gradient n me mg (stack 732 me n w) (vec 1038 me w) (stack 1056 mg n w) (vec 714 n w′) (vec 4332 mg w))
+  pub after : (x : ℕ) → 732 ≤ x → at w′ x ≡ at w x
