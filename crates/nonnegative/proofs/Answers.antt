@@ -2,8 +2,8 @@
 use mathlib.Core.Path.{_≡_, refl, sym, ap, ap₂, _∙_}
 use mathlib.Core.Bool.{Bool, true, false, cond, _&&_}
 use mathlib.Core.List.{List, _++_}
-use mathlib.Core.Option.{Option, none, some}
-use Prim.Native.Nat.{ℕ, _+_, _*_, _≤_, _<_}
+use mathlib.Core.Option.{none, some}
+use Prim.Native.Nat.{ℕ, _+_, _*_, _≤_}
 use native.Mathlib.Omega.{arith}
 use lib.Dec.{leb, eqb}
 use lib.ListN.{length, drop}
@@ -11,7 +11,7 @@ use lib.Ieee.{Float}
 use borrow.Author.Tests.{leb-true, eqb-true}
 use Rattle.numbers.specs.Numbers.{+0, at}
 use Rattle.numbers.proofs.Lists.{by-entries}
-use Rattle.workspace.specs.Tables.{Answer, done, iterationCap, isDual}
+use Rattle.workspace.specs.Tables.{done, iterationCap, isDual}
 use Rattle.workspace.specs.Readings.{vec, mat, Block, Loaded, Cleared}
 use Rattle.workspace.proofs.Readings.{mat-same}
 use Rattle.workspace.proofs.Writes.{block-vec}

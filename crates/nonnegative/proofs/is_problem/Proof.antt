@@ -14,7 +14,8 @@ returns : tie.Need-returns
 returns c = rw (sym (c .before .is-dual .ensures) ∙ not-true _ (c .if1 .taken))
 
 mul-result : tie.Need-mul-result
-mul-result c = omega (arith, dual-le (c .before .before .args .m) (c .before .before .args .n) (sym (c .before .is-dual .ensures) ∙ not-false _ (c .if1 .left)) .1)
+mul-result c =
+    omega (arith, dual-le (c .before .before .args .m) (c .before .before .args .n) (sym (c .before .is-dual .ensures) ∙ not-false _ (c .if1 .left)) .1)
 
 returns-2 : tie.Need-returns-2
 returns-2 c = rw (sym (c .before .is-dual .ensures) ∙ not-false _ (c .if1 .left))

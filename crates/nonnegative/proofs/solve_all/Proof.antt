@@ -13,13 +13,17 @@ slice-relend-prefix-run : tie.Need-slice-relend-prefix-run
 slice-relend-prefix-run c = c .before .before .before .before .before .pre .6
 
 slice-aggregate-run : tie.Need-slice-aggregate-run
-slice-aggregate-run c = let s = c .before .before .before .before .before .before in sym (length-take-le 8192 (s .args .w .now) (s .pre .6))
+slice-aggregate-run c =
+    let s = c .before .before .before .before .before .before in
+    sym (length-take-le 8192 (s .args .w .now) (s .pre .6))
 
 slice-relend-prefix-run-2 : tie.Need-slice-relend-prefix-run-2
 slice-relend-prefix-run-2 c = c .before .before .before .before .before .before .pre .7
 
 slice-aggregate-run-2 : tie.Need-slice-aggregate-run-2
-slice-aggregate-run-2 c = let s = c .before .before .before .before .before .before .before in sym (length-take-le 512 (s .args .iw .now) (s .pre .7))
+slice-aggregate-run-2 c =
+    let s = c .before .before .before .before .before .before .before in
+    sym (length-take-le 512 (s .args .iw .now) (s .pre .7))
 
 run-requires : tie.Need-run-requires
 run-requires c κs =
@@ -45,7 +49,9 @@ returns c =
     let lw : length (take 8192 (a .w .now)) ≡ 8192 = length-take-le 8192 (a .w .now) (s .pre .6) in
     let ll : length (take 512 (a .iw .now)) ≡ 512 = length-take-le 512 (a .iw .now) (s .pre .7) in
     let q = c .before .before .before .before .before .before .before .before .before .before .before .before .before .run in
-    capped (a .m) (a .n) _ (a .x .now) (a .w .now) (q .last .1 .1 .0) (c .before .before .before .before .clear .last .0) (a .iw .now) (q .last .1 .1 .1 .0) (c .before .before .before .before .clear .last .1 .0) (q .result) (s .pre .1) (q .kept .1 .1 .0 ∙ lw) (q .kept .1 .1 .1 .0 ∙ ll)
+    capped (a .m) (a .n) _ (a .x .now) (a .w .now) (q .last .1 .1 .0) (c .before .before .before .before .clear .last .0)
+    (a .iw .now) (q .last .1 .1 .1 .0) (c .before .before .before .before .clear .last .1 .0) (q .result) (s .pre .1)
+    (q .kept .1 .1 .0 ∙ lw) (q .kept .1 .1 .1 .0 ∙ ll)
     (q .ensures) (c .before .before .before .before .clear .ensures) (not-true _ (c .before .before .before .before .before .before .before .if1 .taken))
 
 unload-requires : tie.Need-unload-requires
@@ -70,8 +76,11 @@ returns-2 c =
     let lw : length (take 8192 (a .w .now)) ≡ 8192 = length-take-le 8192 (a .w .now) (s .pre .6) in
     let ll : length (take 512 (a .iw .now)) ≡ 512 = length-take-le 512 (a .iw .now) (s .pre .7) in
     let q = c .before .before .before .before .before .before .before .before .before .before .before .before .before .before .before .before .before .before .run in
-    accepted (a .m) (a .n) _ (a .x .now) (a .w .now) (q .last .1 .1 .0) (c .before .before .before .before .clear2 .last .0) (a .iw .now) (q .last .1 .1 .1 .0) (c .before .before .before .before .clear2 .last .1 .0) (q .result) (s .pre .1) (q .kept .1 .1 .0 ∙ lw) (q .kept .1 .1 .1 .0 ∙ ll)
-    (q .ensures) (c .before .before .before .before .clear2 .ensures) _ (c .before .before .before .before .before .before .before .before .before .unload .ensures) (not-false _ (c .before .before .before .before .before .before .before .before .before .before .before .before .if1 .left))
+    accepted (a .m) (a .n) _ (a .x .now) (a .w .now) (q .last .1 .1 .0) (c .before .before .before .before .clear2 .last .0)
+    (a .iw .now) (q .last .1 .1 .1 .0) (c .before .before .before .before .clear2 .last .1 .0) (q .result) (s .pre .1)
+    (q .kept .1 .1 .0 ∙ lw) (q .kept .1 .1 .1 .0 ∙ ll)
+    (q .ensures) (c .before .before .before .before .clear2 .ensures) _ (c .before .before .before .before .before .before .before .before .before .unload .ensures)
+    (not-false _ (c .before .before .before .before .before .before .before .before .before .before .before .before .if1 .left))
 
 pub solve-all-spec : {M : Type 1} → statement M
 solve-all-spec =
