@@ -1,46 +1,39 @@
-use borrow.Author.Needs.{needs}
+-- `push_constraint`: nothing, or a row. Assumes nothing.
+use mathlib.Core.Path.{_≡_, refl, sym, ap, _∙_}
+use native.Mathlib.Omega.{arith}
+use borrow.Author.Tests.{not-true, not-false}
+use Rattle.subproblem.proofs.Pushing.{pushed-none, not-picked, is-picked}
 use Rattle.subproblem.proofs.push_constraint.Statement.{statement}
 use Rattle.subproblem.proofs.push_constraint.Tie as tie
-use Rattle.subproblem.proofs.push_constraint.Reads as reads
-use Rattle.subproblem.proofs.push_constraint.Lts as lts
-use Rattle.subproblem.proofs.is_asked.Reads as is-asked-reads
-use Rattle.subproblem.proofs.push_row.Reads as push-row-reads
 
--- src/lib.rt:167:18
 shared-slice-read-is-asked : tie.Need-shared-slice-read-is-asked
-shared-slice-read-is-asked c = search needs
+shared-slice-read-is-asked c = omega arith
 
--- src/lib.rt:167:9
 is-asked-requires : tie.Need-is-asked-requires
-is-asked-requires c κs = search needs
+is-asked-requires c κs = tt
 
--- src/lib.rt:168:9
 returns : tie.Need-returns
-returns c = search needs
+returns c = let q = c .before .is-asked .ensures in
+    (omega arith, rw (not-picked _ _ _ (sym q ∙ not-true _ (c .if1 .taken))) (pushed-none _ _ _ _))
 
--- src/lib.rt:170:40
 mul-push-row : tie.Need-mul-push-row
-mul-push-row c = search needs
+mul-push-row c = omega arith
 
--- src/lib.rt:170:40
 shared-slice-read-push-row : tie.Need-shared-slice-read-push-row
-shared-slice-read-push-row c = search needs
+shared-slice-read-push-row c = omega arith
 
--- src/lib.rt:170:5
 push-row-requires : tie.Need-push-row-requires
-push-row-requires c κs = search needs
+push-row-requires c κs = (omega arith, omega arith, omega arith)
 
--- src/lib.rt:171:5
 add-result : tie.Need-add-result
-add-result c = search needs
+add-result c = omega arith
 
--- src/lib.rt:163:1
 same-length : tie.Need-same-length
-same-length c = search needs
+same-length c = omega arith
 
--- src/lib.rt:163:1
 returns-2 : tie.Need-returns-2
-returns-2 c = search needs
+returns-2 c = let q = c .before .before .before .before .before .before .is-asked .ensures in
+    (omega arith, rw (is-picked _ _ _ (sym q ∙ not-false _ (c .before .before .before .before .before .if1 .left))) (c .before .before .push-row .ensures))
 
 pub push-constraint-spec : {M : Type 1} → statement M
 push-constraint-spec =

@@ -1,37 +1,33 @@
-use borrow.Author.Needs.{needs}
+-- `push_delta`: two units. Assumes nothing.
+use native.Mathlib.Omega.{arith}
+use Rattle.subproblem.specs.Problem.{deltaRows}
+use Rattle.workspace.proofs.Readings.{lit-+0}
+use Rattle.subproblem.proofs.Literals.{lit-one}
+use Rattle.subproblem.proofs.Pushing.{pushed-two}
 use Rattle.subproblem.proofs.push_delta.Statement.{statement}
 use Rattle.subproblem.proofs.push_delta.Tie as tie
-use Rattle.subproblem.proofs.push_delta.Reads as reads
-use Rattle.subproblem.proofs.push_delta.Lts as lts
-use Rattle.subproblem.proofs.push_unit.Reads as push-unit-reads
 
--- src/lib.rt:244:24
 add-push-unit : tie.Need-add-push-unit
-add-push-unit c = search needs
+add-push-unit c = omega arith
 
--- src/lib.rt:244:5
 push-unit-requires : tie.Need-push-unit-requires
-push-unit-requires c κs = search needs
+push-unit-requires c κs = (omega arith, omega arith, omega arith)
 
--- src/lib.rt:245:21
 add-push-unit-2 : tie.Need-add-push-unit-2
-add-push-unit-2 c = search needs
+add-push-unit-2 c = omega arith
 
--- src/lib.rt:245:28
 add-push-unit-3 : tie.Need-add-push-unit-3
-add-push-unit-3 c = search needs
+add-push-unit-3 c = omega arith
 
--- src/lib.rt:245:5
 push-unit-requires-2 : tie.Need-push-unit-requires-2
-push-unit-requires-2 c κs = search needs
+push-unit-requires-2 c κs = (omega arith, omega arith, omega arith)
 
--- src/lib.rt:240:1
 same-length : tie.Need-same-length
-same-length c = search needs
+same-length c = omega arith
 
--- src/lib.rt:240:1
 returns : tie.Need-returns
-returns c = search needs
+unfolding deltaRows
+returns c = rw (← lit-one, ← lit-+0) (pushed-two _ _ _ _ _ _ _ _ (c .before .before .before .before .before .before .push-unit .ensures) (c .before .before .push-unit2 .ensures))
 
 pub push-delta-spec : {M : Type 1} → statement M
 push-delta-spec =

@@ -1,61 +1,50 @@
-use borrow.Author.Needs.{needs}
+-- `push_negated`: a copied row negated, one coefficient more, and the side. Assumes nothing.
+use native.Mathlib.Omega.{arith}
+use lib.ListN.{length-set}
+use Rattle.subproblem.proofs.Coefficients.{negated-is}
+use Rattle.subproblem.proofs.Pushing.{pushed-wide}
 use Rattle.subproblem.proofs.push_negated.Statement.{statement}
 use Rattle.subproblem.proofs.push_negated.Tie as tie
-use Rattle.subproblem.proofs.push_negated.Reads as reads
-use Rattle.subproblem.proofs.push_negated.Lts as lts
-use Rattle.subproblem.proofs.copy_negated.Reads as copy-negated-reads
 
--- src/lib.rt:93:17
 mul-p : tie.Need-mul-p
-mul-p c = search needs
+mul-p c = omega arith
 
--- src/lib.rt:93:13
 add-p : tie.Need-add-p
-add-p c = search needs
+add-p c = omega arith
 
--- src/lib.rt:94:24
 mul-copy-negated : tie.Need-mul-copy-negated
-mul-copy-negated c = search needs
+mul-copy-negated c = omega arith
 
--- src/lib.rt:94:5
 copy-negated-requires : tie.Need-copy-negated-requires
-copy-negated-requires c κs = search needs
+copy-negated-requires c κs = (omega arith, omega arith)
 
--- src/lib.rt:95:7
 add-w : tie.Need-add-w
-add-w c = search needs
+add-w c = omega arith
 
--- src/lib.rt:95:5
 mul-w : tie.Need-mul-w
-mul-w c = search needs
+mul-w c = omega arith
 
--- src/lib.rt:95:5
 slice-write-w : tie.Need-slice-write-w
-slice-write-w c = search needs
+slice-write-w c = omega arith
 
--- src/lib.rt:96:7
 add-w-2 : tie.Need-add-w-2
-add-w-2 c = search needs
+add-w-2 c = omega arith
 
--- src/lib.rt:96:7
 add-w-3 : tie.Need-add-w-3
-add-w-3 c = search needs
+add-w-3 c = omega arith
 
--- src/lib.rt:96:5
 mul-w-2 : tie.Need-mul-w-2
-mul-w-2 c = search needs
+mul-w-2 c = omega arith
 
--- src/lib.rt:96:5
 slice-write-w-2 : tie.Need-slice-write-w-2
-slice-write-w-2 c = search needs
+slice-write-w-2 c = simp length-set (omega arith)
 
--- src/lib.rt:89:1
 same-length : tie.Need-same-length
-same-length c = search needs
+same-length c = simp length-set (omega arith)
 
--- src/lib.rt:89:1
 returns : tie.Need-returns
-returns c = search needs
+returns c = let a = c .before .before .before .before .before .before .args in
+    pushed-wide _ _ _ _ _ _ _ _ _ (omega arith) (omega arith) (negated-is (a .n) (a .j) (a .a .now)) (c .before .before .copy-negated .ensures)
 
 pub push-negated-spec : {M : Type 1} → statement M
 push-negated-spec =

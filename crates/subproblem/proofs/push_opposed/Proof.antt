@@ -1,30 +1,25 @@
-use borrow.Author.Needs.{needs}
+-- `push_opposed`: a row, and the row negated. Assumes nothing.
+use native.Mathlib.Omega.{arith}
+use Rattle.subproblem.specs.Problem.{opposedRows}
+use Rattle.subproblem.proofs.Pushing.{pushed-two}
 use Rattle.subproblem.proofs.push_opposed.Statement.{statement}
 use Rattle.subproblem.proofs.push_opposed.Tie as tie
-use Rattle.subproblem.proofs.push_opposed.Reads as reads
-use Rattle.subproblem.proofs.push_opposed.Lts as lts
-use Rattle.subproblem.proofs.push_negated.Reads as push-negated-reads
-use Rattle.subproblem.proofs.push_wide.Reads as push-wide-reads
 
--- src/lib.rt:209:5
 push-wide-requires : tie.Need-push-wide-requires
-push-wide-requires c κs = search needs
+push-wide-requires c κs = (omega arith, omega arith, omega arith)
 
--- src/lib.rt:210:27
 add-push-negated : tie.Need-add-push-negated
-add-push-negated c = search needs
+add-push-negated c = omega arith
 
--- src/lib.rt:210:5
 push-negated-requires : tie.Need-push-negated-requires
-push-negated-requires c κs = search needs
+push-negated-requires c κs = (omega arith, omega arith, omega arith)
 
--- src/lib.rt:205:1
 same-length : tie.Need-same-length
-same-length c = search needs
+same-length c = omega arith
 
--- src/lib.rt:205:1
 returns : tie.Need-returns
-returns c = search needs
+unfolding opposedRows
+returns c = pushed-two _ _ _ _ _ _ _ _ (c .before .before .before .before .before .before .push-wide .ensures) (c .before .before .push-negated .ensures)
 
 pub push-opposed-spec : {M : Type 1} → statement M
 push-opposed-spec =
