@@ -86,7 +86,16 @@ fn push_wide(a: &[f64], w: &mut [f64], o: usize, k: usize, n: usize, j: usize, l
 }
 
 // Row j of a negated, with one coefficient more.
-fn push_negated(a: &[f64], w: &mut [f64], o: usize, k: usize, n: usize, j: usize, last: f64, side: f64)
+fn push_negated(
+    a: &[f64],
+    w: &mut [f64],
+    o: usize,
+    k: usize,
+    n: usize,
+    j: usize,
+    last: f64,
+    side: f64,
+)
     requires { ⌜ (n ≤ 16) × (j * n + n ≤ length (now a)) × (o + k * 18 + 18 ≤ length (now w)) ⌝ }
     ensures { λ _. ⌜ Pushed o (n + 1) k (k + 1) (rowOf (map neg (row n j (now (a .entry))) ++ (last ∷ [])) side ∷ []) (now (w .entry)) (now (w .exit)) ⌝ }
 {
@@ -127,7 +136,15 @@ fn push_upper(side: Side, w: &mut [f64], o: usize, k: usize, n: usize, i: usize)
 }
 
 // The bounds of variable i, lower and then upper.
-fn push_bound(lower: f64, upper: f64, w: &mut [f64], o: usize, k: usize, n: usize, i: usize) -> usize
+fn push_bound(
+    lower: f64,
+    upper: f64,
+    w: &mut [f64],
+    o: usize,
+    k: usize,
+    n: usize,
+    i: usize,
+) -> usize
     requires { ⌜ (i < n) × (n ≤ 17) × (o + k * 18 + 36 ≤ length (now w)) ⌝ }
     ensures { λ r. ⌜ (r ≤ k + 2) × Pushed o n k r (lowerRow n i (sideOf lower) ++ upperRow n i (sideOf upper)) (now (w .entry)) (now (w .exit)) ⌝ }
 {
@@ -136,7 +153,15 @@ fn push_bound(lower: f64, upper: f64, w: &mut [f64], o: usize, k: usize, n: usiz
 }
 
 // The bounds of the first m variables, in rows of n coefficients.
-fn push_bounds(lower: &[f64], upper: &[f64], w: &mut [f64], o: usize, k: usize, n: usize, m: usize) -> usize
+fn push_bounds(
+    lower: &[f64],
+    upper: &[f64],
+    w: &mut [f64],
+    o: usize,
+    k: usize,
+    n: usize,
+    m: usize,
+) -> usize
     requires { ⌜ (m ≤ n) × (n ≤ 17) × (length (now lower) ≡ m) × (length (now upper) ≡ m) × (o + k * 18 + m * 36 ≤ length (now w)) ⌝ }
     ensures { λ r. ⌜ (r ≤ k + 2 * m) × Pushed o n k r (each m (λ i. lowerRow n i (sideOf (at (now (lower .entry)) i)) ++ upperRow n i (sideOf (at (now (upper .entry)) i)))) (now (w .entry)) (now (w .exit)) ⌝ }
 {
@@ -160,7 +185,17 @@ fn is_asked(kind: u8, asked: bool) -> bool
 }
 
 // Constraint j, where it is asked for.
-fn push_constraint(kinds: &[u8], values: &[f64], jacobian: &[f64], w: &mut [f64], o: usize, k: usize, n: usize, j: usize, asked: bool) -> usize
+fn push_constraint(
+    kinds: &[u8],
+    values: &[f64],
+    jacobian: &[f64],
+    w: &mut [f64],
+    o: usize,
+    k: usize,
+    n: usize,
+    j: usize,
+    asked: bool,
+) -> usize
     requires { ⌜ (n ≤ 17) × (j < length (now kinds)) × (j < length (now values)) × (j * n + n ≤ length (now jacobian)) × (o + k * 18 + 18 ≤ length (now w)) ⌝ }
     ensures { λ r. ⌜ (r ≤ k + 1) × Pushed o n k r (picked asked (eqb (nth (now (kinds .entry)) j) 0) (rowOf (row n j (now (jacobian .entry))) (neg (at (now (values .entry)) j)))) (now (w .entry)) (now (w .exit)) ⌝ }
 {
@@ -172,7 +207,16 @@ fn push_constraint(kinds: &[u8], values: &[f64], jacobian: &[f64], w: &mut [f64]
 }
 
 // The equalities, or the inequalities, of m constraints.
-pub fn push_constraints(kinds: &[u8], values: &[f64], jacobian: &[f64], w: &mut [f64], o: usize, n: usize, m: usize, asked: bool) -> usize
+pub fn push_constraints(
+    kinds: &[u8],
+    values: &[f64],
+    jacobian: &[f64],
+    w: &mut [f64],
+    o: usize,
+    n: usize,
+    m: usize,
+    asked: bool,
+) -> usize
     requires { ⌜ (n ≤ 17) × (length (now kinds) ≡ m) × (length (now values) ≡ m) × (length (now jacobian) ≡ m * n) × (o + m * 18 ≤ length (now w)) ⌝ }
     ensures { λ r. ⌜ (r ≤ m) × Pushed o n 0 r (each m (λ j. picked asked (eqb (nth (now (kinds .entry)) j) 0) (rowOf (row n j (now (jacobian .entry))) (neg (at (now (values .entry)) j))))) (now (w .entry)) (now (w .exit)) ⌝ }
 {
@@ -184,7 +228,17 @@ pub fn push_constraints(kinds: &[u8], values: &[f64], jacobian: &[f64], w: &mut 
 }
 
 // The inequalities of the exact problem: constraints, and then per variable lower, upper.
-pub fn push_inequalities(kinds: &[u8], values: &[f64], jacobian: &[f64], lower: &[f64], upper: &[f64], w: &mut [f64], o: usize, n: usize, m: usize) -> usize
+pub fn push_inequalities(
+    kinds: &[u8],
+    values: &[f64],
+    jacobian: &[f64],
+    lower: &[f64],
+    upper: &[f64],
+    w: &mut [f64],
+    o: usize,
+    n: usize,
+    m: usize,
+) -> usize
     requires { ⌜ Lengths n m (now kinds) (now values) (now jacobian) (now lower) (now upper) × (o + 864 ≤ length (now w)) ⌝ }
     ensures { λ r. ⌜ (r ≤ 48) × Pushed o n 0 r (inequalityRows (bare n m (now (kinds .entry)) (now (values .entry)) (now (jacobian .entry)) (now (lower .entry)) (now (upper .entry)))) (now (w .entry)) (now (w .exit)) ⌝ }
 {
@@ -211,7 +265,16 @@ fn push_opposed(a: &[f64], w: &mut [f64], o: usize, k: usize, n: usize, j: usize
 }
 
 // Constraint j.
-fn push_relaxed(kinds: &[u8], values: &[f64], jacobian: &[f64], w: &mut [f64], o: usize, k: usize, n: usize, j: usize) -> usize
+fn push_relaxed(
+    kinds: &[u8],
+    values: &[f64],
+    jacobian: &[f64],
+    w: &mut [f64],
+    o: usize,
+    k: usize,
+    n: usize,
+    j: usize,
+) -> usize
     requires { ⌜ (n ≤ 16) × (j < length (now kinds)) × (j < length (now values)) × (j * n + n ≤ length (now jacobian)) × (o + k * 18 + 36 ≤ length (now w)) ⌝ }
     ensures { λ r. ⌜ (r ≤ k + 2) × Pushed o (n + 1) k r (relaxedOf (eqb (nth (now (kinds .entry)) j) 0) (row n j (now (jacobian .entry))) (at (now (values .entry)) j)) (now (w .entry)) (now (w .exit)) ⌝ }
 {
@@ -225,7 +288,15 @@ fn push_relaxed(kinds: &[u8], values: &[f64], jacobian: &[f64], w: &mut [f64], o
 }
 
 // All m constraints.
-fn push_all_relaxed(kinds: &[u8], values: &[f64], jacobian: &[f64], w: &mut [f64], o: usize, n: usize, m: usize) -> usize
+fn push_all_relaxed(
+    kinds: &[u8],
+    values: &[f64],
+    jacobian: &[f64],
+    w: &mut [f64],
+    o: usize,
+    n: usize,
+    m: usize,
+) -> usize
     requires { ⌜ (n ≤ 16) × (length (now kinds) ≡ m) × (length (now values) ≡ m) × (length (now jacobian) ≡ m * n) × (o + m * 36 ≤ length (now w)) ⌝ }
     ensures { λ r. ⌜ (r ≤ 2 * m) × Pushed o (n + 1) 0 r (each m (λ j. relaxedOf (eqb (nth (now (kinds .entry)) j) 0) (row n j (now (jacobian .entry))) (at (now (values .entry)) j))) (now (w .entry)) (now (w .exit)) ⌝ }
 {
@@ -246,7 +317,17 @@ fn push_delta(w: &mut [f64], o: usize, k: usize, n: usize)
 }
 
 // The rows of the relaxed problem: constraints, then per variable lower, upper, and last those of delta.
-pub fn push_relaxed_rows(kinds: &[u8], values: &[f64], jacobian: &[f64], lower: &[f64], upper: &[f64], w: &mut [f64], o: usize, n: usize, m: usize) -> usize
+pub fn push_relaxed_rows(
+    kinds: &[u8],
+    values: &[f64],
+    jacobian: &[f64],
+    lower: &[f64],
+    upper: &[f64],
+    w: &mut [f64],
+    o: usize,
+    n: usize,
+    m: usize,
+) -> usize
     requires { ⌜ Lengths n m (now kinds) (now values) (now jacobian) (now lower) (now upper) × (o + 1188 ≤ length (now w)) ⌝ }
     ensures { λ r. ⌜ (r ≤ 66) × Pushed o (n + 1) 0 r (relaxedRows (bare n m (now (kinds .entry)) (now (values .entry)) (now (jacobian .entry)) (now (lower .entry)) (now (upper .entry)))) (now (w .entry)) (now (w .exit)) ⌝ }
 {

@@ -1,26 +1,22 @@
-use borrow.Author.Needs.{needs}
+-- `push_inequalities`: constraints, and bounds behind them. Assumes nothing.
+use native.Mathlib.Omega.{arith}
+use Rattle.subproblem.specs.Problem.{boundRows, inequalityRows}
+use Rattle.subproblem.proofs.Pushing.{pushed-both}
 use Rattle.subproblem.proofs.push_inequalities.Statement.{statement}
 use Rattle.subproblem.proofs.push_inequalities.Tie as tie
-use Rattle.subproblem.proofs.push_inequalities.Reads as reads
-use Rattle.subproblem.proofs.push_inequalities.Lts as lts
-use Rattle.subproblem.proofs.push_bounds.Reads as push-bounds-reads
-use Rattle.subproblem.proofs.push_constraints.Reads as push-constraints-reads
 
--- src/lib.rt:191:9
 push-constraints-requires : tie.Need-push-constraints-requires
-push-constraints-requires c κs = search needs
+push-constraints-requires c κs = (omega arith, omega arith, omega arith, c .before .before .before .before .before .before .before .pre .0 .entries, omega arith)
 
--- src/lib.rt:192:5
 push-bounds-requires : tie.Need-push-bounds-requires
-push-bounds-requires c κs = search needs
+push-bounds-requires c κs = (omega arith, omega arith, omega arith, omega arith, omega arith)
 
--- src/lib.rt:187:1
 same-length : tie.Need-same-length
-same-length c = search needs
+same-length c = omega arith
 
--- src/lib.rt:187:1
 returns : tie.Need-returns
-returns c = search needs
+unfolding boundRows inequalityRows
+returns c = (omega arith, pushed-both _ _ _ _ _ _ _ _ _ _ (c .before .before .before .before .before .before .push-constraints .ensures .1) (c .before .before .push-bounds .ensures .1))
 
 pub push-inequalities-spec : {M : Type 1} → statement M
 push-inequalities-spec =

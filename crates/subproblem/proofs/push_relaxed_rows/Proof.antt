@@ -1,39 +1,34 @@
-use borrow.Author.Needs.{needs}
+-- `push_relaxed_rows`: constraints, bounds, and the rows of delta. Assumes nothing.
+use native.Mathlib.Omega.{arith}
+use Rattle.subproblem.specs.Problem.{boundRows, relaxedRows}
+use Rattle.subproblem.proofs.Pushing.{pushed-both}
 use Rattle.subproblem.proofs.push_relaxed_rows.Statement.{statement}
 use Rattle.subproblem.proofs.push_relaxed_rows.Tie as tie
-use Rattle.subproblem.proofs.push_relaxed_rows.Reads as reads
-use Rattle.subproblem.proofs.push_relaxed_rows.Lts as lts
-use Rattle.subproblem.proofs.push_all_relaxed.Reads as push-all-relaxed-reads
-use Rattle.subproblem.proofs.push_bounds.Reads as push-bounds-reads
-use Rattle.subproblem.proofs.push_delta.Reads as push-delta-reads
 
--- src/lib.rt:253:9
 push-all-relaxed-requires : tie.Need-push-all-relaxed-requires
-push-all-relaxed-requires c κs = search needs
+push-all-relaxed-requires c κs = (omega arith, omega arith, omega arith, c .before .before .before .before .before .before .before .pre .0 .entries, omega arith)
 
--- src/lib.rt:254:48
 add-push-bounds : tie.Need-add-push-bounds
-add-push-bounds c = search needs
+add-push-bounds c = omega arith
 
--- src/lib.rt:254:9
 push-bounds-requires : tie.Need-push-bounds-requires
-push-bounds-requires c κs = search needs
+push-bounds-requires c κs = (omega arith, omega arith, omega arith, omega arith, omega arith)
 
--- src/lib.rt:255:5
 push-delta-requires : tie.Need-push-delta-requires
-push-delta-requires c κs = search needs
+push-delta-requires c κs = (omega arith, omega arith)
 
--- src/lib.rt:256:5
 add-result : tie.Need-add-result
-add-result c = search needs
+add-result c = omega arith
 
--- src/lib.rt:249:1
 same-length : tie.Need-same-length
-same-length c = search needs
+same-length c = omega arith
 
--- src/lib.rt:249:1
 returns : tie.Need-returns
-returns c = search needs
+unfolding boundRows relaxedRows
+returns c = (
+  omega arith,
+  pushed-both _ _ _ _ _ _ _ _ _ _ (c .before .before .before .before .before .before .before .before .before .before .push-all-relaxed .ensures .1) (pushed-both _ _ _ _ _ _ _ _ _ _ (c .before .before .before .before .before .before .push-bounds .ensures .1) (c .before .before .push-delta .ensures)),
+)
 
 pub push-relaxed-rows-spec : {M : Type 1} → statement M
 push-relaxed-rows-spec =
