@@ -1,7 +1,403 @@
-// Householder QR with column pivoting.
+// Householder QR with column pivoting, in a lent part of the workspaces.
+//
+// In f64: u of reflector k at 18 k, its b at 324 + k, a right-hand side at 342, a solution at 360, and
+// column j of R at 426 + 18 j. In u32: the permutation at 0.
+ghost use mathlib.Core.Path.{_≡_};
+ghost use mathlib.Core.Bool.{cond};
+ghost use Prim.Native.Nat.{ℕ, _+_, _-_, _*_, _/_, _<_, _≤_, min, max};
+ghost use lib.Dec.{eqb};
+ghost use lib.ListN.{length, set};
+ghost use Rattle.numbers.specs.Numbers.{Σ, at, nth, tab, _⊕_, _⊖_, _⊗_, _⊘_};
+ghost use Rattle.workspace.specs.Readings.{vec, mat, nums, Block};
+ghost use Rattle.householder.specs.Qr.{pivot, tolerance, signed, advance, factor, solve};
+ghost use Rattle.householder.specs.Search.{shown, weighed, four, Leads};
+ghost use Rattle.householder.specs.Work.{held, Reflected, Turned, Exchanged, Prepared, AppliedQt, AppliedQ, SolvedR, SolvedRt, Placed};
+
+// ---- the pivot
 
 // A column and its norm.
 pub struct Candidate {
     pub index: usize,
     pub norm: f64,
+}
+
+// The best column so far by its sum of squares, where there is one that has a norm.
+struct Lead {
+    index: usize,
+    sum: f64,
+    any: bool,
+}
+
+impl Lead {
+    // 1 + 2^-47: a sum that is larger by more than this factor has a strictly larger root.
+    const GAP: f64 = 1.0000000000000071;
+}
+
+// Column j with the sum of squares s, against the lead: only a strictly larger norm replaces it, and
+// roots are taken only of a near tie.
+fn weigh(old: Lead, j: usize, s: f64) -> Lead
+    ensures { λ r. ⌜ r ≡ weighed old j s ⌝ }
+{
+    let new = Lead {
+        index: j,
+        sum: s,
+        any: true,
+    };
+    if old.any {
+        if s > old.sum {
+            if s > old.sum * Lead::GAP {
+                return new;
+            }
+            let x = numbers::sqrt(old.sum);
+            let y = numbers::sqrt(s);
+            if y > x {
+                return new;
+            }
+            return old;
+        }
+        return old;
+    }
+    if s >= 0.0 {
+        return new;
+    }
+    old
+}
+
+// The lead with its norm.
+fn show(top: Lead) -> Candidate
+    ensures { λ r. ⌜ r ≡ shown top ⌝ }
+{
+    if top.any {
+        let x = numbers::sqrt(top.sum);
+        return Candidate {
+            index: top.index,
+            norm: x,
+        };
+    }
+    Candidate {
+        index: top.index,
+        norm: -1.0,
+    }
+}
+
+// Four sums, one for each of four columns.
+struct Four {
+    a: f64,
+    b: f64,
+    c: f64,
+    d: f64,
+}
+
+// The sums of the squares of the n numbers from p on, and from 18, 36 and 54 behind p on, side by side:
+// each is summed in its own order.
+fn squares_four(w: &[f64], p: usize, n: usize) -> Four
+    requires { ⌜ p + 54 + n ≤ length (now w) ⌝ }
+    ensures { λ r. ⌜ r ≡ four n p (now (w .entry)) ⌝ }
+{
+    let mut a = -0.0;
+    let mut b = -0.0;
+    let mut c = -0.0;
+    let mut d = -0.0;
+    for t in 0..n {
+        let x = w[p + t];
+        let y = w[p + 18 + t];
+        let z = w[p + 36 + t];
+        let v = w[p + 54 + t];
+        a = a + x * x;
+        b = b + y * y;
+        c = c + z * z;
+        d = d + v * v;
+    }
+    Four {
+        a: a,
+        b: b,
+        c: c,
+        d: d,
+    }
+}
+
+// The lead among the columns from k on, by fours: up to three columns are left.
+fn pivot_fours(w: &[f64], m: usize, n: usize, k: usize) -> Lead
+    requires { ⌜ (m ≤ 18) × (n ≤ 66) × (k < m) × (k < n) × (426 + n * 18 ≤ length (now w)) ⌝ }
+    ensures { λ r. ⌜ Leads m n k ((n - k) / 4 * 4) (now (w .entry)) r ⌝ }
+{
+    let mut top = Lead {
+        index: k,
+        sum: 0.0,
+        any: false,
+    };
+    let c = (n - k) / 4;
+    for q in 0..c {
+        let j = k + q * 4;
+        let s = squares_four(w, 426 + j * 18 + k, m - k);
+        top = weigh(top, j, s.a);
+        top = weigh(top, j + 1, s.b);
+        top = weigh(top, j + 2, s.c);
+        top = weigh(top, j + 3, s.d);
+    }
+    top
+}
+
+// The column of the largest norm among those from k on, and that norm.
+fn pivot(w: &[f64], m: usize, n: usize, k: usize) -> Candidate
+    requires { ⌜ (m ≤ 18) × (n ≤ 66) × (k < m) × (k < n) × (426 + n * 18 ≤ length (now w)) ⌝ }
+    ensures { λ r. ⌜ r ≡ pivot m n k (mat 426 m n (now (w .entry))) (n - k) ⌝ }
+{
+    let mut top = pivot_fours(w, m, n, k);
+    let c = n - k;
+    for t in c / 4 * 4..c {
+        let p = 426 + (k + t) * 18 + k;
+        let s = numbers::dot_within(w, p, p, m - k);
+        top = weigh(top, k + t, s);
+    }
+    show(top)
+}
+
+// ---- one step
+
+// Adds s times the c numbers from p on to the c numbers from q on, which lie behind them.
+fn lift(w: &mut [f64], p: usize, q: usize, c: usize, s: f64)
+    requires { ⌜ (p + c ≤ q) × (q + c ≤ length (now w)) ⌝ }
+    ensures { λ _. ⌜ Block q c (λ t. at (now (w .entry)) (q + t) ⊕ s ⊗ at (now (w .entry)) (p + t)) (now (w .entry)) (now (w .exit)) ⌝ }
+{
+    for t in 0..c {
+        w[q + t] = w[q + t] + s * w[p + t];
+    }
+}
+
+// Algorithm H2: the vector at o under reflector k.
+fn reflect(w: &mut [f64], m: usize, k: usize, o: usize)
+    requires { ⌜ (m ≤ 18) × (k < m) × (342 ≤ o) × (o + m ≤ length (now w)) ⌝ }
+    ensures { λ _. ⌜ Reflected m k o (now (w .entry)) (now (w .exit)) ⌝ }
+{
+    let p = k * 18 + k;
+    let q = o + k;
+    let c = m - k;
+    let d = numbers::dot_within(w, p, q, c);
+    if d == 0.0 {
+        return;
+    }
+    let s = d / w[324 + k];
+    lift(w, p, q, c, s);
+}
+
+// Each column past k under reflector k.
+fn turn(w: &mut [f64], m: usize, n: usize, k: usize)
+    requires { ⌜ (m ≤ 18) × (k < m) × (k < n) × (426 + n * 18 ≤ length (now w)) ⌝ }
+    ensures { λ _. ⌜ Turned m k n (now (w .entry)) (now (w .exit)) ⌝ }
+{
+    for j in k + 1..n {
+        reflect(w, m, k, 426 + j * 18);
+    }
+}
+
+// Columns k and p exchanged.
+fn swap(w: &mut [f64], m: usize, k: usize, p: usize)
+    requires { ⌜ (m ≤ 18) × (426 + k * 18 + m ≤ length (now w)) × (426 + p * 18 + m ≤ length (now w)) ⌝ }
+    ensures { λ _. ⌜ Exchanged m k p (now (w .entry)) (now (w .exit)) ⌝ }
+{
+    for i in 0..m {
+        let x = w[426 + k * 18 + i];
+        w[426 + k * 18 + i] = w[426 + p * 18 + i];
+        w[426 + p * 18 + i] = x;
+    }
+}
+
+// Entries k and p of the permutation exchanged.
+fn swap_at(iw: &mut [u32], k: usize, p: usize)
+    requires { ⌜ (k < length (now iw)) × (p < length (now iw)) ⌝ }
+    ensures { λ _. ⌜ now («iw» .exit) ≡ set (set (now («iw» .entry)) k (nth (now («iw» .entry)) p)) p (nth (now («iw» .entry)) k) ⌝ }
+{
+    let x = iw[k];
+    iw[k] = iw[p];
+    iw[p] = x;
+}
+
+// The new diagonal entry.
+fn signed_of(head: f64, largest: f64) -> f64
+    ensures { λ r. ⌜ r ≡ signed head largest ⌝ }
+{
+    if head > 0.0 {
+        return -largest;
+    }
+    largest
+}
+
+// Algorithm H1: reflector k from column k, and column k under it.
+fn prepare(w: &mut [f64], m: usize, k: usize, largest: f64)
+    requires { ⌜ (m ≤ 18) × (k < m) × (426 + k * 18 + 18 ≤ length (now w)) ⌝ }
+    ensures { λ _. ⌜ Prepared m k largest (now (w .entry)) (now (w .exit)) ⌝ }
+{
+    let o = k * 18;
+    let q = 426 + o + k;
+    workspace::blank(w, o, k);
+    workspace::copy_down(w, q, o + k, m - k);
+    let head = w[q];
+    let s = signed_of(head, largest);
+    let u = head - s;
+    w[o + k] = u;
+    w[324 + k] = s * u;
+    w[q] = s;
+    workspace::blank(w, q + 1, m - (k + 1));
+}
+
+// Step k, on the column of the candidate.
+fn step(w: &mut [f64], iw: &mut [u32], m: usize, n: usize, k: usize, top: Candidate)
+    requires { ⌜ (m ≤ 18) × (k < m) × (k < n) × (top .index < n) × (426 + n * 18 ≤ length (now w)) × (n ≤ length (now iw)) ⌝ }
+    ensures { λ _. ⌜ held m n (k + 1) (now (w .exit)) (now (iw .exit)) ≡ advance m n k top (held m n k (now (w .entry)) (now (iw .entry))) ⌝ }
+{
+    let p = top.index;
+    let largest = top.norm;
+    swap(w, m, k, p);
+    swap_at(iw, k, p);
+    prepare(w, m, k, largest);
+    turn(w, m, n, k);
+}
+
+// ---- all steps
+
+// 0, 1, .., n - 1.
+fn count(iw: &mut [u32], n: usize)
+    requires { ⌜ (n ≤ 66) × (n ≤ length (now iw)) ⌝ }
+    ensures { λ _. ⌜ nums 0 n (now («iw» .exit)) ≡ tab n (λ j. j) ⌝ }
+{
+    for i in 0..n {
+        iw[i] = i as u32;
+    }
+}
+
+// The smaller of two numbers.
+fn smaller(m: usize, n: usize) -> usize
+    ensures { λ r. ⌜ r ≡ min m n ⌝ }
+{
+    if m <= n { m } else { n }
+}
+
+// The larger of two numbers.
+fn larger(m: usize, n: usize) -> usize
+    ensures { λ r. ⌜ r ≡ max m n ⌝ }
+{
+    if m <= n { n } else { m }
+}
+
+// The tolerance, which is fixed at step 0.
+fn tolerance_of(m: usize, n: usize, k: usize, largest: f64, old: f64) -> f64
+    requires { ⌜ (m ≤ 18) × (n ≤ 66) ⌝ }
+    ensures { λ r. ⌜ r ≡ cond (eqb k 0) (tolerance m n largest) old ⌝ }
+{
+    if k == 0 {
+        let most = larger(m, n);
+        let x = most as f64;
+        return x * numbers::Binary64::EPSILON * largest;
+    }
+    old
+}
+
+// The factors of the m by n matrix at 426, and their rank.
+pub fn factor_in(w: &mut [f64], iw: &mut [u32], m: usize, n: usize) -> usize
+    requires { ⌜ (m ≤ 18) × (n ≤ 66) × (426 + n * 18 ≤ length (now w)) × (n ≤ length (now iw)) ⌝ }
+    ensures { λ r. ⌜ held m n r (now (w .exit)) (now (iw .exit)) ≡ factor m n (mat 426 m n (now (w .entry))) ⌝ }
+{
+    workspace::blank(w, 0, 342);
+    count(iw, n);
+    let c = smaller(m, n);
+    let mut tol = 0.0;
+    let mut k = 0;
+    while k < c {
+        let top = pivot(w, m, n, k);
+        let largest = top.norm;
+        tol = tolerance_of(m, n, k, largest, tol);
+        if largest <= tol {
+            return k;
+        }
+        step(w, iw, m, n, k, top);
+        k += 1;
+    }
+    k
+}
+
+// ---- Q and R applied
+
+// The vector at o under Q', of k reflectors.
+pub fn apply_qt(w: &mut [f64], m: usize, k: usize, o: usize)
+    requires { ⌜ (m ≤ 18) × (k ≤ m) × (342 ≤ o) × (o + m ≤ length (now w)) ⌝ }
+    ensures { λ _. ⌜ AppliedQt m k o (now (w .entry)) (now (w .exit)) ⌝ }
+{
+    for i in 0..k {
+        reflect(w, m, i, o);
+    }
+}
+
+// The vector at o under Q, of k reflectors.
+pub fn apply_q(w: &mut [f64], m: usize, k: usize, o: usize)
+    requires { ⌜ (m ≤ 18) × (k ≤ m) × (342 ≤ o) × (o + m ≤ length (now w)) ⌝ }
+    ensures { λ _. ⌜ AppliedQ m k o (now (w .entry)) (now (w .exit)) ⌝ }
+{
+    let mut i = k;
+    while 0 < i {
+        i -= 1;
+        reflect(w, m, i, o);
+    }
+}
+
+// Back substitution on the first k entries of the right-hand side.
+pub fn solve_r(w: &mut [f64], k: usize)
+    requires { ⌜ (k ≤ 18) × (426 + k * 18 ≤ length (now w)) ⌝ }
+    ensures { λ _. ⌜ SolvedR k (now (w .entry)) (now (w .exit)) ⌝ }
+{
+    let mut i = k;
+    while 0 < i {
+        let t = i;
+        i -= 1;
+        let o = 426 + i * 18 + i;
+        let tail = numbers::dot_strided(w, o + 18, 18, w, 342 + t, 1, k - t);
+        w[342 + i] = (w[342 + i] - tail) / w[o];
+    }
+}
+
+// Forward substitution on the k entries of the vector at o, which lies behind R.
+pub fn solve_rt(w: &mut [f64], n: usize, k: usize, o: usize)
+    requires { ⌜ (k ≤ 18) × (k ≤ n) × (426 + n * 18 ≤ o) × (o + k ≤ length (now w)) ⌝ }
+    ensures { λ _. ⌜ SolvedRt n k o (now (w .entry)) (now (w .exit)) ⌝ }
+{
+    for i in 0..k {
+        let p = 426 + i * 18;
+        let head = numbers::dot_within(w, p, o, i);
+        w[o + i] = (w[o + i] - head) / w[p + i];
+    }
+}
+
+// The first k entries of the right-hand side into the n places of the solution, where iw says.
+pub fn place(w: &mut [f64], iw: &[u32], n: usize, k: usize)
+    requires { ⌜ (k ≤ 18) × (n ≤ 66) × (426 ≤ length (now w)) × (k ≤ length (now iw)) × ((t : ℕ) → t < k → nth (now iw) t < n) ⌝ }
+    ensures { λ _. ⌜ Placed n k (now (iw .entry)) (now (w .entry)) (now (w .exit)) ⌝ }
+{
+    for t in 0..k {
+        let j = iw[t] as usize;
+        let v = w[342 + t];
+        w[360 + j] = v;
+    }
+}
+
+// The n entries that iw names of the vector at o, into the solution.
+pub fn pick(w: &mut [f64], iw: &[u32], n: usize, o: usize)
+    requires { ⌜ (n ≤ 66) × (426 ≤ o) × (n ≤ length (now iw)) × ((t : ℕ) → t < n → o + nth (now iw) t < length (now w)) ⌝ }
+    ensures { λ _. ⌜ Block 360 n (λ t. at (now (w .entry)) (o + nth (now (iw .entry)) t)) (now (w .entry)) (now (w .exit)) ⌝ }
+{
+    for t in 0..n {
+        let j = iw[t] as usize;
+        let v = w[o + j];
+        w[360 + t] = v;
+    }
+}
+
+// The solution for the right-hand side, with the factors of n columns and their rank k.
+pub fn solve(w: &mut [f64], iw: &[u32], m: usize, n: usize, k: usize)
+    requires { ⌜ (m ≤ 18) × (n ≤ 66) × (k ≤ m) × (k ≤ n) × (426 + n * 18 ≤ length (now w)) × (n ≤ length (now iw)) × ((t : ℕ) → t < k → nth (now iw) t < n) ⌝ }
+    ensures { λ _. ⌜ vec 360 n (now (w .exit)) ≡ solve m n (held m n k (now (w .entry)) (now (iw .entry))) (vec 342 m (now (w .entry))) ⌝ }
+{
+    apply_qt(w, m, k, 342);
+    solve_r(w, k);
+    workspace::blank(w, 360, n);
+    place(w, iw, n, k);
 }

@@ -92,16 +92,19 @@ fn digits(m: u64) -> u64
     q
 }
 
-// A number that is most often up to five below the root of m * 2^54, by Newton's iteration in floats.
-// Nothing is promised of it: `left_of` and `climb` are right whatever it is.
+// A number that is most often up to four below the root of m * 2^54: a polynomial, which is within
+// 2^-13 of the root of a v from 1 to 4, and two of Newton's steps. Nothing is promised of it:
+// `left_of` and `climb` are right whatever it is.
 fn guess(m: u64) -> u64 {
     let v = std::num::nearest_u64_to_f64(m) * 2.220446049250313e-16;
-    let y1 = 0.3333333333333333 * v + 0.7083333333333334;
+    let low = 0.34354006252410174 + 0.8706121075749577 * v;
+    let middle = -0.2800154561079939 + 0.07726012096638309 * v;
+    let high = -0.012129285429296963 + 0.0007957370176240484 * v;
+    let square = v * v;
+    let y1 = low + square * (middle + square * high);
     let y2 = 0.5 * (y1 + v / y1);
     let y3 = 0.5 * (y2 + v / y2);
-    let y4 = 0.5 * (y3 + v / y3);
-    let y5 = 0.5 * (y4 + v / y4);
-    let z = y5 * 9007199254740992.0 - 2.0;
+    let z = y3 * 9007199254740992.0 - 1.5;
     if z > -1.0 {
         if z < 18446744073709551616.0 {
             return std::num::truncating_f64_to_u64(z);

@@ -1,0 +1,214 @@
+-- What `apply_qt`, `apply_q`, `solve_r`, `solve_rt`, `place` and `solve` rest on. Assumes nothing.
+use mathlib.Core.Path.{_≡_, refl, sym, ap, ap₂, _∙_}
+use mathlib.Core.List.{List}
+use Prim.Native.Nat.{ℕ, zero, suc, _+_, _-_, _*_, _≤_, _<_, min}
+use native.Mathlib.Nat.{zero-add}
+use native.Mathlib.Numerals.{add-one}
+use native.Mathlib.Omega.{arith}
+use lib.ListN.{length, set, replicate}
+use lib.Seq.{getD-set-other}
+use lib.Ieee.{Float, nan}
+use Rattle.numbers.specs.Numbers.{+0, _⊖_, _⊗_, _⊘_, Σ, at, nth, scatter, entry}
+use Rattle.numbers.proofs.Sums.{Σ-same}
+use Rattle.numbers.proofs.Lists.{tab-replicate, scatter-same}
+use Rattle.workspace.specs.Readings.{vec, mat, nums, Block}
+use Rattle.workspace.proofs.Readings.{at-vec, vec-same, vec-set, entry-mat, nth-nums}
+use Rattle.workspace.proofs.Writes.{block-vec}
+use Rattle.householder.specs.Qr.{image, reflect, forth, back, applyQt, applyQ, upward, solveR, downward, solveRt, solve}
+use Rattle.householder.specs.Work.{held, Reflected, AppliedQt, AppliedQ, SolvedR, SolvedRt, Placed}
+use Rattle.householder.proofs.Held.{held-same, reflect-held, forth-same}
+
+-- ---- Q': the first i reflectors, from the first to the last
+
+pub applied-none : (m o : ℕ) (w : List Float) → AppliedQt m 0 o w w
+unfolding applyQt forth
+applied-none m o w = record { value = λ n iw h. refl; before = λ x h. refl; after = λ x h. refl }
+
+pub applied-more : (m i o : ℕ) (w₀ w w′ : List Float) → m ≤ 18 → i < m → 342 ≤ o → Reflected m i o w w′ → AppliedQt m i o w₀ w → AppliedQt m (i + 1) o w₀ w′
+unfolding applyQt forth
+applied-more m i o w₀ w w′ m18 im l r h =
+    let u : vec (i * 18) m w ≡ vec (i * 18) m w₀ = vec-same (i * 18) m w₀ w (λ t ht. h .before (i * 18 + t) (omega arith)) in
+    let b : at w (324 + i) ≡ at w₀ (324 + i) = h .before (324 + i) (omega arith) in
+    record {
+      value = λ n iw c.
+          let f = held m n (i + 1) w₀ iw in
+          rw add-one
+          (r .value
+          ∙ rw (u, b, h .value n iw (omega arith))
+          (sym (reflect-held m n (suc i) i w₀ iw (forth m (held m n (suc i) w₀ iw) i (vec o m w₀)) im (omega arith)
+          ∙ ap (image m i (vec (i * 18) m w₀) (at w₀ (324 + i))) (forth-same m i (held m n (suc i) w₀ iw) (held m n i w₀ iw) (vec o m w₀) refl refl))));
+      before = λ x a. r .before x a ∙ h .before x a;
+      after = λ x a. r .after x a ∙ h .after x a;
+    }
+
+-- ---- Q: i reflectors are still to do, from the last to the first
+
+pub record ApplyingQ (m k i o : ℕ) (w₀ w : List Float) : Type 0 where
+  pub left : (n : ℕ) (iw : List ℕ) → k ≤ n → applyQ m (held m n k w₀ iw) (vec o m w₀) ≡ back m (held m n k w₀ iw) i (vec o m w)
+  pub before : (x : ℕ) → x < o → at w x ≡ at w₀ x
+  pub after : (x : ℕ) → o + m ≤ x → at w x ≡ at w₀ x
+
+pub applying-none : (m k o : ℕ) (w : List Float) → ApplyingQ m k k o w w
+unfolding applyQ
+applying-none m k o w = record { left = λ n iw h. refl; before = λ x h. refl; after = λ x h. refl }
+
+back-turn : (m n k i : ℕ) (w : List Float) (iw : List ℕ) (v : List Float) → i < m → i < n
+    → back m (held m n k w iw) (suc i) v ≡ back m (held m n k w iw) i (image m i (vec (i * 18) m w) (at w (324 + i)) v)
+unfolding back
+back-turn m n k i w iw v im jn = ap (back m (held m n k w iw) i) (reflect-held m n k i w iw v im jn)
+
+pub applying-more : (m k i o : ℕ) (w₀ w w′ : List Float) → m ≤ 18 → k ≤ m → 0 < i → i ≤ k → 342 ≤ o → Reflected m (i - 1) o w w′ → ApplyingQ m k i o w₀ w
+    → ApplyingQ m k (i - 1) o w₀ w′
+applying-more m k i o w₀ w w′ m18 km i0 ik l r h =
+    let q = i - 1 in
+    let u : vec (q * 18) m w ≡ vec (q * 18) m w₀ = vec-same (q * 18) m w₀ w (λ t ht. h .before (q * 18 + t) (omega arith)) in
+    let b : at w (324 + q) ≡ at w₀ (324 + q) = h .before (324 + q) (omega arith) in
+    let e : i ≡ suc q = omega arith in
+    record {
+      left = λ n iw c.
+          h .left n iw c
+          ∙ ap (λ (t : ℕ). back m (held m n k w₀ iw) t (vec o m w)) e
+          ∙ back-turn m n k q w₀ iw (vec o m w) (omega arith) (omega arith)
+          ∙ ap (back m (held m n k w₀ iw) q) (sym (r .value ∙ rw (u, b)));
+      before = λ x a. r .before x a ∙ h .before x a;
+      after = λ x a. r .after x a ∙ h .after x a;
+    }
+
+pub applying-done : (m k i o : ℕ) (w₀ w : List Float) → i ≡ 0 → ApplyingQ m k i o w₀ w → AppliedQ m k o w₀ w
+unfolding back
+applying-done m k i o w₀ w e h = record { value = λ n iw c. sym (rw e at (h .left n iw c)); before = h .before; after = h .after }
+
+-- ---- R z = y: i rows are still to do, from the last to the first
+
+pub record SolvingR (k i : ℕ) (w₀ w : List Float) : Type 0 where
+  pub left : (m n c : ℕ) (iw : List ℕ) → k ≤ m → k ≤ n → k ≤ c → c ≤ 18
+      → solveR n (held m n k w₀ iw) (vec 342 c w₀) ≡ upward n k (mat 426 m n w₀) i (vec 342 c w)
+  pub before : (x : ℕ) → x < 342 → at w x ≡ at w₀ x
+  pub after : (x : ℕ) → 342 + k ≤ x → at w x ≡ at w₀ x
+
+pub solving-none : (k : ℕ) (w : List Float) → SolvingR k k w w
+unfolding solveR
+solving-none k w = record { left = λ m n c iw a b d e. refl; before = λ x h. refl; after = λ x h. refl }
+
+module _ (k i : ℕ) (w₀ w : List Float) (s : Float) (k18 : k ≤ 18) (i0 : 0 < i) (ik : i ≤ k) (long : 426 ≤ length w) (h : SolvingR k i w₀ w)
+    (es : s ≡ Σ (k - i) (λ t. at w (426 + (i - 1) * 18 + (i - 1) + 18 + t * 18) ⊗ at w (342 + i + t * 1))) where
+  abbrev q : ℕ
+  q = i - 1
+
+  abbrev v : Float
+  v = (at w (342 + q) ⊖ s) ⊘ at w (426 + q * 18 + q)
+
+  module _ (m n c : ℕ) (iw : List ℕ) (km : k ≤ m) (kn : k ≤ n) (kc : k ≤ c) (c18 : c ≤ 18) where
+    in-r : (j : ℕ) → j < k → at w (426 + j * 18 + q) ≡ entry n (mat 426 m n w₀) q j
+    in-r j hj = h .after (426 + j * 18 + q) (omega arith) ∙ sym (entry-mat 426 m n w₀ q j (omega arith) (omega arith))
+
+    tail-is : s ≡ Σ (k - (q + 1)) (λ t. entry n (mat 426 m n w₀) q (q + 1 + t) ⊗ at (vec 342 c w) (q + 1 + t))
+    tail-is =
+        es
+        ∙ ap (λ (z : ℕ). Σ (k - z) (λ t. at w (426 + q * 18 + q + 18 + t * 18) ⊗ at w (342 + i + t * 1))) (let z : i ≡ q + 1 = omega arith in z)
+        ∙ Σ-same (k - (q + 1)) _ _
+        (λ t ht.
+        ap₂ _⊗_
+        (ap (λ (x : ℕ). at w x) (let z : 426 + q * 18 + q + 18 + t * 18 ≡ 426 + (q + 1 + t) * 18 + q = omega arith in z) ∙ in-r (q + 1 + t) (omega arith))
+        (ap (λ (x : ℕ). at w x) (let z : 342 + i + t * 1 ≡ 342 + (q + 1 + t) = omega arith in z) ∙ sym (at-vec 342 c w (q + 1 + t) (omega arith))))
+
+    value-is : v ≡ (at (vec 342 c w) q ⊖ Σ (k - (q + 1)) (λ t. entry n (mat 426 m n w₀) q (q + 1 + t) ⊗ at (vec 342 c w) (q + 1 + t))) ⊘ entry n (mat 426 m n w₀) q q
+    value-is = ap₂ _⊘_ (ap₂ _⊖_ (sym (at-vec 342 c w q (omega arith))) tail-is) (in-r q (omega arith))
+
+    left-is : solveR n (held m n k w₀ iw) (vec 342 c w₀) ≡ upward n k (mat 426 m n w₀) q (vec 342 c (set w (342 + q) v))
+    unfolding upward
+    left-is =
+        h .left m n c iw km kn kc c18
+        ∙ ap (λ (z : ℕ). upward n k (mat 426 m n w₀) z (vec 342 c w)) (let z : i ≡ suc q = omega arith in z)
+        ∙ ap (λ (x : Float). upward n k (mat 426 m n w₀) q (set (vec 342 c w) q x)) (sym value-is)
+        ∙ ap (upward n k (mat 426 m n w₀) q) (sym (vec-set 342 c q w v (omega arith) (omega arith)))
+
+  pub solving-more : SolvingR k (i - 1) w₀ (set w (342 + (i - 1)) ((at w (342 + (i - 1)) ⊖ s) ⊘ at w (426 + (i - 1) * 18 + (i - 1))))
+  solving-more = record {
+    left = λ m n c iw km kn kc c18. left-is m n c iw km kn kc c18;
+    before = λ x a. getD-set-other w (342 + q) x v nan (λ e. omega arith) ∙ h .before x a;
+    after = λ x a. getD-set-other w (342 + q) x v nan (λ e. omega arith) ∙ h .after x a;
+  }
+
+pub solving-done : (k i : ℕ) (w₀ w : List Float) → i ≡ 0 → SolvingR k i w₀ w → SolvedR k w₀ w
+unfolding upward
+solving-done k i w₀ w e h = record { value = λ m n c iw km kn kc c18. sym (rw e at (h .left m n c iw km kn kc c18)); before = h .before; after = h .after }
+
+-- ---- R'z = y: i rows are done, from the first to the last
+
+pub record SolvingRt (n k o i : ℕ) (w₀ w : List Float) : Type 0 where
+  pub done : (m : ℕ) → k ≤ m → vec o k w ≡ downward n (mat 426 m n w₀) i (vec o k w₀)
+  pub before : (x : ℕ) → x < o → at w x ≡ at w₀ x
+  pub after : (x : ℕ) → o + k ≤ x → at w x ≡ at w₀ x
+
+pub descending-none : (n k o : ℕ) (w : List Float) → SolvingRt n k o 0 w w
+unfolding downward
+descending-none n k o w = record { done = λ m h. refl; before = λ x h. refl; after = λ x h. refl }
+
+module _ (n k o i : ℕ) (w₀ w : List Float) (s : Float) (k18 : k ≤ 18) (kn : k ≤ n) (ik : i < k) (far : 426 + n * 18 ≤ o) (long : o + k ≤ length w) (h : SolvingRt n k o i w₀ w)
+    (es : s ≡ Σ i (λ j. at w (426 + i * 18 + j) ⊗ at w (o + j))) where
+  abbrev z : Float
+  z = (at w (o + i) ⊖ s) ⊘ at w (426 + i * 18 + i)
+
+  module _ (m : ℕ) (km : k ≤ m) where
+    in-rt : (j : ℕ) → j < i + 1 → at w (426 + i * 18 + j) ≡ entry n (mat 426 m n w₀) j i
+    in-rt j hj = h .before (426 + i * 18 + j) (omega arith) ∙ sym (entry-mat 426 m n w₀ j i (omega arith) (omega arith))
+
+    in-z : (j : ℕ) → j < k → at w (o + j) ≡ at (downward n (mat 426 m n w₀) i (vec o k w₀)) j
+    in-z j hj = sym (at-vec o k w j hj) ∙ ap (λ (l : List Float). at l j) (h .done m km)
+
+    head-is : s ≡ Σ i (λ j. entry n (mat 426 m n w₀) j i ⊗ at (downward n (mat 426 m n w₀) i (vec o k w₀)) j)
+    head-is = es ∙ Σ-same i _ _ (λ j hj. ap₂ _⊗_ (in-rt j (omega arith)) (in-z j (omega arith)))
+
+    done-is : vec o k (set w (o + i) z) ≡ downward n (mat 426 m n w₀) (i + 1) (vec o k w₀)
+    unfolding downward
+    done-is =
+        vec-set o k i w z ik long
+        ∙ rw add-one
+        (ap₂ (λ (l : List Float) (x : Float). set l i x) (h .done m km) (ap₂ _⊘_ (ap₂ _⊖_ (in-z i ik) head-is) (in-rt i (omega arith))))
+
+  pub descending-more : SolvingRt n k o (i + 1) w₀ (set w (o + i) ((at w (o + i) ⊖ s) ⊘ at w (426 + i * 18 + i)))
+  descending-more = record {
+    done = λ m km. done-is m km;
+    before = λ x a. getD-set-other w (o + i) x z nan (λ e. omega arith) ∙ h .before x a;
+    after = λ x a. getD-set-other w (o + i) x z nan (λ e. omega arith) ∙ h .after x a;
+  }
+
+pub descending-done : (n k o i : ℕ) (w₀ w : List Float) → i ≡ k → SolvingRt n k o i w₀ w → SolvedRt n k o w₀ w
+unfolding solveRt
+descending-done n k o i w₀ w e h =
+    record { value = λ m iw km. h .done m km ∙ ap (λ (t : ℕ). downward n (mat 426 m n w₀) t (vec o k w₀)) e; before = h .before; after = h .after }
+
+-- ---- entries into the solution
+
+pub placed-none : (n : ℕ) (p : List ℕ) (w : List Float) → Placed n 0 p w w
+unfolding scatter
+placed-none n p w = record { value = λ m a b. refl; before = λ x h. refl; after = λ x h. refl }
+
+pub placed-more : (n t j : ℕ) (p : List ℕ) (w₀ w : List Float) → n ≤ 66 → t < 18 → 426 ≤ length w → j < n → j ≡ nth p t
+    → Placed n t p w₀ w → Placed n (t + 1) p w₀ (set w (360 + j) (at w (342 + t)))
+unfolding scatter
+placed-more n t j p w₀ w n66 t18 long jn e h = record {
+  value = λ m tm m18.
+      vec-set 360 n j w (at w (342 + t)) jn (omega arith)
+      ∙ rw (add-one, ← e)
+      (ap₂ (λ (l : List Float) (x : Float). set l j x) (h .value m (omega arith) m18) (h .before (342 + t) (omega arith) ∙ sym (at-vec 342 m w₀ t (omega arith))));
+  before = λ x a. getD-set-other w (360 + j) x (at w (342 + t)) nan (λ q. omega arith) ∙ h .before x a;
+  after = λ x a. getD-set-other w (360 + j) x (at w (342 + t)) nan (λ q. omega arith) ∙ h .after x a;
+}
+
+-- ---- the whole solve
+
+pub solved-is : (m n k : ℕ) (iw : List ℕ) (w w₁ w₂ w₃ w₄ : List Float) → m ≤ 18 → k ≤ m → k ≤ n
+    → AppliedQt m k 342 w w₁ → SolvedR k w₁ w₂ → Block 360 n (λ _. +0) w₂ w₃ → Placed n k iw w₃ w₄ → vec 360 n w₄ ≡ solve m n (held m n k w iw) (vec 342 m w)
+unfolding solve
+solved-is m n k iw w w₁ w₂ w₃ w₄ m18 km kn a b c d =
+    let f : held m n k w₁ iw ≡ held m n k w iw = held-same m n k w w₁ iw iw m18 (λ x l. a .before x l) (λ x l g. a .after x (omega arith)) (λ t l. refl) in
+    let y : vec 342 m w₃ ≡ solveR n (held m n k w iw) (applyQt m (held m n k w iw) (vec 342 m w)) =
+    vec-same 342 m w₂ w₃ (λ i hi. c .before (342 + i) (omega arith))
+    ∙ b .value m n m iw km kn km m18
+    ∙ ap₂ (solveR n) f (a .value n iw kn) in
+    let x : vec 360 n w₃ ≡ replicate n +0 = block-vec 360 n (λ _. +0) w₂ w₃ c ∙ tab-replicate n +0 in
+    d .value m km m18
+    ∙ rw (y, x)
+    (scatter-same k iw (nums 0 n iw) _ _ (replicate n +0) (λ t l. ap (λ (i : ℕ). nth iw i) (sym (zero-add t)) ∙ sym (nth-nums 0 n iw t (omega arith))) (λ t l. refl))

@@ -1,0 +1,110 @@
+-- `pivot_fours`: after q turns the lead is that of 4 q columns. Assumes nothing.
+use mathlib.Core.Path.{_≡_, refl, subst}
+use Prim.Native.Nat.{ℕ, _+_, _*_, _-_, _/_, _≤_, _<_}
+use native.Mathlib.Omega.{arith}
+use Rattle.householder.specs.Search.{Leads}
+use Rattle.householder.proofs.Search.{leads-none, leads-four}
+use Rattle.householder.proofs.pivot_fours.Statement.{statement}
+use Rattle.householder.proofs.pivot_fours.Tie as tie
+
+abbrev Inv-loop : tie.InvT-loop
+Inv-loop w m n k top₀ c q₀ top q = (c ≡ (n - k) / 4) × (q ≤ c) × Leads m n k (q * 4) w top
+
+abbrev μ-loop : tie.MeasureT-loop
+μ-loop w m n k top₀ c q₀ top q = c - q
+
+sub-c : tie.Need-sub-c Inv-loop μ-loop
+sub-c c = omega arith
+
+loop-holds : tie.Need-loop-holds Inv-loop μ-loop
+loop-holds c = let a = c .before .args in (refl, omega arith, leads-none (a .m) (a .n) (a .k) (a .w .now) _)
+
+mul-j : tie.Need-mul-j Inv-loop μ-loop
+mul-j c = omega arith
+
+add-j : tie.Need-add-j Inv-loop μ-loop
+add-j c = omega arith
+
+mul-squares-four : tie.Need-mul-squares-four Inv-loop μ-loop
+mul-squares-four c = omega arith
+
+add-squares-four : tie.Need-add-squares-four Inv-loop μ-loop
+add-squares-four c = omega arith
+
+add-squares-four-2 : tie.Need-add-squares-four-2 Inv-loop μ-loop
+add-squares-four-2 c = omega arith
+
+sub-squares-four : tie.Need-sub-squares-four Inv-loop μ-loop
+sub-squares-four c = omega arith
+
+squares-four-requires : tie.Need-squares-four-requires Inv-loop μ-loop
+squares-four-requires c κs = omega arith
+
+weigh-requires : tie.Need-weigh-requires Inv-loop μ-loop
+weigh-requires c κs = omega arith
+
+add-weigh : tie.Need-add-weigh Inv-loop μ-loop
+add-weigh c = omega arith
+
+weigh-requires-2 : tie.Need-weigh-requires-2 Inv-loop μ-loop
+weigh-requires-2 c κs = omega arith
+
+add-weigh-2 : tie.Need-add-weigh-2 Inv-loop μ-loop
+add-weigh-2 c = omega arith
+
+weigh-requires-3 : tie.Need-weigh-requires-3 Inv-loop μ-loop
+weigh-requires-3 c κs = omega arith
+
+add-weigh-3 : tie.Need-add-weigh-3 Inv-loop μ-loop
+add-weigh-3 c = omega arith
+
+weigh-requires-4 : tie.Need-weigh-requires-4 Inv-loop μ-loop
+weigh-requires-4 c κs = omega arith
+
+add-q : tie.Need-add-q Inv-loop μ-loop
+add-q c = omega arith
+
+loop-less : tie.Need-loop-less Inv-loop μ-loop
+loop-less c = omega arith
+
+loop-again : tie.Need-loop-again Inv-loop μ-loop
+loop-again c = let s = c .before .before .before .before .before .before .before .before in
+    let a = s .args in
+    let l = c .before .before .before .before .before .before .loop in
+    let x = c .before .before .before .before .squares-four in
+    (refl, omega arith,
+    leads-four (a .m) (a .n) (a .k) (l .q) (a .k + l .q * 4) (a .w .now) (l .top) _ _ _ _ (x .result) (omega arith) refl (omega arith) (l .inv .2) (x .ensures)
+    (c .before .before .before .weigh .ensures) (c .before .before .weigh2 .ensures) (c .before .weigh3 .ensures) (c .weigh4 .ensures))
+
+returns : tie.Need-returns Inv-loop μ-loop
+returns c = let a = c .before .before .before .args in
+    let l = c .before .loop in
+    let e : l .q ≡ (a .n - a .k) / 4 = omega arith in
+    subst (λ (z : ℕ). Leads (a .m) (a .n) (a .k) (z * 4) (a .w .now) (l .top)) e (l .inv .2)
+
+pub pivot-fours-spec : {M : Type 1} → statement M
+pivot-fours-spec =
+    tie.close
+    (tie.spec
+    Inv-loop
+    μ-loop
+    sub-c
+    loop-holds
+    mul-j
+    add-j
+    mul-squares-four
+    add-squares-four
+    add-squares-four-2
+    sub-squares-four
+    squares-four-requires
+    weigh-requires
+    add-weigh
+    weigh-requires-2
+    add-weigh-2
+    weigh-requires-3
+    add-weigh-3
+    weigh-requires-4
+    add-q
+    loop-less
+    loop-again
+    returns)

@@ -1,0 +1,133 @@
+/* Gritstrut: constrained least squares, every function proved.
+ *
+ * Link with libcabinet.a (`rt staticlib cabinet` writes target/staticlib/libcabinet.a).
+ *
+ * For all functions:
+ *
+ * - No heap, no globals, no locks: they are re-entrant, and two threads may call them at once
+ *   with buffers of their own. They need the two workspaces and a little stack (docs/SPEED.md).
+ * - A slice is a pointer and then its length in entries. A length of 0 goes with any pointer
+ *   that is not null and is aligned for its type. Slices that are written must not overlap any
+ *   other slice of the call.
+ * - Matrices are dense and row-major: entry (i, j) of a matrix of n columns is at i * n + j.
+ * - w is a workspace of at least GRITSTRUT_FLOATS doubles (64 KiB) and iw one of at least
+ *   GRITSTRUT_WORDS uint32_t (2 KiB). What they hold before a call does not matter.
+ * - The result is a number of the table below. Tests are made in the order of the numbers 1 to 4.
+ *
+ *     number                        outputs      workspaces
+ *     0  done                       all written  first 8192 and 512 entries zero
+ *     1  a size (or k) not allowed  untouched    untouched
+ *     2  a length not exactly right untouched    untouched
+ *     3  a workspace too short      untouched    untouched
+ *     4  a kind other than 0 and 1  untouched    untouched
+ *     5  rank deficient             untouched    first 8192 and 512 entries zero
+ *     6  infeasible                 untouched    first 8192 and 512 entries zero
+ *     7  round limit of NNLS        untouched    first 8192 and 512 entries zero
+ *     8  a Cholesky pivot that is   untouched    first 8192 and 512 entries zero
+ *        not positive and finite
+ *
+ *   Untouched means the same bits. Inputs never change. Entries of a workspace past the first
+ *   8192 and 512 never change. Any bit pattern is taken as a double, NaN and infinities too.
+ * - Single results (rank, rounds, factorings, relaxation) are written through their pointers
+ *   only where the number is 0. These pointers are never null.
+ */
+#ifndef GRITSTRUT_H
+#define GRITSTRUT_H
+
+#include <stddef.h>
+#include <stdint.h>
+
+#ifdef __cplusplus
+extern "C" {
+#endif
+
+#define GRITSTRUT_FLOATS 8192
+#define GRITSTRUT_WORDS 512
+
+/* The IEEE 754 square root, to nearest. */
+double gritstrut_sqrt(double x);
+
+/* The sum of x, left to right from -0; and the root of the sum of its squares. */
+double gritstrut_sum(const double *x, size_t x_len);
+double gritstrut_norm(const double *x, size_t x_len);
+
+/* Householder QR with column pivoting of the m by n matrix a: m from 0 to 18, n from 0 to 66.
+ * Out: r (m * n), perm (n), u (min(m, n) rows of m), b (min(m, n)), and the rank.
+ * Column j of A P is column perm[j] of A. Reflectors past the rank are all +0. */
+uint32_t gritstrut_qr(size_t m, size_t n, const double *a, size_t a_len,
+                      double *r, size_t r_len, uint32_t *perm, size_t perm_len,
+                      double *u, size_t u_len, double *b, size_t b_len, uint32_t *rank,
+                      double *w, size_t w_len, uint32_t *iw, size_t iw_len);
+
+/* Nonnegative least squares, min ||A x - b|| with x >= 0, of the m by n matrix a: m from 0 to
+ * 18, n from 0 to 66, with k rounds allowed, from 0 to 3n. In: a (m * n), b (m). Out: x (n), and
+ * how many rounds and factorings it took. */
+uint32_t gritstrut_nnls(size_t m, size_t n, size_t k, const double *a, size_t a_len,
+                        const double *b, size_t b_len, double *x, size_t x_len,
+                        uint32_t *rounds, uint32_t *factorings,
+                        double *w, size_t w_len, uint32_t *iw, size_t iw_len);
+
+/* LDP, min ||x|| with G x >= h: m rows, from 0 to 66, and n columns, from 0 to 17.
+ * In: g (m * n), h (m). Out: x (n), multipliers (m). */
+uint32_t gritstrut_ldp(size_t m, size_t n, const double *g, size_t g_len,
+                       const double *h, size_t h_len, double *x, size_t x_len,
+                       double *multipliers, size_t multipliers_len,
+                       double *w, size_t w_len, uint32_t *iw, size_t iw_len);
+
+/* LSI, min ||E x - f|| with G x >= h: n columns, from 0 to 17, me rows of E, from 0 to 17, and mg
+ * inequalities, from 0 to 66. In: e (me * n), f (me), g (mg * n), h (mg).
+ * Out: x (n), multipliers (mg). */
+uint32_t gritstrut_lsi(size_t n, size_t me, size_t mg, const double *e, size_t e_len,
+                       const double *f, size_t f_len, const double *g, size_t g_len,
+                       const double *h, size_t h_len, double *x, size_t x_len,
+                       double *multipliers, size_t multipliers_len,
+                       double *w, size_t w_len, uint32_t *iw, size_t iw_len);
+
+/* LSEI, min ||E x - f|| with C x = d and G x >= h: as LSI, with mc equalities, from 0 to 16.
+ * In: c (mc * n), d (mc), and as LSI. Out: x (n), multipliers (mc + mg): those of the equalities
+ * first. */
+uint32_t gritstrut_lsei(size_t n, size_t mc, size_t me, size_t mg,
+                        const double *c, size_t c_len, const double *d, size_t d_len,
+                        const double *e, size_t e_len, const double *f, size_t f_len,
+                        const double *g, size_t g_len, const double *h, size_t h_len,
+                        double *x, size_t x_len, double *multipliers, size_t multipliers_len,
+                        double *w, size_t w_len, uint32_t *iw, size_t iw_len);
+
+/* The approximation B of the Hessian, of dimension n from 1 to 16, square and row-major (n * n).
+ * identity writes 1 on the diagonal of b and +0 elsewhere. times writes B v (n) to out. cholesky
+ * writes to l the factor of B = L L', reading the lower triangle of b; +0 stands above the
+ * diagonal of l. update revises b by the damped BFGS formula from the step s (n) and the change
+ * of gradient y (n). */
+uint32_t gritstrut_identity(size_t n, double *b, size_t b_len,
+                            double *w, size_t w_len, uint32_t *iw, size_t iw_len);
+uint32_t gritstrut_times(size_t n, const double *b, size_t b_len, const double *v, size_t v_len,
+                         double *out, size_t out_len,
+                         double *w, size_t w_len, uint32_t *iw, size_t iw_len);
+uint32_t gritstrut_cholesky(size_t n, const double *b, size_t b_len, double *l, size_t l_len,
+                            double *w, size_t w_len, uint32_t *iw, size_t iw_len);
+uint32_t gritstrut_update(size_t n, double *b, size_t b_len, const double *s, size_t s_len,
+                          const double *y, size_t y_len,
+                          double *w, size_t w_len, uint32_t *iw, size_t iw_len);
+
+/* The step d that minimizes d'Bd / 2 + g'd, where B = L L', under m constraints and under bounds:
+ * a_j'd + c_j = 0 where kinds[j] is 0, a_j'd + c_j >= 0 where it is 1, lower <= d <= upper, where
+ * a bound that is not finite is open. n variables, from 1 to 16; m constraints, from 0 to 16.
+ * In: factor L (n * n), gradient g (n), kinds (m), values c (m), jacobian (m * n, a row for each
+ * constraint), lower (n), upper (n). Out: d (n), multipliers (m, in constraint order), and the
+ * relaxation: 0 where the problem was solved as stated, else the share, up to 1, by which its
+ * constraints were relaxed. */
+uint32_t gritstrut_step(size_t n, size_t m, const double *factor, size_t factor_len,
+                        const double *gradient, size_t gradient_len,
+                        const uint8_t *kinds, size_t kinds_len,
+                        const double *values, size_t values_len,
+                        const double *jacobian, size_t jacobian_len,
+                        const double *lower, size_t lower_len,
+                        const double *upper, size_t upper_len,
+                        double *d, size_t d_len, double *multipliers, size_t multipliers_len,
+                        double *relaxation, double *w, size_t w_len, uint32_t *iw, size_t iw_len);
+
+#ifdef __cplusplus
+}
+#endif
+
+#endif
