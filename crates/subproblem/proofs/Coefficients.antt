@@ -38,7 +38,7 @@ pub row-is : (n j : ℕ) (a : List Float) → tab n (λ t. at a (j * n + t * 1))
 unfolding row
 row-is n j a = tab-same n _ _ (λ t h. ap (λ (x : ℕ). at a x) (let e : j * n + t * 1 ≡ j * n + t = omega arith in e))
 
-map-tab : (n : ℕ) (f : ℕ → Float) → tab n (λ t. neg (f t)) ≡ map neg (tab n f)
+pub map-tab : (n : ℕ) (f : ℕ → Float) → tab n (λ t. neg (f t)) ≡ map neg (tab n f)
 unfolding tab
 map-tab zero f = refl
 map-tab (suc n) f = ap (λ (l : List Float). neg (f 0) ∷ l) (map-tab n (λ t. f (suc t)))

@@ -78,22 +78,29 @@ pushed-row o n k v f s w w′ h l e b =
       before = λ x y. q x (omega arith);
     }
 
--- the same with one coefficient more, x, behind them
+-- n entries that read v, and x behind them
+pub written-behind : (p n : ℕ) (v : List Float) (f : ℕ → Float) (x : Float) (w w′ : List Float) → p + n < length w′ → tab n f ≡ v → Block p n f w w′
+    → Block p (n + 1) (λ t. at (v ++ (x ∷ [])) t) w (set w′ (p + n) x)
+written-behind p n v f x w w′ l e b =
+    let u = v ++ (x ∷ []) in
+    let lv : length v ≡ n = ap length (sym e) ∙ length-tab n f in
+    let at-v : (t : ℕ) → t < n → f t ≡ at u t =
+    λ t y. sym (getD-tab n f nan t y) ∙ ap (λ (a : List Float). at a t) e ∙ sym (List·getD-append v (x ∷ []) nan t (omega arith)) in
+    let at-x : x ≡ at u n = sym (getD-at v x [] nan n lv) in
+    written-more nan p n (λ t. at u t) w w′ x l at-x (written-as nan p n f (λ t. at u t) w w′ at-v b)
+
+-- so a row can have one coefficient more
 pub pushed-wide : (o n k : ℕ) (v : List Float) (f : ℕ → Float) (x s : Float) (w w′ : List Float) → n ≤ 16 → o + k * 18 + 18 ≤ length w′ → tab n f ≡ v
     → Block (o + k * 18) n f w w′ → Pushed o (n + 1) k (k + 1) (rowOf (v ++ (x ∷ [])) s ∷ []) w (set (set w′ (o + k * 18 + n) x) (o + k * 18 + n + 1) s)
 pushed-wide o n k v f x s w w′ h l e b =
     let p = o + k * 18 in
     let u = v ++ (x ∷ []) in
-    let lv : length v ≡ n = ap length (sym e) ∙ length-tab n f in
-    let lu : length u ≡ n + 1 = rw (length-append, lv) in
+    let lu : length u ≡ n + 1 = rw (length-append, ← e, length-tab) in
     let ls : length (set w′ (p + n) x) ≡ length w′ = length-set w′ (p + n) x in
-    let at-v : (t : ℕ) → t < n → f t ≡ at u t =
-    λ t y. sym (getD-tab n f nan t y) ∙ ap (λ (a : List Float). at a t) e ∙ sym (List·getD-append v (x ∷ []) nan t (omega arith)) in
-    let at-x : x ≡ at u n = sym (getD-at v x [] nan n lv) in
-    let b′ : Block p (n + 1) (λ t. at u t) w (set w′ (p + n) x) =
-    written-more nan p n (λ t. at u t) w w′ x (omega arith) at-x (written-as nan p n f (λ t. at u t) w w′ at-v b) in
     let q : p + (n + 1) ≡ p + n + 1 = omega arith in
-    rw q at (pushed-row o (n + 1) k u (λ t. at u t) s w (set w′ (p + n) x) (omega arith) (omega arith) (sym (by-entries (n + 1) u lu)) b′)
+    rw q at
+    (pushed-row o (n + 1) k u (λ t. at u t) s w (set w′ (p + n) x) (omega arith) (omega arith) (sym (by-entries (n + 1) u lu))
+    (written-behind p n v f x w w′ (omega arith) e b))
 
 -- ---- a loop that pushes f 0, f 1, ..
 

@@ -36,7 +36,7 @@ impl Side {
 // ---- one row
 
 // v at place i of n entries from p on, +0 elsewhere.
-fn write_unit(w: &mut [f64], p: usize, n: usize, i: usize, v: f64)
+pub fn write_unit(w: &mut [f64], p: usize, n: usize, i: usize, v: f64)
     requires { ⌜ (i < n) × (p + n ≤ length (now w)) ⌝ }
     ensures { λ _. ⌜ Block p n (λ j. cond (eqb j i) v +0) (now (w .entry)) (now (w .exit)) ⌝ }
 {
