@@ -69,13 +69,13 @@ pub fn gather_sides(w: &mut [f64], c: usize, n: usize)
     }
 }
 
-// f with +0 behind it, to 360.
+// f with +0 behind it, to 750.
 pub fn write_side(w: &mut [f64], n: usize)
-    requires { ⌜ (n ≤ 16) × (378 ≤ length (now w)) ⌝ }
-    ensures { λ _. ⌜ Block 360 (n + 1) (λ t. at (vec 0 n (now (w .entry)) ++ (+0 ∷ [])) t) (now (w .entry)) (now (w .exit)) ⌝ }
+    requires { ⌜ (n ≤ 16) × (768 ≤ length (now w)) ⌝ }
+    ensures { λ _. ⌜ Block 750 (n + 1) (λ t. at (vec 0 n (now (w .entry)) ++ (+0 ∷ [])) t) (now (w .entry)) (now (w .exit)) ⌝ }
 {
-    workspace::copy_up(w, 0, 360, n);
-    w[360 + n] = 0.0;
+    workspace::copy_up(w, 0, 750, n);
+    w[750 + n] = 0.0;
 }
 
 // Column j of the relaxed problem's matrix: the first j + 1 entries of row j of the factor, and +0 below.
@@ -113,12 +113,12 @@ pub fn write_matrix(factor: &[f64], w: &mut [f64], n: usize, root: f64)
 // Where the multiplier of constraint j of the exact problem stands, e equalities being passed.
 fn place_of(kind: u8, e: usize, j: usize) -> usize
     requires { ⌜ (e ≤ j) × (j ≤ 16) ⌝ }
-    ensures { λ r. ⌜ (r ≡ cond (eqb kind 0) (378 + e) (4332 + (j - e))) × (378 ≤ r) × (r < 4349) ⌝ }
+    ensures { λ r. ⌜ (r ≡ cond (eqb kind 0) (378 + e) (4350 + (j - e))) × (378 ≤ r) × (r < 4367) ⌝ }
 {
     if kind == 0 {
         return 378 + e;
     }
-    4332 + (j - e)
+    4350 + (j - e)
 }
 
 // How many equalities are passed after a constraint.
@@ -132,10 +132,10 @@ fn passed(kind: u8, e: usize) -> usize
     e
 }
 
-// Those of the exact problem: c equalities' stand at 378, and g inequalities' at 4332.
+// Those of the exact problem: c equalities' stand at 378, and g inequalities' at 4350.
 pub fn order_multipliers(kinds: &[u8], w: &mut [f64], m: usize, c: usize, g: usize)
-    requires { ⌜ (m ≤ 16) × (length (now kinds) ≡ m) × (c ≡ equalitiesAmong (now kinds)) × (inequalitiesAmong (now kinds) ≤ g) × (4349 ≤ length (now w)) ⌝ }
-    ensures { λ _. ⌜ Block 36 m (λ t. at (inOrder (now (kinds .entry)) 0 c (vec 378 c (now (w .entry)) ++ vec 4332 g (now (w .entry)))) t) (now (w .entry)) (now (w .exit)) ⌝ }
+    requires { ⌜ (m ≤ 16) × (length (now kinds) ≡ m) × (c ≡ equalitiesAmong (now kinds)) × (inequalitiesAmong (now kinds) ≤ g) × (4367 ≤ length (now w)) ⌝ }
+    ensures { λ _. ⌜ Block 36 m (λ t. at (inOrder (now (kinds .entry)) 0 c (vec 378 c (now (w .entry)) ++ vec 4350 g (now (w .entry)))) t) (now (w .entry)) (now (w .exit)) ⌝ }
 {
     let mut e = 0;
     for j in 0..m {
@@ -148,10 +148,10 @@ pub fn order_multipliers(kinds: &[u8], w: &mut [f64], m: usize, c: usize, g: usi
 
 // The multiplier of a constraint of the relaxed problem, r rows being passed: of an equality, that of its first row less that of its second.
 fn paired_of(kind: u8, w: &[f64], r: usize) -> f64
-    requires { ⌜ (r ≤ 65) × (2155 ≤ length (now w)) ⌝ }
-    ensures { λ v. ⌜ v ≡ cond (eqb kind 0) (at (now (w .entry)) (2088 + r) ⊖ at (now (w .entry)) (2088 + r + 1)) (at (now (w .entry)) (2088 + r)) ⌝ }
+    requires { ⌜ (r ≤ 65) × (2173 ≤ length (now w)) ⌝ }
+    ensures { λ v. ⌜ v ≡ cond (eqb kind 0) (at (now (w .entry)) (2106 + r) ⊖ at (now (w .entry)) (2106 + r + 1)) (at (now (w .entry)) (2106 + r)) ⌝ }
 {
-    let p = 2088 + r;
+    let p = 2106 + r;
     if kind == 0 {
         return w[p] - w[p + 1];
     }
@@ -169,10 +169,10 @@ fn passed_rows(kind: u8, r: usize) -> usize
     r + 1
 }
 
-// Those of the relaxed problem: its g rows' stand at 2088.
+// Those of the relaxed problem: its g rows' stand at 2106.
 pub fn pair_multipliers(kinds: &[u8], w: &mut [f64], m: usize, g: usize)
-    requires { ⌜ (m ≤ 16) × (length (now kinds) ≡ m) × (relaxedAmong (now kinds) ≤ g) × (g ≤ 66) × (2155 ≤ length (now w)) ⌝ }
-    ensures { λ _. ⌜ Block 36 m (λ t. at (paired (now (kinds .entry)) 0 (vec 2088 g (now (w .entry)))) t) (now (w .entry)) (now (w .exit)) ⌝ }
+    requires { ⌜ (m ≤ 16) × (length (now kinds) ≡ m) × (relaxedAmong (now kinds) ≤ g) × (g ≤ 66) × (2173 ≤ length (now w)) ⌝ }
+    ensures { λ _. ⌜ Block 36 m (λ t. at (paired (now (kinds .entry)) 0 (vec 2106 g (now (w .entry)))) t) (now (w .entry)) (now (w .exit)) ⌝ }
 {
     let mut r = 0;
     for j in 0..m {

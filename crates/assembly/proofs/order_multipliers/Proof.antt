@@ -17,8 +17,8 @@ abbrev Inv-loop : tie.InvT-loop
 Inv-loop kinds w₀ m c g e₀ j₀ w e j =
     (j ≤ m)
     × (length w ≡ length w₀)
-    × Passed kinds c g (vec 378 c w₀ ++ vec 4332 g w₀) j e
-    × Block 36 j (λ t. at (inOrder kinds 0 c (vec 378 c w₀ ++ vec 4332 g w₀)) t) w₀ w
+    × Passed kinds c g (vec 378 c w₀ ++ vec 4350 g w₀) j e
+    × Block 36 j (λ t. at (inOrder kinds 0 c (vec 378 c w₀ ++ vec 4350 g w₀)) t) w₀ w
 
 abbrev μ-loop : tie.MeasureT-loop
 μ-loop kinds w₀ m c g e₀ j₀ w e j = m - j
@@ -60,7 +60,7 @@ loop-again : tie.Need-loop-again Inv-loop μ-loop
 loop-again c = let a = c .before .before .before .before .before .before .before .before .args in
     let l = c .before .before .before .before .before .loop in
     let p = c .before .before .place-of in
-    let v = l .inv .3 .after (p .result) (omega (arith, p .ensures .1)) ∙ ap (at (a .w .now)) (p .ensures .0) ∙ placed 378 4332 _ _ _ _ _ _ (l .inv .2) (omega arith) in
+    let v = l .inv .3 .after (p .result) (omega (arith, p .ensures .1)) ∙ ap (at (a .w .now)) (p .ensures .0) ∙ placed 378 4350 _ _ _ _ _ _ (l .inv .2) (omega arith) in
     (omega arith, simp length-set (l .inv .1), rw (c .passed .ensures) (passed-more _ _ _ _ _ _ (l .inv .2) (omega arith)), written-more nan _ _ _ _ _ _ (omega arith) v (l .inv .3))
 
 same-length : tie.Need-same-length Inv-loop μ-loop

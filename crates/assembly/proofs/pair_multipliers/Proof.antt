@@ -16,8 +16,8 @@ abbrev Inv-loop : tie.InvT-loop
 Inv-loop kinds w₀ m g r₀ j₀ w r j =
     (j ≤ m)
     × (length w ≡ length w₀)
-    × PassedRows kinds g (vec 2088 g w₀) j r
-    × Block 36 j (λ t. at (paired kinds 0 (vec 2088 g w₀)) t) w₀ w
+    × PassedRows kinds g (vec 2106 g w₀) j r
+    × Block 36 j (λ t. at (paired kinds 0 (vec 2106 g w₀)) t) w₀ w
 
 abbrev μ-loop : tie.MeasureT-loop
 μ-loop kinds w₀ m g r₀ j₀ w r j = m - j
@@ -55,7 +55,7 @@ loop-again : tie.Need-loop-again Inv-loop μ-loop
 loop-again c = let s = c .before .before .before .before .before .before .before .before in
     let l = c .before .before .before .before .before .loop in
     let p = c .before .paired-of in
-    let v = paired-kept 2088 36 (nth (s .args .kinds .now) (l .j)) (l .r) (l .j) _ (s .args .w .now) (l .w) (p .result) (omega arith) (l .inv .3) (p .ensures) ∙ paired-next 2088 _ _ _ _ _ (l .inv .2) (omega arith) in
+    let v = paired-kept 2106 36 (nth (s .args .kinds .now) (l .j)) (l .r) (l .j) _ (s .args .w .now) (l .w) (p .result) (omega arith) (l .inv .3) (p .ensures) ∙ paired-next 2106 _ _ _ _ _ (l .inv .2) (omega arith) in
     (omega arith, simp length-set (l .inv .1), rw (c .passed-rows .ensures) (rows-more _ _ _ _ _ (l .inv .2) (omega arith)), written-more nan _ _ _ _ _ _ (omega arith) v (l .inv .3))
 
 same-length : tie.Need-same-length Inv-loop μ-loop
