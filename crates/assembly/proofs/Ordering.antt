@@ -14,7 +14,7 @@ use Rattle.numbers.specs.Numbers.{at, nth, _⊖_}
 use Rattle.workspace.specs.Readings.{vec, Block}
 use Rattle.workspace.proofs.Readings.{length-vec, at-vec}
 use Rattle.subproblem.specs.Step.{inOrder, paired}
-use Rattle.assembly.specs.Work.{equalitiesAmong, inequalitiesAmong, relaxedAmong}
+use Rattle.subproblem.specs.Work.{equalitiesAmong, inequalitiesAmong, relaxedAmong}
 
 -- the head of what is left is the next entry
 at-left : (m : List Float) (j : ℕ) (x : Float) (r : List Float) → drop j m ≡ x ∷ r → at m j ≡ x

@@ -1,8 +1,8 @@
 -- What the functions that assemble a problem, and read its answer, are handed and leave: it serves their contracts alone. Definitions only. Assumes nothing.
 -- f64: the target f at 0, the step d at 18, its multipliers at 36; LSEI's part, or LSI's, from 18 on while one is solved.
-use Prim.Native.Nat.{ℕ, zero, suc, _+_}
+use Prim.Native.Nat.{ℕ, _+_}
 use mathlib.Core.Bool.{cond, _&&_}
-use mathlib.Core.List.{List, [], _∷_}
+use mathlib.Core.List.{List}
 use lib.Dec.{leb, ltb, eqb}
 use lib.Ieee.{Float}
 use Rattle.numbers.specs.Numbers.{+0, entry, grid}
@@ -14,19 +14,3 @@ triangle n factor = grid (n + 1) n (λ i j. cond (leb i j) (entry n factor j i) 
 -- the same with one column more, which has r in the corner
 unfoldable pub cornered : ℕ → Float → List Float → List Float
 cornered n r factor = grid (n + 1) (n + 1) (λ i j. cond (leb i j && ltb j n) (entry n factor j i) (cond (eqb i n && eqb j n) r +0))
-
--- how many kinds are equalities, how many are inequalities, and how many rows they become in the relaxed problem
-unfoldable pub equalitiesAmong : List ℕ → ℕ
-equalitiesAmong [] = 0
-equalitiesAmong (zero ∷ ks) = 1 + equalitiesAmong ks
-equalitiesAmong (suc k ∷ ks) = equalitiesAmong ks
-
-unfoldable pub inequalitiesAmong : List ℕ → ℕ
-inequalitiesAmong [] = 0
-inequalitiesAmong (zero ∷ ks) = inequalitiesAmong ks
-inequalitiesAmong (suc k ∷ ks) = 1 + inequalitiesAmong ks
-
-unfoldable pub relaxedAmong : List ℕ → ℕ
-relaxedAmong [] = 0
-relaxedAmong (zero ∷ ks) = 2 + relaxedAmong ks
-relaxedAmong (suc k ∷ ks) = 1 + relaxedAmong ks

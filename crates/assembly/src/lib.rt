@@ -12,7 +12,8 @@ ghost use Rattle.numbers.specs.Numbers.{+0, Σ, at, transposed, _⊖_, _⊗_, _
 ghost use Rattle.workspace.specs.Readings.{vec, Block, Loaded};
 ghost use Rattle.householder.specs.Qr.{downward};
 ghost use Rattle.subproblem.specs.Step.{inOrder, paired, clamped};
-ghost use Rattle.assembly.specs.Work.{triangle, cornered, equalitiesAmong, inequalitiesAmong, relaxedAmong};
+ghost use Rattle.subproblem.specs.Work.{equalitiesAmong, inequalitiesAmong, relaxedAmong};
+ghost use Rattle.assembly.specs.Work.{triangle, cornered};
 
 // ---- f = -L^-1 g
 

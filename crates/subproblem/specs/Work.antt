@@ -1,5 +1,5 @@
 -- What the functions that write a problem's rows into the workspace leave: it serves their contracts alone. Definitions only. Assumes nothing.
-use Prim.Native.Nat.{ℕ, _+_, _*_, _<_, _≤_}
+use Prim.Native.Nat.{ℕ, zero, suc, _+_, _*_, _<_, _≤_}
 use mathlib.Core.Path.{_≡_}
 use mathlib.Core.Bool.{Bool, true, false, cond}
 use mathlib.Core.List.{List, [], _∷_, _++_}
@@ -46,3 +46,19 @@ pub record Lengths (n m : ℕ) (kinds : List ℕ) (values jacobian lower upper :
   pub entries : length jacobian ≡ m * n
   pub low : length lower ≡ n
   pub high : length upper ≡ n
+
+-- how many kinds are equalities, how many are inequalities, and how many rows they become in the relaxed problem
+unfoldable pub equalitiesAmong : List ℕ → ℕ
+equalitiesAmong [] = 0
+equalitiesAmong (zero ∷ ks) = 1 + equalitiesAmong ks
+equalitiesAmong (suc k ∷ ks) = equalitiesAmong ks
+
+unfoldable pub inequalitiesAmong : List ℕ → ℕ
+inequalitiesAmong [] = 0
+inequalitiesAmong (zero ∷ ks) = inequalitiesAmong ks
+inequalitiesAmong (suc k ∷ ks) = 1 + inequalitiesAmong ks
+
+unfoldable pub relaxedAmong : List ℕ → ℕ
+relaxedAmong [] = 0
+relaxedAmong (zero ∷ ks) = 2 + relaxedAmong ks
+relaxedAmong (suc k ∷ ks) = 1 + relaxedAmong ks
