@@ -1,16 +1,21 @@
 -- The factors that stand in a part of the workspaces: its reflectors, and what they read of the part. Assumes nothing.
-use mathlib.Core.Path.{_≡_, refl, sym, ap, _∙_}
+use mathlib.Core.Path.{_≡_, refl, sym, ap, _∙_, subst}
 use mathlib.Core.List.{List}
 use Prim.Native.Nat.{ℕ, zero, suc, _+_, _*_, _≤_, _<_, min}
 use native.Mathlib.Nat.{zero-add}
 use native.Mathlib.Omega.{arith}
+use lib.ListN.{length}
 use lib.Ieee.{Float}
-use Rattle.numbers.specs.Numbers.{at, nth, row}
-use Rattle.workspace.specs.Readings.{vec, mat, stack, nums}
-use Rattle.workspace.proofs.Readings.{at-vec, vec-same, mat-same, stack-same, row-stack, nums-same}
-use Rattle.householder.specs.Qr.{Factors, image, reflect, forth, back}
-use Rattle.householder.specs.Work.{held}
+use Rattle.numbers.specs.Numbers.{at, nth, gather, scatter, row}
+use Rattle.numbers.proofs.Lists.{scatter-same}
+use Rattle.workspace.specs.Readings.{vec, mat, stack, nums, Block}
+use Rattle.workspace.proofs.Readings.{at-vec, vec-is, vec-same, mat-same, stack-same, row-stack, nth-nums, nums-same}
+use Rattle.householder.specs.Qr.{Factors, factor, image, reflect, forth}
+use Rattle.householder.specs.Claims.{Permutation}
+use Rattle.householder.specs.Work.{held, Placed}
+use Rattle.householder.proofs.Rank.{factor-rank}
 use Rattle.householder.proofs.Steps.{factors-same}
+use Rattle.householder.proofs.Sound.{factor-sound}
 
 -- two parts that agree on the reflectors, on R and on the permutation hold the same factors: a right-hand side, a solution and what stands behind R are free
 pub held-same : (m n k : ℕ) (w w′ : List Float) (iw iw′ : List ℕ) → m ≤ 18 → ((x : ℕ) → x < 342 → at w′ x ≡ at w x)
@@ -35,3 +40,34 @@ pub forth-same : (m c : ℕ) (f g : Factors) (v : List Float) → f .u ≡ g .u 
 unfolding forth
 forth-same m zero f g v eu eb = refl
 forth-same m (suc c) f g v eu eb = rw (forth-same m c f g v eu eb, eu, eb)
+
+-- ---- the permutation as the code reads it
+
+nth-held : (n : ℕ) (iw : List ℕ) (t : ℕ) → t < n → nth (nums 0 n iw) t ≡ nth iw t
+nth-held n iw t h = nth-nums 0 n iw t h ∙ ap (λ (x : ℕ). nth iw x) (zero-add t)
+
+-- entries put into the solution are scattered by it
+pub placed-held : (m n k : ℕ) (iw : List ℕ) (w w′ : List Float) → k ≤ m → m ≤ 18 → k ≤ n → Placed n k iw w w′
+    → vec 360 n w′ ≡ scatter k (nums 0 n iw) (vec 342 m w) (vec 360 n w)
+placed-held m n k iw w w′ km m18 kn h =
+    h .value m km m18 ∙ scatter-same k iw (nums 0 n iw) (vec 342 m w) (vec 342 m w) (vec 360 n w) (λ t l. sym (nth-held n iw t (omega arith))) (λ t l. refl)
+
+-- entries picked into the solution are gathered by it
+pub picked-held : (n o c : ℕ) (iw : List ℕ) (w w′ : List Float) → ((t : ℕ) → t < n → nth iw t < c) → Block 360 n (λ t. at w (o + nth iw t)) w w′
+    → vec 360 n w′ ≡ gather n (nums 0 n iw) (vec o c w)
+unfolding gather
+picked-held n o c iw w w′ h b =
+    vec-is 360 n w′ _
+    (λ t l. b .inside t l ∙ sym (at-vec o c w (nth iw t) (h t l)) ∙ ap (λ (x : ℕ). at (vec o c w) x) (sym (nth-held n iw t l)))
+
+-- ---- factors that a factoring left
+
+module _ (m n k : ℕ) (w : List Float) (iw : List ℕ) (a : List Float) (e : length a ≡ m * n) (h : held m n k w iw ≡ factor m n a) where
+  pub held-rank : k ≤ min m n
+  held-rank = subst (λ (x : ℕ). x ≤ min m n) (ap (λ (f : Factors). f .rank) (sym h)) (factor-rank m n a)
+
+  pub held-permutation : Permutation n (nums 0 n iw)
+  held-permutation = subst (Permutation n) (ap (λ (f : Factors). f .perm) (sym h)) (factor-sound m n a e .perm)
+
+  pub held-below : (t : ℕ) → t < n → nth iw t < n
+  held-below t l = subst (λ (x : ℕ). x < n) (nth-held n iw t l) (held-permutation .below t l)

@@ -1,1 +1,362 @@
-// Definitions and theorems.
+// Nonnegative least squares in one part of each workspace.
+//
+// f64: column j of A at 18 j, b at 1188, x at 1206, z at 1272, the dual at 1338, the residual at
+// 1404, a QR part from 1422 to 3036. u32: the passive marks at 0, the rejected at 66, the columns to
+// solve on at 132, the QR part from 198 to 264.
+ghost use mathlib.Core.Path.{_≡_};
+ghost use Prim.Native.Nat.{ℕ, _+_, _*_, _<_, _≤_};
+ghost use lib.ListN.{length};
+ghost use Rattle.numbers.specs.Numbers.{Σ, at, nth, _⊖_, _⊗_};
+ghost use Rattle.workspace.specs.Readings.{vec, mat, nums, Block};
+ghost use Rattle.nnls.specs.Nnls as Nnls;
+ghost use Rattle.nnls.specs.State.{read, solveIn, dualIn, Rounded};
+ghost use Rattle.nnls.specs.Work.{betterOf, trialOf, nearerOf, blockOf, Moved, TriedColumn, Passed, Turned};
+
+// ---- which column to try
+
+// The best column so far, with its dual.
+pub struct Candidate {
+    pub index: usize,
+    pub dual: f64,
+    pub any: bool,
+}
+
+// A column to try, or none.
+pub enum Trial {
+    Column(usize),
+    Nothing,
+}
+
+// The candidate after column j, whose dual and marks are given: a tie takes the later.
+fn better(best: Candidate, j: usize, dual: f64, passive: u32, rejected: u32) -> Candidate
+    ensures { λ r. ⌜ r ≡ betterOf best j dual passive rejected ⌝ }
+{
+    if passive != 0 {
+        return best;
+    }
+    if rejected != 0 {
+        return best;
+    }
+    if !(dual > 0.0) {
+        return best;
+    }
+    if best.any {
+        if dual < best.dual {
+            return best;
+        }
+    }
+    Candidate {
+        index: j,
+        dual,
+        any: true,
+    }
+}
+
+// The column of largest dual among those that may be tried, the last of equals.
+fn choose(w: &[f64], iw: &[u32], n: usize) -> Trial
+    requires { ⌜ (n ≤ 66) × (3036 ≤ length (now w)) × (264 ≤ length (now iw)) ⌝ }
+    ensures { λ r. ⌜ trialOf r ≡ Nnls.choose (vec 1338 n (now (w .entry))) (nums 0 n (now (iw .entry))) (nums 66 n (now (iw .entry))) n ⌝ }
+{
+    let mut best = Candidate {
+        index: 0,
+        dual: 0.0,
+        any: false,
+    };
+    for j in 0..n {
+        best = better(best, j, w[1338 + j], iw[j], iw[66 + j]);
+    }
+    if best.any {
+        Trial::Column(best.index)
+    } else {
+        Trial::Nothing
+    }
+}
+
+// ---- which column blocks
+
+// The nearest blocking column so far, with its ratio.
+pub struct Nearest {
+    pub index: usize,
+    pub ratio: f64,
+    pub any: bool,
+}
+
+// The column that blocks, with its ratio, or none.
+pub enum Blocker {
+    At(usize, f64),
+    Free,
+}
+
+// x / (x - z) where x - z is above zero, else 0.
+fn ratio_of(x: f64, z: f64) -> f64
+    ensures { λ r. ⌜ r ≡ Nnls.ratioOf x z ⌝ }
+{
+    let gap = x - z;
+    if gap > 0.0 { x / gap } else { 0.0 }
+}
+
+// Whether r ranks before s, a NaN after every number.
+fn ranks_before(r: f64, s: f64) -> bool
+    ensures { λ t. ⌜ t ≡ Nnls.ranksBefore r s ⌝ }
+{
+    if r != r {
+        return false;
+    }
+    if s != s {
+        return true;
+    }
+    r < s
+}
+
+// The nearest after column j, at x and headed for z: a tie keeps the earlier.
+fn nearer(best: Nearest, j: usize, x: f64, z: f64, passive: u32) -> Nearest
+    ensures { λ r. ⌜ r ≡ nearerOf best j x z passive ⌝ }
+{
+    if passive == 0 {
+        return best;
+    }
+    if !(z <= 0.0) {
+        return best;
+    }
+    let ratio = ratio_of(x, z);
+    if best.any {
+        let sooner = ranks_before(ratio, best.ratio);
+        if !sooner {
+            return best;
+        }
+    }
+    Nearest {
+        index: j,
+        ratio,
+        any: true,
+    }
+}
+
+// The passive column with a trial value <= 0 whose ratio is smallest, the first of equals.
+fn blocking(w: &[f64], iw: &[u32], n: usize) -> Blocker
+    requires { ⌜ (n ≤ 66) × (3036 ≤ length (now w)) × (264 ≤ length (now iw)) ⌝ }
+    ensures { λ r. ⌜ blockOf r ≡ Nnls.blocking (vec 1206 n (now (w .entry))) (vec 1272 n (now (w .entry))) (nums 0 n (now (iw .entry))) n ⌝ }
+{
+    let mut best = Nearest {
+        index: 0,
+        ratio: 0.0,
+        any: false,
+    };
+    for j in 0..n {
+        best = nearer(best, j, w[1206 + j], w[1272 + j], iw[j]);
+    }
+    if best.any {
+        Blocker::At(best.index, best.ratio)
+    } else {
+        Blocker::Free
+    }
+}
+
+// ---- a move
+
+// What becomes of a column and its mark.
+pub struct Next {
+    pub x: f64,
+    pub mark: u32,
+}
+
+// Column j, at x and headed for z, moved by the ratio: it leaves with +0 if it is q, or comes to <= 0.
+fn move_one(q: usize, j: usize, ratio: f64, x: f64, z: f64, mark: u32) -> Next
+    ensures { λ r. ⌜ (r .x ≡ Nnls.nextX q j ratio x z mark) × (r .mark ≡ Nnls.nextMark q j ratio x z mark) ⌝ }
+{
+    if mark == 0 {
+        return Next { x, mark };
+    }
+    let v = x + ratio * (z - x);
+    if j == q {
+        return Next { x: 0.0, mark: 0 };
+    }
+    if v <= 0.0 {
+        return Next { x: 0.0, mark: 0 };
+    }
+    Next { x: v, mark }
+}
+
+// Each passive column moved; column q and those that come to <= 0 leave.
+fn move_all(w: &mut [f64], iw: &mut [u32], n: usize, q: usize, ratio: f64)
+    requires { ⌜ (n ≤ 66) × (3036 ≤ length (now w)) × (264 ≤ length (now iw)) ⌝ }
+    ensures { λ _. ⌜ Moved n q ratio (now (w .entry)) (now (w .exit)) (now (iw .entry)) (now (iw .exit)) ⌝ }
+{
+    for j in 0..n {
+        let next = move_one(q, j, ratio, w[1206 + j], w[1272 + j], iw[j]);
+        w[1206 + j] = next.x;
+        iw[j] = next.mark;
+    }
+}
+
+// ---- the dual
+
+// Entry i of b - A x.
+fn residual_at(w: &[f64], i: usize, n: usize) -> f64
+    requires { ⌜ (i < 18) × (n ≤ 66) × (3036 ≤ length (now w)) ⌝ }
+    ensures { λ r. ⌜ r ≡ at (now (w .entry)) (1188 + i) ⊖ Σ n (λ j. at (now (w .entry)) (i + j * 18) ⊗ at (now (w .entry)) (1206 + j * 1)) ⌝ }
+{
+    let t = numbers::dot_strided(w, i, 18, w, 1206, 1, n);
+    w[1188 + i] - t
+}
+
+// b - A x, to 1404 on.
+fn write_residual(w: &mut [f64], m: usize, n: usize)
+    requires { ⌜ (m ≤ 18) × (n ≤ 66) × (3036 ≤ length (now w)) ⌝ }
+    ensures { λ _. ⌜ Block 1404 m (λ i. at (now (w .entry)) (1188 + i) ⊖ Σ n (λ j. at (now (w .entry)) (i + j * 18) ⊗ at (now (w .entry)) (1206 + j * 1))) (now (w .entry)) (now (w .exit)) ⌝ }
+{
+    for i in 0..m {
+        let v = residual_at(w, i, n);
+        w[1404 + i] = v;
+    }
+}
+
+// A' times the residual, to 1338 on.
+fn write_dual(w: &mut [f64], m: usize, n: usize)
+    requires { ⌜ (m ≤ 18) × (n ≤ 66) × (3036 ≤ length (now w)) ⌝ }
+    ensures { λ _. ⌜ Block 1338 n (λ j. Σ m (λ i. at (now (w .entry)) (j * 18 + i) ⊗ at (now (w .entry)) (1404 + i))) (now (w .entry)) (now (w .exit)) ⌝ }
+{
+    for j in 0..n {
+        let v = numbers::dot_within(w, j * 18, 1404, m);
+        w[1338 + j] = v;
+    }
+}
+
+// ---- a pass
+
+// Tries column t: it stays among the passive, and the answer is true; or it is turned back and marked.
+fn try_column(w: &mut [f64], iw: &mut [u32], m: usize, n: usize, t: usize) -> bool
+    requires { ⌜ (m ≤ 18) × (n ≤ 66) × (t < n) × (3036 ≤ length (now w)) × (264 ≤ length (now iw)) × (nth (now iw) t ≡ 0) ⌝ }
+    ensures { λ r. ⌜ TriedColumn m n t r (read m n (now (w .entry)) (now (iw .entry))) (read m n (now (w .exit)) (now (iw .exit))) ⌝ }
+{
+    iw[t] = 1;
+    let full = passive::solve_passive(w, iw, m, n);
+    if full {
+        if w[1272 + t] > 0.0 {
+            return true;
+        }
+    }
+    iw[t] = 0;
+    iw[66 + t] = 1;
+    false
+}
+
+// How a pass ended: whether a column was kept, and the factorings so far.
+pub struct Pass {
+    pub kept: bool,
+    pub factorings: usize,
+}
+
+// Tries columns until one is kept or none is left.
+fn try_all(w: &mut [f64], iw: &mut [u32], m: usize, n: usize, f: usize) -> Pass
+    requires { ⌜ (m ≤ 18) × (n ≤ 66) × (3036 ≤ length (now w)) × (264 ≤ length (now iw)) × (f ≤ 1000000) ⌝ }
+    ensures { λ r. ⌜ Passed (Nnls.tries n (solveIn m n (read m n (now (w .entry)) (now (iw .entry)))) n (vec 1338 n (now (w .entry))) (nums 0 n (now (iw .entry))) (nums 66 n (now (iw .entry))) f)
+        (f + n) r (read m n (now (w .entry)) (now (iw .entry))) (read m n (now (w .exit)) (now (iw .exit))) ⌝ }
+{
+    let mut count = 0usize;
+    while count < n {
+        let trial = choose(w, iw, n);
+        let Trial::Column(t) = trial else {
+            return Pass {
+                kept: false,
+                factorings: f + count,
+            };
+        };
+        let kept = try_column(w, iw, m, n, t);
+        count += 1;
+        if kept {
+            return Pass {
+                kept: true,
+                factorings: f + count,
+            };
+        }
+    }
+    Pass {
+        kept: false,
+        factorings: f + count,
+    }
+}
+
+// One pass: the dual at x, no column rejected, and the tries.
+fn one_pass(w: &mut [f64], iw: &mut [u32], m: usize, n: usize, f: usize) -> Pass
+    requires { ⌜ (m ≤ 18) × (n ≤ 66) × (3036 ≤ length (now w)) × (264 ≤ length (now iw)) × (f ≤ 1000000) ⌝ }
+    ensures { λ r. ⌜ Passed (Nnls.pass n (dualIn m n (read m n (now (w .entry)) (now (iw .entry)))) (solveIn m n (read m n (now (w .entry)) (now (iw .entry)))) (vec 1206 n (now (w .entry))) (nums 0 n (now (iw .entry))) f)
+        (f + n) r (read m n (now (w .entry)) (now (iw .entry))) (read m n (now (w .exit)) (now (iw .exit))) ⌝ }
+{
+    write_residual(w, m, n);
+    write_dual(w, m, n);
+    workspace::blank_words(iw, 66, n);
+    try_all(w, iw, m, n, f)
+}
+
+// ---- the turns
+
+// Moves, lets columns leave and solves again until none blocks. The answer is the factorings so far.
+fn turn_all(w: &mut [f64], iw: &mut [u32], m: usize, n: usize, f: usize) -> usize
+    requires { ⌜ (m ≤ 18) × (n ≤ 66) × (3036 ≤ length (now w)) × (264 ≤ length (now iw)) × (f ≤ 1000000) ⌝ }
+    ensures { λ r. ⌜ Turned (Nnls.turns n (solveIn m n (read m n (now (w .entry)) (now (iw .entry)))) n (vec 1206 n (now (w .entry))) (vec 1272 n (now (w .entry))) (nums 0 n (now (iw .entry))) f)
+        (f + n) r (read m n (now (w .entry)) (now (iw .entry))) (read m n (now (w .exit)) (now (iw .exit))) ⌝ }
+{
+    let mut count = 0usize;
+    while count < n {
+        let blocker = blocking(w, iw, n);
+        let Blocker::At(q, ratio) = blocker else {
+            return f + count;
+        };
+        move_all(w, iw, n, q, ratio);
+        let full = passive::solve_passive(w, iw, m, n);
+        count += 1;
+    }
+    f + count
+}
+
+// ---- the rounds
+
+// How the rounds ended: accepted or not, with the counts.
+pub struct Ended {
+    pub accepted: bool,
+    pub rounds: usize,
+    pub factorings: usize,
+}
+
+// Rounds, at most k, from x and the passive marks on.
+fn run_rounds(w: &mut [f64], iw: &mut [u32], m: usize, n: usize, k: usize) -> Ended
+    requires { ⌜ (m ≤ 18) × (n ≤ 66) × (3036 ≤ length (now w)) × (264 ≤ length (now iw)) × (k ≤ 198) ⌝ }
+    ensures { λ r. ⌜ Rounded (Nnls.rounds n (dualIn m n (read m n (now (w .entry)) (now (iw .entry)))) (solveIn m n (read m n (now (w .entry)) (now (iw .entry)))) k (vec 1206 n (now (w .entry))) (nums 0 n (now (iw .entry))) 0 0)
+        r (read m n (now (w .entry)) (now (iw .entry))) (read m n (now (w .exit)) (now (iw .exit))) ⌝ }
+{
+    let mut past = 0usize;
+    let mut f = 0usize;
+    while past < k {
+        let pass = one_pass(w, iw, m, n, f);
+        let g = pass.factorings;
+        if !pass.kept {
+            return Ended {
+                accepted: true,
+                rounds: past,
+                factorings: g,
+            };
+        }
+        f = turn_all(w, iw, m, n, g);
+        workspace::copy_down(w, 1272, 1206, n);
+        past += 1;
+    }
+    let pass = one_pass(w, iw, m, n, f);
+    let g = pass.factorings;
+    Ended {
+        accepted: !pass.kept,
+        rounds: past,
+        factorings: g,
+    }
+}
+
+// Nonnegative least squares of the A and b in the workspace, with k rounds allowed; both stay.
+pub fn solve_in(w: &mut [f64], iw: &mut [u32], m: usize, n: usize, k: usize) -> Ended
+    requires { ⌜ (m ≤ 18) × (n ≤ 66) × (3036 ≤ length (now w)) × (264 ≤ length (now iw)) × (k ≤ 198) ⌝ }
+    ensures { λ r. ⌜ Rounded (Nnls.nnls m n (mat 0 m n (now (w .entry))) (vec 1188 m (now (w .entry))) k)
+        r (read m n (now (w .entry)) (now (iw .entry))) (read m n (now (w .exit)) (now (iw .exit))) ⌝ }
+{
+    workspace::blank(w, 1206, n);
+    workspace::blank_words(iw, 0, n);
+    run_rounds(w, iw, m, n, k)
+}

@@ -39,11 +39,15 @@ loop-holds : tie.Need-loop-holds Inv-loop μ-loop
 loop-holds c = let s = c .before .before .before .before .before .before .before .before .before .before .before in
     let a = s .args in
     let k = c .before .before .before .before .before .before .before .blank in
-    let i = c .before .before .before .count in
-    (omega arith, c .smaller .ensures, refl, refl,
-    rw (c .smaller .ensures)
-    (factor-start (a .m) (a .n) (mat 426 (a .m) (a .n) (k .last .0)) _ _ lit-+0
-    (start-is (a .m) (a .n) (a .w .now) (k .last .0) (i .last .0) (s .pre .0) (k .ensures) (i .ensures) ∙ ap (start (a .m) (a .n)) (sym (matrix c)))))
+    let i = c .before .before .before .count in (
+      omega arith,
+      c .smaller .ensures,
+      refl,
+      refl,
+      rw (c .smaller .ensures)
+          (factor-start (a .m) (a .n) (mat 426 (a .m) (a .n) (k .last .0)) _ _ lit-+0
+          (start-is (a .m) (a .n) (a .w .now) (k .last .0) (i .last .0) (s .pre .0) (k .ensures) (i .ensures) ∙ ap (start (a .m) (a .n)) (sym (matrix c)))),
+    )
 
 pivot-requires : tie.Need-pivot-requires Inv-loop μ-loop
 pivot-requires c κs = omega arith
@@ -86,10 +90,14 @@ loop-again c = let t = c .before .before .before .before .before .before .before
     let p = c .before .before .before .before .before .before .before .before .before .pivot in
     let l = c .before .before .before .before .before .before .before .before .before .before .before .before .loop in
     let a = c .before .before .before .before .before .before .before .before .before .before .before .before .before .before .before .before .before .before .before .before .before .before .before .before .args in
-    let n = c .before .before .before .before .step in
-    (omega arith, l .inv .1, n .kept .0 ∙ l .inv .2, n .kept .1 .0 ∙ l .inv .3,
-    factor-again (a .m) (a .n) (c .before .before .before .before .before .before .before .before .before .before .before .before .before .smaller .result) (l .k) (held (a .m) (a .n) (l .k) (l .w) (l .iw)) (l .tol) (t .result) (p .result)
-    (c .before .before .before .before .before .before .before .before .before .before .before .loop-test .taken) (p .ensures) (t .ensures) _ _ (c .before .before .before .before .before .before .before .if1 .left) (n .ensures) (l .inv .4))
+    let n = c .before .before .before .before .step in (
+      omega arith,
+      l .inv .1,
+      n .kept .0 ∙ l .inv .2,
+      n .kept .1 .0 ∙ l .inv .3,
+      factor-again (a .m) (a .n) (c .before .before .before .before .before .before .before .before .before .before .before .before .before .smaller .result) (l .k) (held (a .m) (a .n) (l .k) (l .w) (l .iw)) (l .tol) (t .result) (p .result)
+          (c .before .before .before .before .before .before .before .before .before .before .before .loop-test .taken) (p .ensures) (t .ensures) _ _ (c .before .before .before .before .before .before .before .if1 .left) (n .ensures) (l .inv .4),
+    )
 
 same-length-3 : tie.Need-same-length-3 Inv-loop μ-loop
 same-length-3 c = omega arith

@@ -55,9 +55,11 @@ loop-less c = omega arith
 loop-again : tie.Need-loop-again Inv-loop μ-loop
 loop-again c = let a = c .before .before .before .before .args in
     let l = c .before .before .before .loop in
-    let r = l .inv .2 in
-    (omega arith, simp length-set (l .inv .1),
-    written-more nan _ _ _ _ _ _ (omega arith) (ap₂ _⊕_ (r .after (a .q + l .t) (omega arith)) (ap (λ (x : Float). a .s ⊗ x) (r .before (a .p + l .t) (omega arith)))) r)
+    let r = l .inv .2 in (
+      omega arith,
+      simp length-set (l .inv .1),
+      written-more nan _ _ _ _ _ _ (omega arith) (ap₂ _⊕_ (r .after (a .q + l .t) (omega arith)) (ap (λ (x : Float). a .s ⊗ x) (r .before (a .p + l .t) (omega arith)))) r,
+    )
 
 same-length : tie.Need-same-length Inv-loop μ-loop
 same-length c = c .before .loop .inv .1

@@ -59,9 +59,11 @@ loop-again : tie.Need-loop-again Inv-loop μ-loop
 unfolding squares
 loop-again c = let a = c .before .before .before .before .before .before .args in
     let l = c .before .before .before .loop in
-    let x = c .before .dot-within in
-    (refl, omega arith,
-    leads-more (a .m) (a .n) (a .k) (l .t) (a .k + l .t) (a .w .now) (l .top) _ (x .result) (omega arith) refl (omega arith) (l .inv .2) (x .ensures) (c .weigh .ensures))
+    let x = c .before .dot-within in (
+      refl,
+      omega arith,
+      leads-more (a .m) (a .n) (a .k) (l .t) (a .k + l .t) (a .w .now) (l .top) _ (x .result) (omega arith) refl (omega arith) (l .inv .2) (x .ensures) (c .weigh .ensures),
+    )
 
 show-requires : tie.Need-show-requires Inv-loop μ-loop
 show-requires c κs = omega arith

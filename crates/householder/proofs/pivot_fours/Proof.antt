@@ -71,10 +71,12 @@ loop-again : tie.Need-loop-again Inv-loop μ-loop
 loop-again c = let s = c .before .before .before .before .before .before .before .before in
     let a = s .args in
     let l = c .before .before .before .before .before .before .loop in
-    let x = c .before .before .before .before .squares-four in
-    (refl, omega arith,
-    leads-four (a .m) (a .n) (a .k) (l .q) (a .k + l .q * 4) (a .w .now) (l .top) _ _ _ _ (x .result) (omega arith) refl (omega arith) (l .inv .2) (x .ensures)
-    (c .before .before .before .weigh .ensures) (c .before .before .weigh2 .ensures) (c .before .weigh3 .ensures) (c .weigh4 .ensures))
+    let x = c .before .before .before .before .squares-four in (
+      refl,
+      omega arith,
+      leads-four (a .m) (a .n) (a .k) (l .q) (a .k + l .q * 4) (a .w .now) (l .top) _ _ _ _ (x .result) (omega arith) refl (omega arith) (l .inv .2) (x .ensures)
+          (c .before .before .before .weigh .ensures) (c .before .before .weigh2 .ensures) (c .before .weigh3 .ensures) (c .weigh4 .ensures),
+    )
 
 returns : tie.Need-returns Inv-loop μ-loop
 returns c = let a = c .before .before .before .args in

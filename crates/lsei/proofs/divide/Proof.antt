@@ -1,0 +1,75 @@
+-- `divide`: after t turns t quotients are written. Assumes nothing.
+use mathlib.Core.Path.{_≡_, refl, sym, ap, _∙_}
+use Prim.Native.Nat.{ℕ, _+_, _*_, _-_, _≤_, _<_}
+use native.Mathlib.Omega.{arith}
+use lib.ListN.{length, length-set}
+use lib.Ieee.{Float, nan}
+use Rattle.numbers.specs.Numbers.{+0, at, Σ, _⊕_, _⊖_, _⊗_, _⊘_}
+use Rattle.workspace.specs.Readings.{Block}
+use Rattle.workspace.proofs.Writes.{written-none, written-more}
+use Rattle.lsei.proofs.divide.Statement.{statement}
+use Rattle.lsei.proofs.divide.Tie as tie
+
+abbrev Inv-loop : tie.InvT-loop
+Inv-loop w₀ p q c d t₀ w t = (t ≤ c) × (length w ≡ length w₀) × Block q t (λ i. at w₀ (p + i) ⊘ d) w₀ w
+
+abbrev μ-loop : tie.MeasureT-loop
+μ-loop w₀ p q c d t₀ w t = c - t
+
+loop-holds : tie.Need-loop-holds Inv-loop μ-loop
+loop-holds c = (omega arith, refl, written-none nan _ _ _)
+
+add-w : tie.Need-add-w Inv-loop μ-loop
+add-w c = omega arith
+
+mul-w : tie.Need-mul-w Inv-loop μ-loop
+mul-w c = omega arith
+
+slice-read-w : tie.Need-slice-read-w Inv-loop μ-loop
+slice-read-w c = omega arith
+
+add-w-2 : tie.Need-add-w-2 Inv-loop μ-loop
+add-w-2 c = omega arith
+
+mul-w-2 : tie.Need-mul-w-2 Inv-loop μ-loop
+mul-w-2 c = omega arith
+
+slice-write-w : tie.Need-slice-write-w Inv-loop μ-loop
+slice-write-w c = omega arith
+
+add-t : tie.Need-add-t Inv-loop μ-loop
+add-t c = omega arith
+
+loop-less : tie.Need-loop-less Inv-loop μ-loop
+loop-less c = omega arith
+
+loop-again : tie.Need-loop-again Inv-loop μ-loop
+loop-again c = let a = c .before .before .before .args in
+    let l = c .before .before .loop in
+    let r = l .inv .2 in
+    (omega arith, simp length-set (l .inv .1), written-more nan (a .q) (l .t) _ (a .w .now) (l .w) _ (omega arith) (ap (λ (x : Float). x ⊘ a .d) (r .before (a .p + l .t) (omega arith))) r)
+
+same-length : tie.Need-same-length Inv-loop μ-loop
+same-length c = c .before .loop .inv .1
+
+returns : tie.Need-returns Inv-loop μ-loop
+returns c = let e : c .before .loop .t ≡ c .before .before .args .c = omega arith in rw (← e) (c .before .loop .inv .2)
+
+pub divide-spec : {M : Type 1} → statement M
+divide-spec =
+    tie.close
+    (tie.spec
+    Inv-loop
+    μ-loop
+    loop-holds
+    add-w
+    mul-w
+    slice-read-w
+    add-w-2
+    mul-w-2
+    slice-write-w
+    add-t
+    loop-less
+    loop-again
+    same-length
+    returns)

@@ -1,0 +1,4 @@
+pub mod Turning
+pub mod Joining
+pub mod Whole
+pub mod Together

@@ -1,0 +1,5 @@
+pub mod Members
+pub mod Columns
+pub mod Part
+pub mod Spreads
+pub mod Whole
