@@ -12,11 +12,11 @@ use Rattle.workspace.specs.Tables.{Answer, done, refused}
 use Rattle.nnls.specs.Counted.{Counted, then, andThen}
 use Rattle.lsei.specs.Lsei.{Solution}
 use Rattle.subproblem.specs.Step.{Step}
-use Rattle.step.specs.Stub.{answered, told}
-use Rattle.step.specs.declared.Ending.{Ending}
-use Rattle.step.specs.declared.Ending.the-variants as Ending
-use Rattle.step.specs.declared.Ended.{Ended}
-use Rattle.step.proofs.Ending.{the-type}
+use Rattle.lsei.specs.Work.{answered, told}
+use Rattle.lsei.specs.declared.Ending.{Ending}
+use Rattle.lsei.specs.declared.Ending.the-variants as Ending
+use Rattle.lsei.specs.declared.Ended.{Ended}
+use Rattle.lsei.proofs.Ending.{the-type}
 use Rattle.step.specs.Work.{refusalOf, taken}
 use Rattle.step.specs.declared.Tried.{Tried}
 use Rattle.step.specs.declared.Tried.the-variants.{Done, Refused}

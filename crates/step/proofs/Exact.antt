@@ -19,22 +19,24 @@ use Rattle.workspace.proofs.Parts.{lent-is}
 use Rattle.nnls.specs.Counted.{Counted}
 use Rattle.lsei.specs.Lsei.{Solution, lsei}
 use Rattle.lsei.proofs.Costs.{lsei-most}
+use Rattle.lsei.proofs.Together.{sides-part}
 use Rattle.subproblem.specs.Problem.{Problem, rowOf, matrixOf, sidesOf, each, boundRows, equalityRows, inequalityRows}
 use Rattle.subproblem.specs.Step.{Step, inOrder, exactStep, exact}
 use Rattle.subproblem.specs.Claims.{withFactor}
 use Rattle.subproblem.specs.Work.{Pushed, picked, bare, equalitiesAmong, inequalitiesAmong}
 use Rattle.subproblem.proofs.Pushing.{pushed-count, pushed-matrix, pushed-sides}
 use Rattle.subproblem.proofs.Among.{all-equal, enough-exact}
-use Rattle.step.specs.Stub.{told, sides, solutionIn}
-use Rattle.step.specs.declared.Ending.the-variants as Ending
-use Rattle.step.specs.declared.Ended.{Ended}
+use Rattle.lsei.specs.Work.{told, sides}
+use Rattle.nullspace.specs.Work.{solutionIn}
+use Rattle.lsei.specs.declared.Ending.the-variants as Ending
+use Rattle.lsei.specs.declared.Ended.{Ended}
 use Rattle.step.specs.declared.Sizes.{Sizes}
 use Rattle.step.specs.declared.Tried.the-variants.{Done, Refused}
 use Rattle.step.specs.Work.{ExactIn, Left, refusalOf, Tries}
-use Rattle.step.proofs.Ending.{the-type}
+use Rattle.lsei.proofs.Ending.{the-type}
 use Rattle.step.proofs.Counts.{lsei-rounds}
 use Rattle.step.proofs.Answers.{refusal-late, refused-is, done-is, rounds-are, factorings-are}
-use Rattle.step.proofs.Parts.{sides-part, stack-mat, vec-back, front-back}
+use Rattle.step.proofs.Parts.{stack-mat, vec-back, front-back}
 
 -- ---- what is written: C, d, E, f and G with h, one behind the other
 

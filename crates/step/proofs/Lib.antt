@@ -6,3 +6,4 @@ pub mod Weight
 pub mod Relaxed
 pub mod Reading
 pub mod Both
+pub mod Calls

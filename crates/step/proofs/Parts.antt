@@ -4,19 +4,13 @@ use mathlib.Core.List.{List}
 use Prim.Native.Nat.{ℕ, _+_, _*_, _-_, _≤_, _<_}
 use native.Mathlib.Omega.{arith}
 use lib.ListN.{length, drop}
-use lib.Seq.{getD-drop}
 use lib.Ieee.{Float, nan}
 use borrow.Rule.Slice.PartMut.{putMid}
 use Rattle.numbers.specs.Numbers.{at, transposed}
-use Rattle.numbers.proofs.Lists.{tab-same, matrix-same, length-transposed, entry-transposed}
+use Rattle.numbers.proofs.Lists.{matrix-same, length-transposed, entry-transposed}
 use Rattle.workspace.specs.Readings.{vec, mat, stack}
 use Rattle.workspace.proofs.Readings.{vec-same, vec-part, length-stack, entry-stack, entry-mat}
 use Rattle.workspace.proofs.Parts.{back-part, back-get}
-use Rattle.step.specs.Stub.{sides}
-
-pub sides-part : (b o m n : ℕ) (w : List Float) → sides o m n (drop b w) ≡ sides (b + o) m n w
-unfolding sides
-sides-part b o m n w = tab-same m _ _ (λ i h. getD-drop b w (o + i * 18 + n) nan ∙ ap (λ (x : ℕ). at w x) (let e : b + (o + i * 18 + n) ≡ b + o + i * 18 + n = omega arith in e))
 
 -- the vectors that are stacked are a matrix's columns
 pub stack-mat : (o m n : ℕ) (w : List Float) → stack o n m w ≡ transposed m n (mat o m n w)

@@ -19,6 +19,7 @@ use Rattle.workspace.proofs.Parts.{lent-is}
 use Rattle.nnls.specs.Counted.{Counted}
 use Rattle.lsei.specs.Lsei.{Solution, lsi}
 use Rattle.lsei.proofs.Costs.{lsi-most}
+use Rattle.lsei.proofs.Together.{sides-part}
 use Rattle.subproblem.specs.Problem.{Problem, matrixOf, sidesOf, boundRows, relaxedRows}
 use Rattle.subproblem.specs.Step.{Step, rootWeight, relaxedMatrix, paired, clamped, relaxedStep, relaxed}
 use Rattle.subproblem.specs.Claims.{withFactor}
@@ -26,15 +27,15 @@ use Rattle.subproblem.specs.Work.{Pushed, bare, relaxedAmong}
 use Rattle.subproblem.proofs.Pushing.{pushed-count, pushed-matrix, pushed-sides}
 use Rattle.subproblem.proofs.Among.{enough-relaxed}
 use Rattle.assembly.specs.Work.{cornered}
-use Rattle.step.specs.Stub.{told, sides, squaresIn}
-use Rattle.step.specs.declared.Ending.the-variants as Ending
-use Rattle.step.specs.declared.Ended.{Ended}
+use Rattle.lsei.specs.Work.{told, sides, squaresIn}
+use Rattle.lsei.specs.declared.Ending.the-variants as Ending
+use Rattle.lsei.specs.declared.Ended.{Ended}
 use Rattle.step.specs.declared.Tried.the-variants.{Done, Refused}
 use Rattle.step.specs.Work.{RelaxedIn, Left, refusalOf, Tries}
-use Rattle.step.proofs.Ending.{the-type}
+use Rattle.lsei.proofs.Ending.{the-type}
 use Rattle.step.proofs.Counts.{lsi-rounds}
 use Rattle.step.proofs.Answers.{refusal-late, refused-is, done-is, rounds-are, factorings-are}
-use Rattle.step.proofs.Parts.{sides-part, vec-back, front-back}
+use Rattle.step.proofs.Parts.{vec-back, front-back}
 
 -- ---- what is written: E, f and G with h, one behind the other
 

@@ -12,9 +12,9 @@ use Rattle.nnls.specs.Counted.{Counted}
 use Rattle.subproblem.specs.Problem.{Problem, matrixOf, sidesOf, equalityRows, inequalityRows, relaxedRows}
 use Rattle.subproblem.specs.Step.{Step, relaxedMatrix}
 use Rattle.subproblem.specs.Work.{Lengths}
-use Rattle.step.specs.Stub.{sides}
-use Rattle.step.specs.declared.Ending.{Ending}
-use Rattle.step.specs.declared.Ending.the-variants as Ending
+use Rattle.lsei.specs.Work.{sides}
+use Rattle.lsei.specs.declared.Ending.{Ending}
+use Rattle.lsei.specs.declared.Ending.the-variants as Ending
 use Rattle.step.specs.declared.Sizes.{Sizes}
 use Rattle.step.specs.declared.Tried.{Tried}
 use Rattle.step.specs.declared.Tried.the-variants.{Done, Refused}
@@ -124,3 +124,15 @@ pub record Tries (c : Counted Step) (n m : ℕ) (r : Tried) (w w′ : List Float
   pub rounds : roundsOf r ≤ 198
   pub factorings : factoringsOf r ≤ 13334
   pub late : IsLate r
+
+-- ---- the call
+
+-- what the tests show where none refuses
+pub record Lent (n m : ℕ) (factor gradient : List Float) (kinds : List ℕ) (values jacobian lower upper d multipliers w : List Float) (iw : List ℕ) : Type 0 where
+  pub lengths : Lengths n m kinds values jacobian lower upper
+  pub square : length factor ≡ n * n
+  pub slope : length gradient ≡ n
+  pub step : length d ≡ n
+  pub prices : length multipliers ≡ m
+  pub floats : 8192 ≤ length w
+  pub words : 512 ≤ length iw

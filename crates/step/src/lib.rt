@@ -9,45 +9,12 @@ ghost use lib.Dec.{eqb};
 ghost use lib.ListN.{length, take};
 ghost use Rattle.numbers.specs.Numbers.{at};
 ghost use Rattle.workspace.specs.Readings.{vec, mat, stack};
-ghost use Rattle.lsei.specs.Lsei.{lsi, lsei};
 ghost use Rattle.subproblem.specs.Problem.{Problem};
 ghost use Rattle.subproblem.specs.Claims.{withFactor};
 ghost use Rattle.subproblem.specs.Step.{inOrder, paired, clamped, exact, relaxed, step};
 ghost use Rattle.subproblem.specs.Work.{bare, equalitiesAmong, inequalitiesAmong, relaxedAmong};
-ghost use Rattle.step.specs.Stub.{told, sides, squaresIn, solutionIn};
 ghost use Rattle.step.specs.Outcomes.{numberOf, relaxationOf};
 ghost use Rattle.step.specs.Work.{problemOf, Ready, ExactIn, RelaxedIn, Readable, Left, refusalOf, takenIn, Tries, roundsOf, factoringsOf, later, IsLate};
-
-pub enum Ending {
-    Done,
-    Deficient,
-    Infeasible,
-    Capped,
-}
-
-pub struct Ended {
-    pub ending: Ending,
-    pub rounds: usize,
-    pub factorings: usize,
-}
-
-fn solve_lsi(w: &mut [f64], iw: &mut [u32], n: usize, me: usize, mg: usize) -> Ended
-    requires { ⌜ (n ≤ 17) × (me ≤ 17) × (mg ≤ 66) × (3786 ≤ length (now w)) × (282 ≤ length (now iw)) ⌝ }
-    ensures { λ r. ⌜ told r (squaresIn n mg (now (w .exit))) ≡ lsi n me mg (mat 426 me n (now (w .entry))) (vec 732 me (now (w .entry))) (stack 750 mg n (now (w .entry))) (sides 750 mg n (now (w .entry))) ⌝ }
-{
-    w[0] = 0.0;
-    iw[0] = 0;
-    Ended { ending: Ending::Done, rounds: 0, factorings: 0 }
-}
-
-fn solve_lsei(w: &mut [f64], iw: &mut [u32], n: usize, mc: usize, me: usize, mg: usize) -> Ended
-    requires { ⌜ (n ≤ 17) × (mc ≤ 16) × (me ≤ 17) × (mg ≤ 66) × (6030 ≤ length (now w)) × (300 ≤ length (now iw)) ⌝ }
-    ensures { λ r. ⌜ told r (solutionIn n mc mg (now (w .exit))) ≡ lsei n mc me mg (stack 426 mc n (now (w .entry))) (vec 714 mc (now (w .entry))) (stack 732 me n (now (w .entry))) (vec 1038 me (now (w .entry))) (stack 1056 mg n (now (w .entry))) (sides 1056 mg n (now (w .entry))) ⌝ }
-{
-    w[0] = 0.0;
-    iw[0] = 0;
-    Ended { ending: Ending::Done, rounds: 0, factorings: 0 }
-}
 
 // The solver of the step.
 pub struct Step {}
@@ -113,14 +80,14 @@ fn read_exact(kinds: &[u8], w: &mut [f64], n: usize, m: usize, c: usize, g: usiz
 }
 
 // The number of a refusal.
-fn refusal_of(ending: Ending) -> u32
+fn refusal_of(ending: lsei::Ending) -> u32
     ensures { λ r. ⌜ r ≡ refusalOf ending ⌝ }
 {
     match ending {
-        Ending::Done => 0,
-        Ending::Deficient => 5,
-        Ending::Infeasible => 6,
-        Ending::Capped => 7,
+        lsei::Ending::Done => 0,
+        lsei::Ending::Deficient => 5,
+        lsei::Ending::Infeasible => 6,
+        lsei::Ending::Capped => 7,
     }
 }
 
@@ -143,9 +110,9 @@ fn try_exact(
     let s = write_exact(factor, kinds, values, jacobian, lower, upper, w, n, m);
     let c = s.equalities;
     let g = s.inequalities;
-    let e = solve_lsei(&mut w[18..], iw, n, c, n, g);
+    let e = nullspace::solve_lsei(&mut w[18..], iw, n, c, n, g);
     let ending = e.ending;
-    let Ending::Done = ending else {
+    let lsei::Ending::Done = ending else {
         return Tried::Refused(refusal_of(ending), e.rounds, e.factorings);
     };
     read_exact(kinds, w, n, m, c, g);
@@ -203,9 +170,9 @@ fn try_relaxed(
     ensures { λ r. ⌜ Tries (relaxed (withFactor (bare n m (now (kinds .entry)) (now (values .entry)) (now (jacobian .entry)) (now (lower .entry)) (now (upper .entry))) (now (factor .entry))) (vec 0 n (now (w .entry)))) n m r (now (w .entry)) (now (w .exit)) ⌝ }
 {
     let g = write_relaxed(factor, kinds, values, jacobian, lower, upper, w, n, m);
-    let e = solve_lsi(&mut w[18..], iw, n + 1, n + 1, g);
+    let e = lsei::solve_lsi(&mut w[18..], iw, n + 1, n + 1, g);
     let ending = e.ending;
-    let Ending::Done = ending else {
+    let lsei::Ending::Done = ending else {
         return Tried::Refused(refusal_of(ending), e.rounds, e.factorings);
     };
     let delta = read_relaxed(kinds, w, n, m, g);

@@ -1,7 +1,7 @@
 -- `clamp`: each way out rewrites with its tests. Assumes nothing.
 use Rattle.subproblem.specs.Step.{clamped}
 use Rattle.workspace.proofs.Readings.{lit-+0}
-use Rattle.subproblem.proofs.Literals.{lit-one}
+use Rattle.lsei.proofs.Dual.{lit-one}
 use Rattle.assembly.proofs.clamp.Statement.{statement}
 use Rattle.assembly.proofs.clamp.Tie as tie
 

@@ -1,75 +1,80 @@
+-- `try_relaxed`: what is written, solved and read. Assumes nothing.
+use mathlib.Core.Path.{_≡_, refl, sym, ap, _∙_}
+use Prim.Native.Nat.{ℕ, _+_, _*_, _-_, _≤_, _<_}
+use native.Mathlib.Omega.{arith}
+use lib.ListN.{length}
+use borrow.Rule.Slice.PartMut.{same-len-mid}
+use Rattle.workspace.specs.Readings.{vec}
+use Rattle.workspace.proofs.Readings.{lit-+0}
+use Rattle.subproblem.specs.Claims.{withFactor}
+use Rattle.subproblem.specs.Work.{bare}
 use borrow.Author.Needs.{needs}
+use Rattle.step.proofs.Relaxed.{relaxed-refused, relaxed-done, relaxed-counts}
 use Rattle.step.proofs.try_relaxed.Statement.{statement}
 use Rattle.step.proofs.try_relaxed.Tie as tie
-use Rattle.step.proofs.try_relaxed.Reads as reads
-use Rattle.step.proofs.try_relaxed.Lts as lts
-use Rattle.step.proofs.read_relaxed.Reads as read-relaxed-reads
-use Rattle.step.proofs.refusal_of.Reads as refusal-of-reads
-use Rattle.step.proofs.solve_lsi.Reads as solve-lsi-reads
-use Rattle.step.proofs.write_relaxed.Reads as write-relaxed-reads
 
--- src/lib.rt:206:9
 write-relaxed-requires : tie.Need-write-relaxed-requires
-write-relaxed-requires c κs = search needs
+write-relaxed-requires c κs = c .before .before .before .before .before .before .before .before .before .pre .0
 
--- src/lib.rt:207:23
 sub-solve-lsi : tie.Need-sub-solve-lsi
-sub-solve-lsi c = search needs
+sub-solve-lsi c = omega (arith, c .before .before .before .before .before .before .before .before .before .before .before .before .pre .0, c .before .before .write-relaxed .kept)
 
--- src/lib.rt:207:23
 part-solve-lsi-start : tie.Need-part-solve-lsi-start
-part-solve-lsi-start c = search needs
+part-solve-lsi-start c = omega (arith, c .before .before .before .before .before .before .before .before .before .before .before .before .pre .0, c .before .before .write-relaxed .kept)
 
--- src/lib.rt:207:23
 part-solve-lsi-end : tie.Need-part-solve-lsi-end
-part-solve-lsi-end c = search needs
+part-solve-lsi-end c = omega (arith, c .before .before .before .before .before .before .before .before .before .before .before .before .pre .0, c .before .before .write-relaxed .kept)
 
--- src/lib.rt:207:41
 add-solve-lsi : tie.Need-add-solve-lsi
-add-solve-lsi c = search needs
+add-solve-lsi c = omega (arith, c .before .before .before .before .before .before .before .before .before .before .before .before .before .before .pre .0 .lengths)
 
--- src/lib.rt:207:48
 add-solve-lsi-2 : tie.Need-add-solve-lsi-2
-add-solve-lsi-2 c = search needs
+add-solve-lsi-2 c = omega (arith, c .before .before .before .before .before .before .before .before .before .before .before .before .before .before .pre .0 .lengths)
 
--- src/lib.rt:207:9
 solve-lsi-requires : tie.Need-solve-lsi-requires
-solve-lsi-requires c κs = search needs
+solve-lsi-requires c κs = let s = c .before .before .before .before .before .before .before .before .before .before .before .before .before .before in
+    let k = c .before .before .before .before .write-relaxed in
+    (omega (arith, s .pre .0 .lengths), omega (arith, s .pre .0 .lengths), k .ensures .several, omega arith, omega arith)
 
 enum-told : tie.Need-enum-told
 enum-told c = search needs
 
--- src/lib.rt:210:31
 refusal-of-requires : tie.Need-refusal-of-requires
-refusal-of-requires c κs = search needs
+refusal-of-requires c κs = tt
 
--- src/lib.rt:210:9
 same-length : tie.Need-same-length
-same-length c = search needs
+same-length c = omega arith
 
--- src/lib.rt:210:9
 same-length-2 : tie.Need-same-length-2
-same-length-2 c = search needs
+same-length-2 c = omega arith
 
--- src/lib.rt:210:9
 returns : tie.Need-returns
-returns c = search needs
+returns c = let s = c .before .before .before .before .before .before .before .before .before .before .before .before .before .before .before .before .before .before .before .before .before in
+    let a = s .args in
+    let k = c .before .before .before .before .before .before .before .before .before .before .before .write-relaxed in
+    let e = c .before .before .before .before .before .before .solve-lsi in
+    relaxed-refused (withFactor (bare (a .n) (a .m) (a .kinds .now) (a .values .now) (a .jacobian .now) (a .lower .now) (a .upper .now)) (a .factor .now)) (vec 0 (a .n) (a .w .now)) (k .result) (k .last .1 .1 .1 .1 .1 .1 .0) (e .last .0) (e .result) (s .pre .0 .lengths .variables) (omega (arith, s .pre .0, k .kept)) (k .ensures) (e .ensures) (a .w .now) _ refl (c .refusal-of .ensures) (c .before .match .keys2)
 
--- src/lib.rt:212:9
 read-relaxed-requires : tie.Need-read-relaxed-requires
-read-relaxed-requires c κs = search needs
+read-relaxed-requires c κs = let s = c .before .before .before .before .before .before .before .before .before .before .before .before .before .before .before .before .before .before .before .before .before .before in
+    let a = s .args in
+    let k = c .before .before .before .before .before .before .before .before .before .before .before .before .write-relaxed in
+    let e = c .before .before .before .before .before .before .before .solve-lsi in
+    (record { variables = s .pre .0 .lengths .variables; constraints = s .pre .0 .lengths .constraints; kind = s .pre .0 .lengths .kind; room = omega (arith, s .pre .0, k .kept, same-len-mid 18 (length (k .last .1 .1 .1 .1 .1 .1 .0) - 18) (k .last .1 .1 .1 .1 .1 .1 .0) (e .last .0) (e .kept .0)) },
+    relaxed-counts (withFactor (bare (a .n) (a .m) (a .kinds .now) (a .values .now) (a .jacobian .now) (a .lower .now) (a .upper .now)) (a .factor .now)) (vec 0 (a .n) (a .w .now)) (k .result) (k .last .1 .1 .1 .1 .1 .1 .0) (s .pre .0 .lengths .kind) (k .ensures), k .ensures .several)
 
--- src/lib.rt:191:1
 same-length-3 : tie.Need-same-length-3
-same-length-3 c = search needs
+same-length-3 c = omega arith
 
--- src/lib.rt:191:1
 same-length-4 : tie.Need-same-length-4
-same-length-4 c = search needs
+same-length-4 c = omega arith
 
--- src/lib.rt:191:1
 returns-2 : tie.Need-returns-2
-returns-2 c = search needs
+returns-2 c = let s = c .before .before .before .before .before .before .before .before .before .before .before .before .before .before .before .before .before .before .before .before .before .before .before .before .before in
+    let a = s .args in
+    let k = c .before .before .before .before .before .before .before .before .before .before .before .before .before .before .before .write-relaxed in
+    let e = c .before .before .before .before .before .before .before .before .before .before .solve-lsi in
+    relaxed-done (withFactor (bare (a .n) (a .m) (a .kinds .now) (a .values .now) (a .jacobian .now) (a .lower .now) (a .upper .now)) (a .factor .now)) (vec 0 (a .n) (a .w .now)) (k .result) (k .last .1 .1 .1 .1 .1 .1 .0) (e .last .0) (e .result) (s .pre .0 .lengths .variables) (omega (arith, s .pre .0, k .kept)) (k .ensures) (e .ensures) (a .w .now) _ _ refl (c .before .before .before .before .enum-told .given .1) (c .before .before .read-relaxed .ensures .0) (c .before .before .read-relaxed .ensures .1)
 
 pub try-relaxed-spec : {M : Type 1} → statement M
 try-relaxed-spec =

@@ -2,7 +2,7 @@
 use native.Mathlib.Omega.{arith}
 use Rattle.subproblem.specs.Problem.{deltaRows}
 use Rattle.workspace.proofs.Readings.{lit-+0}
-use Rattle.subproblem.proofs.Literals.{lit-one}
+use Rattle.lsei.proofs.Dual.{lit-one}
 use Rattle.subproblem.proofs.Pushing.{pushed-two}
 use Rattle.subproblem.proofs.push_delta.Statement.{statement}
 use Rattle.subproblem.proofs.push_delta.Tie as tie

@@ -2,7 +2,7 @@
 use native.Mathlib.Omega.{arith}
 use borrow.Author.Needs.{needs}
 use Rattle.subproblem.proofs.Pushing.{pushed-none}
-use Rattle.subproblem.proofs.Literals.{lit-one}
+use Rattle.lsei.proofs.Dual.{lit-one}
 use Rattle.subproblem.proofs.push_upper.Statement.{statement}
 use Rattle.subproblem.proofs.push_upper.Tie as tie
 
