@@ -1,0 +1,3 @@
+pub mod Loading
+pub mod Giving
+pub mod Calls
