@@ -233,7 +233,15 @@ fn are_sizes(n: usize, m: usize) -> bool
 }
 
 // The lengths of the factor, the gradient, the kinds, the values and the Jacobian.
-fn are_lengths(n: usize, m: usize, factor: usize, gradient: usize, kinds: usize, values: usize, jacobian: usize) -> bool
+fn are_lengths(
+    n: usize,
+    m: usize,
+    factor: usize,
+    gradient: usize,
+    kinds: usize,
+    values: usize,
+    jacobian: usize,
+) -> bool
     requires { ⌜ (n ≤ 16) × (m ≤ 16) ⌝ }
     ensures { λ r. ⌜ r ≡ (eqb factor (n * n) && eqb gradient n && eqb kinds m && eqb values m && eqb jacobian (m * n)) ⌝ }
 {
@@ -299,7 +307,19 @@ fn step_all(
     requires { ⌜ Lent n m (now factor) (now gradient) (now kinds) (now values) (now jacobian) (now lower) (now upper) (now d) (now multipliers) (now w) (now iw) ⌝ }
     ensures { λ r. ⌜ Steps (step (problemOf n m (now (factor .entry)) (now (gradient .entry)) (now (kinds .entry)) (now (values .entry)) (now (jacobian .entry)) (now (lower .entry)) (now (upper .entry))) .answer) (numberOf r) (relaxationOf r) (now (d .entry)) (now (d .exit)) (now (multipliers .entry)) (now (multipliers .exit)) (now (w .entry)) (now (w .exit)) (now (iw .entry)) (now (iw .exit)) ⌝ }
 {
-    let t = solve_step(factor, gradient, kinds, values, jacobian, lower, upper, &mut w[..8192], &mut iw[..512], n, m);
+    let t = solve_step(
+        factor,
+        gradient,
+        kinds,
+        values,
+        jacobian,
+        lower,
+        upper,
+        &mut w[..8192],
+        &mut iw[..512],
+        n,
+        m,
+    );
     match t {
         Tried::Done(relaxation, _, _) => {
             workspace::unload(w, d, 18, n);
@@ -336,7 +356,15 @@ impl Step {
         if !are_sizes(n, m) {
             return Outcome::Refused(1);
         }
-        if !are_lengths(n, m, factor.len(), gradient.len(), kinds.len(), values.len(), jacobian.len()) {
+        if !are_lengths(
+            n,
+            m,
+            factor.len(),
+            gradient.len(),
+            kinds.len(),
+            values.len(),
+            jacobian.len(),
+        ) {
             return Outcome::Refused(2);
         }
         if !are_widths(n, m, lower.len(), upper.len(), d.len(), multipliers.len()) {
@@ -348,6 +376,20 @@ impl Step {
         if !are_kinds(kinds) {
             return Outcome::Refused(4);
         }
-        step_all(factor, gradient, kinds, values, jacobian, lower, upper, d, multipliers, w, iw, n, m)
+        step_all(
+            factor,
+            gradient,
+            kinds,
+            values,
+            jacobian,
+            lower,
+            upper,
+            d,
+            multipliers,
+            w,
+            iw,
+            n,
+            m,
+        )
     }
 }

@@ -25,9 +25,11 @@ slice-aggregate-solve-step-2 c = let s = c .before .before .before .before .befo
 
 solve-step-requires : tie.Need-solve-step-requires
 solve-step-requires c κs = let s = c .before .before .before .before .before .before .before .before .before .before .before .before .before in
-    let p = s .pre in
-    (record { lengths = p .lengths; square = p .square; room = omega (arith, length-take-le 8192 (s .args .w .now) (p .floats)) }, p .slope,
-    omega (arith, length-take-le 512 (s .args .iw .now) (p .words)))
+    let p = s .pre in (
+      record { lengths = p .lengths; square = p .square; room = omega (arith, length-take-le 8192 (s .args .w .now) (p .floats)) },
+      p .slope,
+      omega (arith, length-take-le 512 (s .args .iw .now) (p .words)),
+    )
 
 enum-known-t : tie.Need-enum-known-t
 enum-known-t c = search needs
