@@ -7,7 +7,7 @@ use Prim.Native.Nat.{ℕ, suc, _+_, _*_, _≤_, _<_}
 use native.Mathlib.Numerals.{add-one}
 use native.Mathlib.Omega.{arith}
 use lib.Dec.{eqb, leb}
-use lib.ListN.{length, drop, drop-of-length-le}
+use lib.ListN.{length, drop, drop-of-length-le, length-append}
 use lib.Seq.{drop-cons}
 use lib.Ieee.{Float}
 use borrow.Author.Tests.{le-leb, lt-leb, eqb-true}
@@ -60,7 +60,7 @@ kinds-all ks j h e = sym (e ∙ ap areKinds (drop-of-length-le ks {i = j} h))
 
 -- ---- the call, by what its tests found
 
-module _ (a : Answer Step) (s l r k : Bool) (d d' x x' w w' : List Float) (iw iw' : List ℕ) where
+module _ (a : Answer Step) (s l r k : Bool) (d x w : List Float) (iw : List ℕ) where
   pub size-refused : s ≡ false → Steps (call s l r k a) 1 none d d x x w w iw iw
   size-refused e = rw e (record { the-number = refl; the-relaxation = refl; the-d = refl; the-multipliers = refl; the-floats = refl; the-words = refl })
 
@@ -73,8 +73,9 @@ module _ (a : Answer Step) (s l r k : Bool) (d d' x x' w w' : List Float) (iw iw
   pub kind-refused : s ≡ true → l ≡ true → r ≡ true → k ≡ false → Steps (call s l r k a) 4 none d d x x w w iw iw
   kind-refused e f g h = rw (e, f, g, h) (record { the-number = refl; the-relaxation = refl; the-d = refl; the-multipliers = refl; the-floats = refl; the-words = refl })
 
-  pub call-answered : (n : ℕ) (o : Option Float) → s ≡ true → l ≡ true → r ≡ true → k ≡ true → Steps a n o d d' x x' w w' iw iw' → Steps (call s l r k a) n o d d' x x' w w' iw iw'
-  call-answered n o e f g h t = rw (e, f, g, h) t
+pub call-answered : (a : Answer Step) (s l r k : Bool) (n : ℕ) (o : Option Float) (d d' x x' w w' : List Float) (iw iw' : List ℕ)
+    → s ≡ true → l ≡ true → r ≡ true → k ≡ true → Steps a n o d d' x x' w w' iw iw' → Steps (call s l r k a) n o d d' x x' w w' iw iw'
+call-answered a s l r k n o d d' x x' w w' iw iw' e f g h t = rw (e, f, g, h) t
 
 -- the nine lengths in two tests
 pub lengths-bad : (a b c d e : Bool) → a ≡ false → (a && b && c && d && e) ≡ false
@@ -129,3 +130,7 @@ module _ (n m : ℕ) (c : Counted Step) (d x v w w' : List Float) (u iw iw' : Li
         the-floats = floats-cleared;
         the-words = words-cleared;
       })
+
+-- the first k entries came back as v, and the whole is at least as long
+pub front-long : {A : Type 0} (k : ℕ) (v w : List A) → length v ≡ k → k ≤ length (v ++ drop k w)
+front-long k v w e = omega (arith, length-append v (drop k w))

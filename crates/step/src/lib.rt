@@ -8,13 +8,15 @@ ghost use Prim.Native.Nat.{ℕ, _+_, _*_, _≤_, _<_};
 ghost use lib.Dec.{eqb};
 ghost use lib.ListN.{length, take};
 ghost use Rattle.numbers.specs.Numbers.{at};
-ghost use Rattle.workspace.specs.Readings.{vec, mat, stack};
-ghost use Rattle.subproblem.specs.Problem.{Problem};
+ghost use Rattle.workspace.specs.Tables.{isDimension, isEqualities};
+ghost use Rattle.workspace.specs.Readings.{vec};
+ghost use Rattle.nnls.specs.Counted.{Counted};
 ghost use Rattle.subproblem.specs.Claims.{withFactor};
+ghost use Rattle.subproblem.specs.Promise.{areKinds, stepCall, Steps};
 ghost use Rattle.subproblem.specs.Step.{inOrder, paired, clamped, exact, relaxed, step};
 ghost use Rattle.subproblem.specs.Work.{bare, equalitiesAmong, inequalitiesAmong, relaxedAmong};
 ghost use Rattle.step.specs.Outcomes.{numberOf, relaxationOf};
-ghost use Rattle.step.specs.Work.{problemOf, Ready, ExactIn, RelaxedIn, Readable, Left, refusalOf, takenIn, Tries, roundsOf, factoringsOf, later, IsLate};
+ghost use Rattle.step.specs.Work.{problemOf, Ready, ExactIn, RelaxedIn, Readable, Left, refusalOf, takenIn, Tries, roundsOf, factoringsOf, later, IsLate, Lent};
 
 // The solver of the step.
 pub struct Step {}
@@ -216,4 +218,178 @@ pub fn solve_step(
     };
     let second = try_relaxed(factor, kinds, values, jacobian, lower, upper, w, iw, n, m);
     after(second, rounds, factorings)
+}
+
+// ---- the call
+
+// The numbers of variables and constraints.
+fn are_sizes(n: usize, m: usize) -> bool
+    ensures { λ r. ⌜ r ≡ (isDimension n && isEqualities m) ⌝ }
+{
+    if !workspace::is_dimension(n) {
+        return false;
+    }
+    workspace::is_equalities(m)
+}
+
+// The lengths of the factor, the gradient, the kinds, the values and the Jacobian.
+fn are_lengths(
+    n: usize,
+    m: usize,
+    factor: usize,
+    gradient: usize,
+    kinds: usize,
+    values: usize,
+    jacobian: usize,
+) -> bool
+    requires { ⌜ (n ≤ 16) × (m ≤ 16) ⌝ }
+    ensures { λ r. ⌜ r ≡ (eqb factor (n * n) && eqb gradient n && eqb kinds m && eqb values m && eqb jacobian (m * n)) ⌝ }
+{
+    if factor != n * n {
+        return false;
+    }
+    if gradient != n {
+        return false;
+    }
+    if kinds != m {
+        return false;
+    }
+    if values != m {
+        return false;
+    }
+    jacobian == m * n
+}
+
+// The lengths of the bounds and of the two outputs.
+fn are_widths(n: usize, m: usize, lower: usize, upper: usize, d: usize, multipliers: usize) -> bool
+    ensures { λ r. ⌜ r ≡ (eqb lower n && eqb upper n && eqb d n && eqb multipliers m) ⌝ }
+{
+    if lower != n {
+        return false;
+    }
+    if upper != n {
+        return false;
+    }
+    if d != n {
+        return false;
+    }
+    multipliers == m
+}
+
+// Every kind is 0 or 1.
+fn are_kinds(kinds: &[u8]) -> bool
+    ensures { λ r. ⌜ r ≡ areKinds (now (kinds .entry)) ⌝ }
+{
+    for j in 0..kinds.len() {
+        if kinds[j] > 1 {
+            return false;
+        }
+    }
+    true
+}
+
+// The step, its outputs and the clearing of the workspaces, where no test refuses.
+fn step_all(
+    factor: &[f64],
+    gradient: &[f64],
+    kinds: &[u8],
+    values: &[f64],
+    jacobian: &[f64],
+    lower: &[f64],
+    upper: &[f64],
+    d: &mut [f64],
+    multipliers: &mut [f64],
+    w: &mut [f64],
+    iw: &mut [u32],
+    n: usize,
+    m: usize,
+) -> Outcome
+    requires { ⌜ Lent n m (now factor) (now gradient) (now kinds) (now values) (now jacobian) (now lower) (now upper) (now d) (now multipliers) (now w) (now iw) ⌝ }
+    ensures { λ r. ⌜ Steps (step (problemOf n m (now (factor .entry)) (now (gradient .entry)) (now (kinds .entry)) (now (values .entry)) (now (jacobian .entry)) (now (lower .entry)) (now (upper .entry))) .answer) (numberOf r) (relaxationOf r) (now (d .entry)) (now (d .exit)) (now (multipliers .entry)) (now (multipliers .exit)) (now (w .entry)) (now (w .exit)) (now (iw .entry)) (now (iw .exit)) ⌝ }
+{
+    let t = solve_step(
+        factor,
+        gradient,
+        kinds,
+        values,
+        jacobian,
+        lower,
+        upper,
+        &mut w[..8192],
+        &mut iw[..512],
+        n,
+        m,
+    );
+    match t {
+        Tried::Done(relaxation, _, _) => {
+            workspace::unload(w, d, 18, n);
+            workspace::unload(w, multipliers, 36, m);
+            workspace::clear(w, iw);
+            Outcome::Done(relaxation)
+        }
+        Tried::Refused(k, _, _) => {
+            workspace::clear(w, iw);
+            Outcome::Refused(k)
+        }
+    }
+}
+
+impl Step {
+    // The step d of n variables and m constraints, with a multiplier for each constraint and the relaxation.
+    pub fn solve(
+        n: usize,
+        m: usize,
+        factor: &[f64],
+        gradient: &[f64],
+        kinds: &[u8],
+        values: &[f64],
+        jacobian: &[f64],
+        lower: &[f64],
+        upper: &[f64],
+        d: &mut [f64],
+        multipliers: &mut [f64],
+        w: &mut [f64],
+        iw: &mut [u32],
+    ) -> Outcome
+        ensures { λ r. ⌜ Steps (stepCall (problemOf n m (now (factor .entry)) (now (gradient .entry)) (now (kinds .entry)) (now (values .entry)) (now (jacobian .entry)) (now (lower .entry)) (now (upper .entry))) (now (d .entry)) (now (multipliers .entry)) (now (w .entry)) (now (iw .entry))) (numberOf r) (relaxationOf r) (now (d .entry)) (now (d .exit)) (now (multipliers .entry)) (now (multipliers .exit)) (now (w .entry)) (now (w .exit)) (now (iw .entry)) (now (iw .exit)) ⌝ }
+    {
+        if !are_sizes(n, m) {
+            return Outcome::Refused(1);
+        }
+        if !are_lengths(
+            n,
+            m,
+            factor.len(),
+            gradient.len(),
+            kinds.len(),
+            values.len(),
+            jacobian.len(),
+        ) {
+            return Outcome::Refused(2);
+        }
+        if !are_widths(n, m, lower.len(), upper.len(), d.len(), multipliers.len()) {
+            return Outcome::Refused(2);
+        }
+        if !workspace::is_room(w.len(), iw.len()) {
+            return Outcome::Refused(3);
+        }
+        if !are_kinds(kinds) {
+            return Outcome::Refused(4);
+        }
+        step_all(
+            factor,
+            gradient,
+            kinds,
+            values,
+            jacobian,
+            lower,
+            upper,
+            d,
+            multipliers,
+            w,
+            iw,
+            n,
+            m,
+        )
+    }
 }

@@ -31,10 +31,11 @@ same-length c = omega arith
 
 returns : tie.Need-returns
 returns c = let s = c .before .before .before .before .before .before .before .before .before .before .before .before in
-    let a = s .args in
-    (c .before .before .before .before .before .before .before .before .clamp .ensures ∙ ap clamped (last-vec 378 (a .n) (a .w .now)),
-    rw take-vec
-    (left-is 378 _ _ _ _ _ _ (s .pre .0 .variables) (s .pre .0 .constraints) (omega arith) (length-paired _ _ _ ∙ s .pre .0 .kind) (c .before .before .before .before .before .before .pair-multipliers .ensures) (c .before .before .copy-down .ensures)))
+    let a = s .args in (
+      c .before .before .before .before .before .before .before .before .clamp .ensures ∙ ap clamped (last-vec 378 (a .n) (a .w .now)),
+      rw take-vec
+          (left-is 378 _ _ _ _ _ _ (s .pre .0 .variables) (s .pre .0 .constraints) (omega arith) (length-paired _ _ _ ∙ s .pre .0 .kind) (c .before .before .before .before .before .before .pair-multipliers .ensures) (c .before .before .copy-down .ensures)),
+    )
 
 pub read-relaxed-spec : {M : Type 1} → statement M
 read-relaxed-spec =

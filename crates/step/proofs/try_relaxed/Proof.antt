@@ -59,9 +59,11 @@ read-relaxed-requires : tie.Need-read-relaxed-requires
 read-relaxed-requires c κs = let s = c .before .before .before .before .before .before .before .before .before .before .before .before .before .before .before .before .before .before .before .before .before .before in
     let a = s .args in
     let k = c .before .before .before .before .before .before .before .before .before .before .before .before .write-relaxed in
-    let e = c .before .before .before .before .before .before .before .solve-lsi in
-    (record { variables = s .pre .0 .lengths .variables; constraints = s .pre .0 .lengths .constraints; kind = s .pre .0 .lengths .kind; room = omega (arith, s .pre .0, k .kept, same-len-mid 18 (length (k .last .1 .1 .1 .1 .1 .1 .0) - 18) (k .last .1 .1 .1 .1 .1 .1 .0) (e .last .0) (e .kept .0)) },
-    relaxed-counts (withFactor (bare (a .n) (a .m) (a .kinds .now) (a .values .now) (a .jacobian .now) (a .lower .now) (a .upper .now)) (a .factor .now)) (vec 0 (a .n) (a .w .now)) (k .result) (k .last .1 .1 .1 .1 .1 .1 .0) (s .pre .0 .lengths .kind) (k .ensures), k .ensures .several)
+    let e = c .before .before .before .before .before .before .before .solve-lsi in (
+      record { variables = s .pre .0 .lengths .variables; constraints = s .pre .0 .lengths .constraints; kind = s .pre .0 .lengths .kind; room = omega (arith, s .pre .0, k .kept, same-len-mid 18 (length (k .last .1 .1 .1 .1 .1 .1 .0) - 18) (k .last .1 .1 .1 .1 .1 .1 .0) (e .last .0) (e .kept .0)) },
+      relaxed-counts (withFactor (bare (a .n) (a .m) (a .kinds .now) (a .values .now) (a .jacobian .now) (a .lower .now) (a .upper .now)) (a .factor .now)) (vec 0 (a .n) (a .w .now)) (k .result) (k .last .1 .1 .1 .1 .1 .1 .0) (s .pre .0 .lengths .kind) (k .ensures),
+      k .ensures .several,
+    )
 
 same-length-3 : tie.Need-same-length-3
 same-length-3 c = omega arith
