@@ -1,3 +1,4 @@
 pub mod Interface
 pub mod Factors
 pub mod Counts
+pub mod Relaxations

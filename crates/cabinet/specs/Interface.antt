@@ -11,6 +11,8 @@ use Rattle.qr.specs.Promise.{Factored}
 use Rattle.qr.specs.declared.Outcome as Qr
 use Rattle.qr.specs.declared.Outcome.the-variants as qr
 use Rattle.nnls.specs.Promise.{Told, Nnls}
+use Rattle.subproblem.specs.Step.{Step}
+use Rattle.subproblem.specs.Promise.{Steps}
 use Rattle.nonnegative.specs.declared.Outcome as Nonnegative
 use Rattle.nonnegative.specs.declared.Outcome.the-variants as nonnegative
 
@@ -22,6 +24,10 @@ pub record NnlsLeaves (c : Answer Told) (k rounds rounds' factorings factorings'
   pub the-call : Nnls c k (value c (λ t. t .rounds)) (value c (λ t. t .factorings)) x x' w w' iw iw'
   pub the-rounds : rounds' ≡ output c (λ t. t .rounds) rounds
   pub the-factorings : factorings' ≡ output c (λ t. t .factorings) factorings
+
+pub record StepLeaves (c : Answer Step) (k : ℕ) (relaxation relaxation' : Float) (d d' l l' w w' : List Float) (iw iw' : List ℕ) : Type 0 where
+  pub the-call : Steps c k (value c (λ s. s .relaxation)) d d' l l' w w' iw iw'
+  pub the-relaxation : relaxation' ≡ output c (λ s. s .relaxation) relaxation
 
 -- ---- steps on the way
 

@@ -4,13 +4,22 @@ ghost use Rattle.numbers.specs.Root.{sqrtOf, sumOf, norm};
 ghost use Rattle.hessian.specs.Promise.{Writes, identityCall, timesCall, choleskyCall, updateCall};
 ghost use Rattle.hessian.specs.Outcomes.{numberOf};
 ghost use Rattle.nnls.specs.Promise.{nnlsCall};
-ghost use Rattle.cabinet.specs.Interface.{QrLeaves, NnlsLeaves, orOld, RankFits, CountsFit};
+ghost use Rattle.cabinet.specs.Interface.{QrLeaves, NnlsLeaves, StepLeaves, orOld, RankFits, CountsFit};
+ghost use Rattle.subproblem.specs.Promise.{stepCall};
+ghost use Rattle.step.specs.Outcomes as Relaxations;
+ghost use Rattle.step.specs.Work.{problemOf};
 ghost use Rattle.qr.specs.Promise.{qrCall};
 ghost use Rattle.qr.specs.Outcomes as Ranks;
 ghost use Rattle.nonnegative.specs.Outcomes as Counts;
+ghost use Rattle.lsei.specs.Promise.{Solves, ldpCall, lsiCall, lseiCall};
+ghost use Rattle.constrained.specs.Outcomes as Endings;
+use constrained::Ldp;
+use constrained::Lsei;
+use constrained::Lsi;
 use hessian::Hessian;
 use nonnegative::Nnls;
 use qr::Qr;
+use step::Step;
 
 // The square root.
 #[no_mangle]
@@ -149,6 +158,84 @@ pub extern "C" fn gritstrut_nnls(
     nnls_number(answer)
 }
 
+// The number of an answer of LDP, LSI or LSEI.
+fn solve_number(answer: constrained::Outcome) -> u32
+    ensures { λ k. ⌜ k ≡ Endings.numberOf answer ⌝ }
+{
+    match answer {
+        constrained::Outcome::Done => 0,
+        constrained::Outcome::Size => 1,
+        constrained::Outcome::Length => 2,
+        constrained::Outcome::Room => 3,
+        constrained::Outcome::Deficient => 5,
+        constrained::Outcome::Infeasible => 6,
+        constrained::Outcome::Capped => 7,
+    }
+}
+
+// Least distance programming.
+#[no_mangle]
+pub extern "C" fn gritstrut_ldp(
+    m: usize,
+    n: usize,
+    g: &[f64],
+    h: &[f64],
+    x: &mut [f64],
+    multipliers: &mut [f64],
+    w: &mut [f64],
+    iw: &mut [u32],
+) -> u32
+    ensures { λ k. ⌜ Solves (ldpCall m n (now (g .entry)) (now (h .entry)) (now (x .entry)) (now (multipliers .entry)) (now (w .entry)) (now (iw .entry))) k (now (x .entry)) (now (x .exit)) (now (multipliers .entry)) (now (multipliers .exit)) (now (w .entry)) (now (w .exit)) (now (iw .entry)) (now (iw .exit)) ⌝ }
+{
+    let answer = Ldp::solve(m, n, g, h, x, multipliers, w, iw);
+    solve_number(answer)
+}
+
+// Least squares with inequalities.
+#[no_mangle]
+pub extern "C" fn gritstrut_lsi(
+    n: usize,
+    me: usize,
+    mg: usize,
+    e: &[f64],
+    f: &[f64],
+    g: &[f64],
+    h: &[f64],
+    x: &mut [f64],
+    multipliers: &mut [f64],
+    w: &mut [f64],
+    iw: &mut [u32],
+) -> u32
+    ensures { λ k. ⌜ Solves (lsiCall n me mg (now (e .entry)) (now (f .entry)) (now (g .entry)) (now (h .entry)) (now (x .entry)) (now (multipliers .entry)) (now (w .entry)) (now (iw .entry))) k (now (x .entry)) (now (x .exit)) (now (multipliers .entry)) (now (multipliers .exit)) (now (w .entry)) (now (w .exit)) (now (iw .entry)) (now (iw .exit)) ⌝ }
+{
+    let answer = Lsi::solve(n, me, mg, e, f, g, h, x, multipliers, w, iw);
+    solve_number(answer)
+}
+
+// Least squares with equalities and inequalities.
+#[no_mangle]
+pub extern "C" fn gritstrut_lsei(
+    n: usize,
+    mc: usize,
+    me: usize,
+    mg: usize,
+    c: &[f64],
+    d: &[f64],
+    e: &[f64],
+    f: &[f64],
+    g: &[f64],
+    h: &[f64],
+    x: &mut [f64],
+    multipliers: &mut [f64],
+    w: &mut [f64],
+    iw: &mut [u32],
+) -> u32
+    ensures { λ k. ⌜ Solves (lseiCall n mc me mg (now (c .entry)) (now (d .entry)) (now (e .entry)) (now (f .entry)) (now (g .entry)) (now (h .entry)) (now (x .entry)) (now (multipliers .entry)) (now (w .entry)) (now (iw .entry))) k (now (x .entry)) (now (x .exit)) (now (multipliers .entry)) (now (multipliers .exit)) (now (w .entry)) (now (w .exit)) (now (iw .entry)) (now (iw .exit)) ⌝ }
+{
+    let answer = Lsei::solve(n, mc, me, mg, c, d, e, f, g, h, x, multipliers, w, iw);
+    solve_number(answer)
+}
+
 // ---- the approximation B
 
 // The number of an answer of an operation on B.
@@ -218,4 +305,66 @@ pub extern "C" fn gritstrut_update(
 {
     let answer = Hessian::update(n, b, s, y, w, iw);
     number_of(answer)
+}
+
+// ---- the step
+
+// The number of an answer of the step.
+fn step_number(answer: step::Outcome) -> u32
+    ensures { λ k. ⌜ k ≡ Relaxations.numberOf answer ⌝ }
+{
+    match answer {
+        step::Outcome::Done(relaxation) => 0,
+        step::Outcome::Refused(k) => k,
+    }
+}
+
+// Its relaxation, or the old value.
+fn relaxation_or(answer: step::Outcome, old: f64) -> f64
+    ensures { λ r. ⌜ r ≡ orOld (Relaxations.relaxationOf answer) old ⌝ }
+{
+    match answer {
+        step::Outcome::Done(relaxation) => relaxation,
+        step::Outcome::Refused(k) => old,
+    }
+}
+
+// The step of one SQP iteration.
+#[no_mangle]
+pub extern "C" fn gritstrut_step(
+    n: usize,
+    m: usize,
+    factor: &[f64],
+    gradient: &[f64],
+    kinds: &[u8],
+    values: &[f64],
+    jacobian: &[f64],
+    lower: &[f64],
+    upper: &[f64],
+    d: &mut [f64],
+    multipliers: &mut [f64],
+    relaxation: &mut f64,
+    w: &mut [f64],
+    iw: &mut [u32],
+) -> u32
+    ensures { λ k. ⌜ StepLeaves (stepCall (problemOf n m (now (factor .entry)) (now (gradient .entry)) (now (kinds .entry)) (now (values .entry)) (now (jacobian .entry)) (now (lower .entry)) (now (upper .entry))) (now (d .entry)) (now (multipliers .entry)) (now (w .entry)) (now (iw .entry))) k (now (relaxation .entry)) (now (relaxation .exit))
+        (now (d .entry)) (now (d .exit)) (now (multipliers .entry)) (now (multipliers .exit)) (now (w .entry)) (now (w .exit)) (now (iw .entry)) (now (iw .exit)) ⌝ }
+{
+    let answer = Step::solve(
+        n,
+        m,
+        factor,
+        gradient,
+        kinds,
+        values,
+        jacobian,
+        lower,
+        upper,
+        d,
+        multipliers,
+        w,
+        iw,
+    );
+    *relaxation = relaxation_or(answer, *relaxation);
+    step_number(answer)
 }
