@@ -267,7 +267,7 @@ fn count(iw: &mut [u32], n: usize)
 }
 
 // The smaller of two numbers.
-fn smaller(m: usize, n: usize) -> usize
+pub fn smaller(m: usize, n: usize) -> usize
     ensures { λ r. ⌜ r ≡ min m n ⌝ }
 {
     if m <= n { m } else { n }
@@ -380,7 +380,7 @@ pub fn place(w: &mut [f64], iw: &[u32], n: usize, k: usize)
 }
 
 // The n entries that iw names of the vector at o, into the solution.
-pub fn pick(w: &mut [f64], iw: &[u32], n: usize, o: usize)
+pub fn pick(w: &mut [f64], iw: &[u32], o: usize, n: usize)
     requires { ⌜ (n ≤ 66) × (426 ≤ o) × (n ≤ length (now iw)) × ((t : ℕ) → t < n → o + nth (now iw) t < length (now w)) ⌝ }
     ensures { λ _. ⌜ Block 360 n (λ t. at (now (w .entry)) (o + nth (now (iw .entry)) t)) (now (w .entry)) (now (w .exit)) ⌝ }
 {

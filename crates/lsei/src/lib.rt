@@ -134,7 +134,7 @@ fn reduce_row(w: &mut [f64], iw: &[u32], n: usize, i: usize)
     ensures { λ _. ⌜ ReducedRow n i (now (iw .entry)) (now (w .entry)) (now (w .exit)) ⌝ }
 {
     let o = 750 + i * 18;
-    householder::pick(w, iw, n, o);
+    householder::pick(w, iw, o, n);
     workspace::copy_up(w, 360, o, n);
     householder::solve_rt(w, n, n, o);
     let t = numbers::dot_within(w, o, 732, n);

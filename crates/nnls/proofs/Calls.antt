@@ -1,18 +1,17 @@
 -- Demand 3 through the promise: what a done call tells is sound. Assumes nothing.
-use mathlib.Core.Path.{_≡_, refl, sym, ap, _∙_, subst}
+use mathlib.Core.Path.{_≡_, sym, subst}
 use mathlib.Core.Bool.{Bool, true, false, _&&_}
 use mathlib.Core.List.{List}
 use mathlib.Core.Option.{Option, none, some}
-use Prim.Native.Nat.{ℕ, _+_, _*_, _≤_}
+use Prim.Native.Nat.{ℕ, _*_}
 use native.Mathlib.Omega.{arith}
 use lib.Dec.{leb}
 use lib.Ieee.{Float}
 use Rattle.workspace.specs.Tables.{Answer, done, refused, call, isDual, isRoom, has}
 use Rattle.passive.specs.Passive.{solveOf}
-use Rattle.nnls.specs.Counted.{Counted}
 use Rattle.nnls.specs.Nnls.{Accepted, dualOf, nnls}
 use Rattle.nnls.specs.Claims.{Sound, SoundCounted, SoundCall}
-use Rattle.nnls.specs.Promise.{Told, tell, nnlsCall, Nnls}
+use Rattle.nnls.specs.Promise.{tell, nnlsCall, Nnls}
 use Rattle.nnls.proofs.Solves.{nnls-sound}
 
 module _ (m n k : ℕ) (a b x x' w w' : List Float) (iw iw' : List ℕ) (r f : Option ℕ) (rounds factorings : ℕ) (er : r ≡ some rounds) (ef : f ≡ some factorings) where

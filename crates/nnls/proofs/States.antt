@@ -7,10 +7,10 @@ use native.Mathlib.Nat.{zero-add}
 use native.Mathlib.Omega.{arith}
 use lib.ListN.{length, set, replicate}
 use lib.Ieee.{Float}
-use Rattle.numbers.specs.Numbers.{at, nth, tab}
+use Rattle.numbers.specs.Numbers.{+0, at, nth, tab}
 use Rattle.numbers.proofs.Lists.{tab-replicate}
 use Rattle.workspace.specs.Readings.{vec, mat, nums, Block, Span}
-use Rattle.workspace.proofs.Readings.{vec-same, mat-same, nth-nums, nums-same, nums-set}
+use Rattle.workspace.proofs.Readings.{vec-is, vec-same, mat-same, nth-nums, nums-same, nums-set}
 use Rattle.workspace.proofs.Writes.{block-vec, span-nums}
 use Rattle.passive.specs.Work.{Solves}
 use Rattle.nnls.specs.State.{State, read, put, solveIn}
@@ -50,20 +50,28 @@ read-solve m n r w w′ l l′ m18 n66 h =
     (same-vec m n w w′ m18 n66 1206 (λ x a b. h .before x (omega arith))) (h .values) (same-vec m n w w′ m18 n66 1338 (λ x a b. h .after x (omega arith) (omega arith)))
     (same-marks n 0 l l′ n66 (λ x a b. h .marks x (omega arith))) (same-marks n 66 l l′ n66 (λ x a b. h .marks x (omega arith)))
 
--- ---- cleared marks, a cleared x, and z into x
+-- ---- a start, cleared rejected marks, and z into x
 
 pub read-unrejected : (m n : ℕ) (w : List Float) (l l′ : List ℕ) → n ≤ 66 → Span 66 n (λ _. 0) l l′
     → read m n w l′ ≡ put (vec 1206 n w) (vec 1272 n w) (vec 1338 n w) (nums 0 n l) (replicate n 0) (read m n w l)
 read-unrejected m n w l l′ n66 h =
     states refl refl refl refl refl (same-marks n 0 l l′ n66 (λ x a b. h .before x (omega arith))) (span-nums 66 n (λ _. 0) l l′ h ∙ tab-replicate n 0)
 
-pub read-unmarked : (m n : ℕ) (w : List Float) (l l′ : List ℕ) → n ≤ 66 → Span 0 n (λ _. 0) l l′
-    → read m n w l′ ≡ put (vec 1206 n w) (vec 1272 n w) (vec 1338 n w) (replicate n 0) (nums 66 n l) (read m n w l)
-read-unmarked m n w l l′ n66 h =
-    states refl refl refl refl refl (span-nums 0 n (λ _. 0) l l′ h ∙ tab-replicate n 0) (same-marks n 66 l l′ n66 (λ x a b. h .after x (omega arith)))
-
-module _ (m n : ℕ) (f : ℕ → Float) (w w′ : List Float) (l : List ℕ) (m18 : m ≤ 18) (n66 : n ≤ 66) (h : Block 1206 n f w w′) where
-  pub read-x : read m n w′ l ≡ put (tab n f) (vec 1272 n w) (vec 1338 n w) (nums 0 n l) (nums 66 n l) (read m n w l)
-  read-x =
+module _ (m n : ℕ) (w w′ : List Float) (m18 : m ≤ 18) (n66 : n ≤ 66) where
+  read-x : (f : ℕ → Float) (l : List ℕ) → Block 1206 n f w w′ → read m n w′ l ≡ put (tab n f) (vec 1272 n w) (vec 1338 n w) (nums 0 n l) (nums 66 n l) (read m n w l)
+  read-x f l h =
       states (same-a m n w w′ m18 n66 (λ x a. h .before x (omega arith))) (same-b m n w w′ m18 n66 (λ x a b. h .before x (omega arith)))
       (block-vec 1206 n f w w′ h) (same-vec m n w w′ m18 n66 1272 (λ x a b. h .after x (omega arith))) (same-vec m n w w′ m18 n66 1338 (λ x a b. h .after x (omega arith))) refl refl
+
+  pub read-start : (l l′ : List ℕ) → Block 1206 n (λ _. +0) w w′ → Span 0 n (λ _. 0) l l′
+      → read m n w′ l′ ≡ put (replicate n +0) (vec 1272 n w) (vec 1338 n w) (replicate n 0) (nums 66 n l) (read m n w l)
+  read-start l l′ h k =
+      states refl refl refl refl refl (span-nums 0 n (λ _. 0) l l′ k ∙ tab-replicate n 0) (same-marks n 66 l l′ n66 (λ x a b. k .after x (omega arith)))
+      ∙ ap (λ (q : State). put (q .x) (q .z) (q .dual) (replicate n 0) (q .rejected) q) (read-x (λ _. +0) l h)
+      ∙ ap (λ (x : List Float). put x (vec 1272 n w) (vec 1338 n w) (replicate n 0) (nums 66 n l) (read m n w l)) (tab-replicate n +0)
+
+  pub read-copied : (l : List ℕ) → Block 1206 n (λ i. at w (1272 + i)) w w′
+      → read m n w′ l ≡ put (vec 1272 n w) (vec 1272 n w) (vec 1338 n w) (nums 0 n l) (nums 66 n l) (read m n w l)
+  read-copied l h =
+      read-x (λ i. at w (1272 + i)) l h
+      ∙ ap (λ (x : List Float). put x (vec 1272 n w) (vec 1338 n w) (nums 0 n l) (nums 66 n l) (read m n w l)) (sym (vec-is 1272 n w _ (λ i h. refl)))

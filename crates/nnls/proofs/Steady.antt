@@ -1,6 +1,6 @@
 -- Every x on the way is +0, above zero or a NaN, so no ratio has a sign, and the accepted answer is a place on the way. Assumes nothing but what `Solver` asks of the solver.
 use mathlib.Core.Path.{_≡_, refl, sym, ap, _∙_, subst}
-use mathlib.Core.Logic.{_⊎_, inl, inr}
+use mathlib.Core.Logic.{inl, inr}
 use mathlib.Core.Bool.{Bool, true, false, not, cond, _&&_, _||_, true≢false}
 use mathlib.Core.List.{List}
 use Prim.Native.Nat.{ℕ, zero, suc, _+_, _≤_, _<_}
@@ -10,11 +10,10 @@ use lib.ListN.{length, replicate, length-set, length-replicate, getD-replicate}
 use lib.Ieee.{Float, nan, inf, fin, lt, eq, isNan}
 use Rattle.numbers.specs.Numbers.{+0, _⊖_, _⊘_, at, nth}
 use Rattle.numbers.proofs.Lists.{length-tab, getD-tab}
-use Rattle.workspace.specs.Tables.{Answer, done, iterationCap}
+use Rattle.workspace.specs.Tables.{Answer, done}
 use Rattle.passive.specs.Passive.{isIn, Solved}
-use Rattle.nnls.specs.Counted.{Counted}
-use Rattle.nnls.specs.Nnls.{above0, upTo0, Block, free, block, blocking, ratioOf, ranksBefore, leaves, stepTo, nextX, moveX, moveP, Tried, kept, ended, Accepted, turnNext, turns, pass, lastly, roundNext, rounds, activeSet}
-use Rattle.nnls.specs.Claims.{AboveOrNan, ZeroOrAbove, NotNegative, Solver, Place, round, turn, Passes, begins, enters, moves, settles, totalBefore, Steady}
+use Rattle.nnls.specs.Nnls.{above0, upTo0, Block, free, block, blocking, ratioOf, ranksBefore, stepTo, nextX, moveX, moveP, Tried, kept, ended, Accepted, turnNext, turns, pass, lastly, roundNext, rounds, activeSet}
+use Rattle.nnls.specs.Claims.{ZeroOrAbove, Solver, Place, round, turn, Passes, begins, enters, moves, settles, totalBefore, Steady}
 use Rattle.nnls.proofs.Signs.{negative, not-upTo0, above-sign, div-sign, clear-sign}
 use Rattle.nnls.proofs.Count.{count, count-both, count-some}
 use Rattle.nnls.proofs.Picks.{blocking-free, blocking-at}

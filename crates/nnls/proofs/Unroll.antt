@@ -1,5 +1,5 @@
 -- One step of each loop of the definition, as equations: what the kernel's loops go by. Assumes nothing.
-use mathlib.Core.Path.{_≡_, refl, sym, ap, _∙_}
+use mathlib.Core.Path.{_≡_, refl, ap, _∙_}
 use mathlib.Core.Bool.{Bool, true, false}
 use mathlib.Core.List.{List}
 use mathlib.Core.Option.{Option, none, some}
@@ -10,8 +10,7 @@ use lib.ListN.{set}
 use lib.Ieee.{Float}
 use Rattle.workspace.specs.Tables.{iterationCap}
 use Rattle.passive.specs.Passive.{Solved}
-use Rattle.nnls.specs.Counted.{Counted}
-use Rattle.nnls.specs.Nnls.{choose, Block, free, block, blocking, moveX, moveP, Tried, kept, ended, Settled, accept, keeps, judge, tryNext, tries, turnNext, turns, pass, lastly, roundNext, rounds}
+use Rattle.nnls.specs.Nnls.{choose, Block, free, block, blocking, moveX, moveP, Tried, kept, ended, accept, keeps, judge, tryNext, tries, turnNext, turns, pass, lastly, roundNext, rounds}
 
 module _ (n : ℕ) (solve : List ℕ → Solved) where
   -- ---- a pass

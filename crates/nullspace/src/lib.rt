@@ -21,7 +21,7 @@ fn fix(w: &mut [f64], iw: &[u32], mc: usize)
     requires { ⌜ (mc ≤ 16) × (6030 ≤ length (now w)) × (mc ≤ length (now iw)) × ((t : ℕ) → t < mc → nth (now iw) t < mc) ⌝ }
     ensures { λ _. ⌜ Fixed mc (now (iw .entry)) (now (w .entry)) (now (w .exit)) ⌝ }
 {
-    householder::pick(w, iw, mc, 714);
+    householder::pick(w, iw, 714, mc);
     workspace::copy_up(w, 360, 714, mc);
     householder::solve_rt(w, mc, mc, 714);
 }

@@ -92,7 +92,7 @@ fn digits(m: u64) -> u64
     q
 }
 
-// A number that is most often up to five below the root of m * 2^54: a polynomial, which is within
+// A number that is most often up to four below the root of m * 2^54: a polynomial, which is within
 // 2^-13 of the root of a v from 1 to 4, and two of Newton's steps. Nothing is promised of it:
 // `left_of` and `climb` are right whatever it is.
 fn guess(m: u64) -> u64 {
@@ -104,7 +104,7 @@ fn guess(m: u64) -> u64 {
     let y1 = low + square * (middle + square * high);
     let y2 = 0.5 * (y1 + v / y1);
     let y3 = 0.5 * (y2 + v / y2);
-    let z = y3 * 9007199254740992.0 - 2.0;
+    let z = y3 * 9007199254740992.0 - 1.5;
     if z > -1.0 {
         if z < 18446744073709551616.0 {
             return std::num::truncating_f64_to_u64(z);

@@ -1,5 +1,5 @@
 -- The loop that puts the solution into z. Assumes nothing.
-use mathlib.Core.Path.{_≡_, refl, sym, ap₂, _∙_}
+use mathlib.Core.Path.{refl, sym, ap₂, _∙_}
 use mathlib.Core.List.{List}
 use Prim.Native.Nat.{ℕ, _+_, _≤_, _<_}
 use native.Mathlib.Numerals.{add-one}
@@ -8,7 +8,6 @@ use lib.ListN.{length, set}
 use lib.Seq.{getD-set-other}
 use lib.Ieee.{Float, nan}
 use Rattle.numbers.specs.Numbers.{at, nth, scatter}
-use Rattle.workspace.specs.Readings.{vec, nums}
 use Rattle.workspace.proofs.Readings.{at-vec, vec-set, nth-nums}
 use Rattle.passive.specs.Work.{Spread}
 

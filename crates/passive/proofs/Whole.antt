@@ -1,14 +1,14 @@
 -- The whole solve, of its steps. Assumes nothing.
-use mathlib.Core.Path.{_≡_, refl, sym, ap, _∙_}
+use mathlib.Core.Path.{_≡_, refl, ap, _∙_}
 use mathlib.Core.Bool.{Bool}
 use mathlib.Core.List.{List}
-use Prim.Native.Nat.{ℕ, _+_, _*_, _≤_, _<_, min}
+use Prim.Native.Nat.{ℕ, _+_, _≤_, _<_, min}
 use native.Mathlib.Nat.{zero-add}
 use native.Mathlib.Omega.{arith}
 use lib.Dec.{eqb}
 use lib.ListN.{drop, replicate}
 use lib.Ieee.{Float}
-use Rattle.numbers.specs.Numbers.{+0, at, nth, tab, scatter, entry, grid}
+use Rattle.numbers.specs.Numbers.{+0, at, nth, scatter, entry, grid}
 use Rattle.numbers.proofs.Lists.{tab-replicate, scatter-same}
 use Rattle.workspace.specs.Readings.{vec, mat, nums, Block}
 use Rattle.workspace.proofs.Readings.{vec-same, length-mat, nth-nums}

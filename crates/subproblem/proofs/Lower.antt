@@ -9,7 +9,7 @@ use lib.ListN.{length, set}
 use lib.Ieee.{Float, neg}
 use lib.Ieee.Fits.{and-l, and-r}
 use Rattle.numbers.specs.Numbers.{+0, Σ, at, entry, grid, transposed, SameLower, _⊖_, _⊗_, _⊘_}
-use Rattle.numbers.proofs.Lists.{grid-same, entry-grid}
+use Rattle.numbers.proofs.Lists.{grid-same, entry-transposed}
 use Rattle.numbers.proofs.Sums.{Σ-same}
 use Rattle.householder.specs.Qr.{downward}
 use Rattle.nnls.specs.Counted.{Counted, andThen}
@@ -31,17 +31,12 @@ downward-same n r s y h (suc i) l =
     ∙ ap (λ (x : Float). set z i ((at z i ⊖ x) ⊘ entry n r i i)) (Σ-same i (λ j. entry n r j i ⊗ at z j) (λ j. entry n s j i ⊗ at z j) (λ j k. ap (λ (x : Float). x ⊗ at z j) (h i j l (omega arith))))
     ∙ ap (λ (x : Float). set z i ((at z i ⊖ Σ i (λ j. entry n s j i ⊗ at z j)) ⊘ x)) (h i i l (omega arith))
 
--- entry (j, i) of A' is (i, j) of A
-entry-transposed : (n : ℕ) (a : List Float) (i j : ℕ) → i < n → j < n → entry n (transposed n n a) j i ≡ entry n a i j
-unfolding transposed
-entry-transposed n a i j h k = entry-grid n n (λ j i. entry n a i j) j i k h
-
 target-same : (p : Problem) (l : List Float) → SameLower (p .n) (p .factor) l → target (withFactor p l) ≡ target p
 unfolding target
 target-same p l h =
     ap (map neg)
     (downward-same (p .n) (transposed (p .n) (p .n) l) (transposed (p .n) (p .n) (p .factor)) (p .gradient)
-    (λ i j a b. entry-transposed (p .n) l i j a (omega arith) ∙ sym (h i j a b) ∙ sym (entry-transposed (p .n) (p .factor) i j a (omega arith))) (p .n) (omega arith))
+    (λ i j a b. entry-transposed (p .n) (p .n) l j i (omega arith) a ∙ sym (h i j a b) ∙ sym (entry-transposed (p .n) (p .n) (p .factor) j i (omega arith) a)) (p .n) (omega arith))
 
 -- ---- the relaxed problem
 

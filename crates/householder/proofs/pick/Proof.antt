@@ -11,10 +11,10 @@ use Rattle.householder.proofs.pick.Statement.{statement}
 use Rattle.householder.proofs.pick.Tie as tie
 
 abbrev Inv-loop : tie.InvT-loop
-Inv-loop w₀ iw n o t₀ w t = (t ≤ n) × (length w ≡ length w₀) × Block 360 t (λ i. at w₀ (o + nth iw i)) w₀ w
+Inv-loop w₀ iw o n t₀ w t = (t ≤ n) × (length w ≡ length w₀) × Block 360 t (λ i. at w₀ (o + nth iw i)) w₀ w
 
 abbrev μ-loop : tie.MeasureT-loop
-μ-loop w₀ iw n o t₀ w t = n - t
+μ-loop w₀ iw o n t₀ w t = n - t
 
 loop-holds : tie.Need-loop-holds Inv-loop μ-loop
 loop-holds c = (omega arith, refl, written-none nan _ _ _)

@@ -20,11 +20,15 @@ returns-4 c = stays-above _ _ _ _ _ (c .before .before .if4 .taken) (c .if5 .tak
 
 returns-5 : tie.Need-returns-5
 unfolding ofBits
-returns-5 c = let b = c .before .before .before in wins-over _ _ _ _ _ (b .before .before .if1 .left) (b .before .if2 .left) (not-false _ (b .if3 .left)) (c .if5 .left)
+returns-5 c =
+    let b = c .before .before .before in
+    wins-over _ _ _ _ _ (b .before .before .if1 .left) (b .before .if2 .left) (not-false _ (b .if3 .left)) (c .if5 .left)
 
 returns-6 : tie.Need-returns-6
 unfolding ofBits
-returns-6 c = let b = c .before in wins-first _ _ _ _ _ (b .before .before .if1 .left) (b .before .if2 .left) (not-false _ (b .if3 .left)) (c .if4 .left)
+returns-6 c =
+    let b = c .before in
+    wins-first _ _ _ _ _ (b .before .before .if1 .left) (b .before .if2 .left) (not-false _ (b .if3 .left)) (c .if4 .left)
 
 pub better-spec : {M : Type 1} → statement M
 better-spec = tie.close (tie.spec returns returns-2 returns-3 returns-4 returns-5 returns-6)

@@ -53,7 +53,10 @@ loop-less : tie.Need-loop-less Inv-loop μ-loop
 loop-less c = omega arith
 
 loop-again : tie.Need-loop-again Inv-loop μ-loop
-loop-again c = let a = c .before .before .before .before .before .before .before .before .args in let l = c .before .before .before .before .before .loop in (omega arith, nearest-more (a .n) (a .w .now) (a .iw .now) (l .j) (l .best) _ (omega arith) (l .inv .1) (c .nearer .ensures))
+loop-again c =
+    let a = c .before .before .before .before .before .before .before .before .args in
+    let l = c .before .before .before .before .before .loop in
+    (omega arith, nearest-more (a .n) (a .w .now) (a .iw .now) (l .j) (l .best) _ (omega arith) (l .inv .1) (c .nearer .ensures))
 
 returns : tie.Need-returns Inv-loop μ-loop
 returns c = nearest-some _ _ _ _ _ _ (c .before .before .loop .inv .1) (omega arith) (c .if1 .taken)

@@ -72,7 +72,8 @@ loop-again c =
       omega arith,
       simp length-set (l .inv .1),
       simp length-set (l .inv .2),
-      moving-more (a .n) (a .q) (a .ratio) (a .w .now) (l .w) (a .iw .now) (l .iw) (l .j) _ _ (omega arith) (omega arith) (omega arith) (omega arith) (c .move-one .ensures .0) (c .move-one .ensures .1) (l .inv .3),
+      moving-more (a .n) (a .q) (a .ratio) (a .w .now) (l .w) (a .iw .now) (l .iw) (l .j) _ _ (omega arith)
+          (omega arith) (omega arith) (omega arith) (c .move-one .ensures .0) (c .move-one .ensures .1) (l .inv .3),
     )
 
 same-length : tie.Need-same-length Inv-loop μ-loop
@@ -82,7 +83,10 @@ same-length-2 : tie.Need-same-length-2 Inv-loop μ-loop
 same-length-2 c = c .before .loop .inv .2
 
 returns : tie.Need-returns Inv-loop μ-loop
-returns c = let a = c .before .before .before .before .args in let l = c .before .loop in moving-done (a .n) (a .q) (a .ratio) (a .w .now) (l .w) (a .iw .now) (l .iw) (l .j) (omega arith) (omega arith) (l .inv .3)
+returns c =
+    let a = c .before .before .before .before .args in
+    let l = c .before .loop in
+    moving-done (a .n) (a .q) (a .ratio) (a .w .now) (l .w) (a .iw .now) (l .iw) (l .j) (omega arith) (omega arith) (l .inv .3)
 
 pub move-all-spec : {M : Type 1} → statement M
 move-all-spec =

@@ -20,13 +20,16 @@ ranks-before-requires : tie.Need-ranks-before-requires
 ranks-before-requires c κs = search needs
 
 returns-3 : tie.Need-returns-3
-returns-3 c = stays-later _ _ _ _ _ _ (c .before .before .before .ratio-of .ensures) (c .before .before .if3 .taken) _ (c .before .ranks-before .ensures) (not-true _ (c .if4 .taken))
+returns-3 c =
+    stays-later _ _ _ _ _ _ (c .before .before .before .ratio-of .ensures) (c .before .before .if3 .taken) _ (c .before .ranks-before .ensures)
+    (not-true _ (c .if4 .taken))
 
 returns-4 : tie.Need-returns-4
 unfolding ofBits
 returns-4 c =
     let b = c .before .before .before in
-    takes-sooner _ _ _ _ _ _ (b .ratio-of .ensures) (b .before .before .if1 .left) (not-false _ (b .before .if2 .left)) _ (c .before .ranks-before .ensures) (not-false _ (c .if4 .left))
+    takes-sooner _ _ _ _ _ _ (b .ratio-of .ensures) (b .before .before .if1 .left) (not-false _ (b .before .if2 .left)) _
+    (c .before .ranks-before .ensures) (not-false _ (c .if4 .left))
 
 returns-5 : tie.Need-returns-5
 unfolding ofBits

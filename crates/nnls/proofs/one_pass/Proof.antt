@@ -1,10 +1,7 @@
 -- `one_pass`, of its steps. Assumes nothing.
-use mathlib.Core.Path.{ap, _∙_}
-use lib.ListN.{replicate}
 use borrow.Author.Needs.{needs}
-use Rattle.nnls.specs.State.{State, read, put}
-use Rattle.nnls.proofs.States.{read-unrejected}
-use Rattle.nnls.proofs.Duals.{read-dual}
+use Rattle.nnls.specs.State.{read}
+use Rattle.nnls.proofs.Duals.{read-passing}
 use Rattle.nnls.proofs.Rounding.{pass-whole}
 use Rattle.nnls.proofs.one_pass.Statement.{statement}
 use Rattle.nnls.proofs.one_pass.Tie as tie
@@ -35,10 +32,10 @@ returns c =
     let v₂ = c .before .before .before .before .before .before .before .before .before .before .before .before .before .write-dual in
     let v₃ = c .before .before .before .before .before .before .before .before .before .blank-words in
     let v₄ = c .before .before .before .before .try-all in
-    pass-whole (a .m) (a .n) (a .f) (read (a .m) (a .n) (a .w .now) (a .iw .now)) (read (a .m) (a .n) (v₂ .last .0) (v₃ .last .0)) (read (a .m) (a .n) (v₄ .last .0) (v₄ .last .1 .0)) (v₄ .result)
-    (read-unrejected (a .m) (a .n) (v₂ .last .0) (a .iw .now) (v₃ .last .0) (s .pre .1) (v₃ .ensures)
-    ∙ ap (λ (q : State). put (q .x) (q .z) (q .dual) (q .passive) (replicate (a .n) 0) q)
-    (read-dual (a .m) (a .n) (a .w .now) (v₁ .last .0) (v₂ .last .0) (a .iw .now) (s .pre .0) (s .pre .1) (v₁ .ensures) (v₂ .ensures)))
+    pass-whole (a .m) (a .n) (a .f) (read (a .m) (a .n) (a .w .now) (a .iw .now)) (read (a .m) (a .n) (v₂ .last .0) (v₃ .last .0))
+    (read (a .m) (a .n) (v₄ .last .0) (v₄ .last .1 .0)) (v₄ .result)
+    (read-passing (a .m) (a .n) (a .w .now) (v₁ .last .0) (v₂ .last .0) (a .iw .now) (s .pre .0) (s .pre .1) (v₁ .ensures) (v₂ .ensures)
+    (v₃ .last .0) (v₃ .ensures))
     (v₄ .ensures)
 
 pub one-pass-spec : {M : Type 1} → statement M

@@ -1,15 +1,11 @@
 -- `run_rounds`: after `past` rounds what is left of the rounds gives the answer. Assumes nothing.
-use mathlib.Core.Path.{_≡_, refl, sym, ap, _∙_}
-use mathlib.Core.List.{List}
-use Prim.Native.Nat.{_+_, _-_}
+use mathlib.Core.Path.{_≡_, refl, _∙_}
+use Prim.Native.Nat.{_-_}
 use native.Mathlib.Omega.{arith}
 use lib.ListN.{length}
-use lib.Ieee.{Float}
 use borrow.Author.Tests.{not-true, not-false}
-use Rattle.numbers.specs.Numbers.{at}
-use Rattle.workspace.proofs.Readings.{vec-is}
-use Rattle.nnls.specs.State.{read, put}
-use Rattle.nnls.proofs.States.{read-x}
+use Rattle.nnls.specs.State.{read}
+use Rattle.nnls.proofs.States.{read-copied}
 use Rattle.nnls.proofs.Rounding.{Going, going-none, round-accept, round-last, round-again}
 use Rattle.nnls.proofs.run_rounds.Statement.{statement}
 use Rattle.nnls.proofs.run_rounds.Tie as tie
@@ -24,32 +20,58 @@ loop-holds : tie.Need-loop-holds Inv-loop μ-loop
 loop-holds c = (refl, refl, going-none _ _ _ _)
 
 one-pass-requires : tie.Need-one-pass-requires Inv-loop μ-loop
-one-pass-requires c κs = let s = c .before .before .before .before .before .before in let g = c .before .before .before .loop .inv in let l = c .before .before .loop-test .taken in let w = g .2 .few in (s .pre .0, s .pre .1, omega (arith, g .0, s .pre .2), omega (arith, g .1, s .pre .3), omega (arith, w, l, s .pre .4))
+one-pass-requires c κs =
+    let s = c .before .before .before .before .before .before in
+    let g = c .before .before .before .loop .inv in
+    let l = c .before .before .loop-test .taken in
+    let w = g .2 .few in
+    (s .pre .0, s .pre .1, omega (arith, g .0, s .pre .2), omega (arith, g .1, s .pre .3), omega (arith, w, l, s .pre .4))
 
 same-length : tie.Need-same-length Inv-loop μ-loop
-same-length c = c .before .before .before .before .before .before .one-pass .kept .0 ∙ c .before .before .before .before .before .before .before .before .before .before .loop .inv .0
+same-length c =
+    c .before .before .before .before .before .before .one-pass .kept .0 ∙ c .before .before .before .before .before .before .before .before .before .before .loop .inv .0
 
 same-length-2 : tie.Need-same-length-2 Inv-loop μ-loop
-same-length-2 c = c .before .before .before .before .before .before .one-pass .kept .1 .0 ∙ c .before .before .before .before .before .before .before .before .before .before .loop .inv .1
+same-length-2 c =
+    c .before .before .before .before .before .before .one-pass .kept .1 .0 ∙ c .before .before .before .before .before .before .before .before .before .before .loop .inv .1
 
 returns : tie.Need-returns Inv-loop μ-loop
 returns c =
     let a = c .before .before .before .before .before .before .before .before .before .before .before .before .before .args in
     let l = c .before .before .before .before .before .before .before .before .before .before .loop in
     let p = c .before .before .before .before .before .before .one-pass in
-    round-accept (a .m) (a .n) (a .k) (read (a .m) (a .n) (a .w .now) (a .iw .now)) (read (a .m) (a .n) (l .w) (l .iw)) (l .past) (l .f) (c .before .before .before .before .before .before .before .before .before .before .before .before .before .pre .1) (l .inv .2) (p .result) (read (a .m) (a .n) (p .last .0) (p .last .1 .0)) (p .ensures) (not-true _ (c .if1 .taken))
+    round-accept (a .m) (a .n) (a .k) (read (a .m) (a .n) (a .w .now) (a .iw .now)) (read (a .m) (a .n) (l .w) (l .iw))
+    (l .past) (l .f) (c .before .before .before .before .before .before .before .before .before .before .before .before .before .pre .1)
+    (l .inv .2) (p .result) (read (a .m) (a .n) (p .last .0) (p .last .1 .0)) (p .ensures) (not-true _ (c .if1 .taken))
 
 turn-all-requires : tie.Need-turn-all-requires Inv-loop μ-loop
-turn-all-requires c κs = let s = c .before .before .before .before .before .before .before .before .before .before .before .before .before .before .before in let g = c .before .before .before .before .before .before .before .before .before .before .before .before .loop .inv in let l = c .before .before .before .before .before .before .before .before .before .before .before .loop-test .taken in let w = g .2 .few in let p = c .before .before .before .before .before .before .before .before .one-pass in let u = p .ensures .few in (s .pre .0, s .pre .1, omega (arith, g .0, s .pre .2, p .kept .0), omega (arith, g .1, s .pre .3, p .kept .1 .0), omega (arith, w, l, u, s .pre .4, s .pre .1))
+turn-all-requires c κs =
+    let s = c .before .before .before .before .before .before .before .before .before .before .before .before .before .before .before in
+    let g = c .before .before .before .before .before .before .before .before .before .before .before .before .loop .inv in
+    let l = c .before .before .before .before .before .before .before .before .before .before .before .loop-test .taken in
+    let w = g .2 .few in
+    let p = c .before .before .before .before .before .before .before .before .one-pass in
+    let u = p .ensures .few in
+    (s .pre .0, s .pre .1, omega (arith, g .0, s .pre .2, p .kept .0), omega (arith, g .1, s .pre .3, p .kept .1 .0), omega (arith, w, l, u, s .pre .4, s .pre .1))
 
 copy-down-requires : tie.Need-copy-down-requires Inv-loop μ-loop
-copy-down-requires c κs = let s = c .before .before .before .before .before .before .before .before .before .before .before .before .before .before .before .before .before .before .before .before .before in let g = c .before .before .before .before .before .before .before .before .before .before .before .before .before .before .before .before .before .before .loop .inv in let p = c .before .before .before .before .before .before .before .before .before .before .before .before .before .before .one-pass .kept .0 in let t = c .before .before .before .before .before .turn-all .kept .0 in (omega arith, omega (arith, s .pre .1, g .0, s .pre .2, p, t))
+copy-down-requires c κs =
+    let s = c .before .before .before .before .before .before .before .before .before .before .before .before .before .before .before .before .before .before .before .before .before in
+    let g = c .before .before .before .before .before .before .before .before .before .before .before .before .before .before .before .before .before .before .loop .inv in
+    let p = c .before .before .before .before .before .before .before .before .before .before .before .before .before .before .one-pass .kept .0 in
+    let t = c .before .before .before .before .before .turn-all .kept .0 in
+    (omega arith, omega (arith, s .pre .1, g .0, s .pre .2, p, t))
 
 add-past : tie.Need-add-past Inv-loop μ-loop
-add-past c = let l = c .before .before .before .before .before .before .before .before .before .before .before .before .before .before .before .before .before .before .before .before .loop-test .taken in let k = c .before .before .before .before .before .before .before .before .before .before .before .before .before .before .before .before .before .before .before .before .before .before .before .before .pre .4 in omega (arith, l, k)
+add-past c =
+    let l = c .before .before .before .before .before .before .before .before .before .before .before .before .before .before .before .before .before .before .before .before .loop-test .taken in
+    let k = c .before .before .before .before .before .before .before .before .before .before .before .before .before .before .before .before .before .before .before .before .before .before .before .before .pre .4 in
+    omega (arith, l, k)
 
 loop-less : tie.Need-loop-less Inv-loop μ-loop
-loop-less c = let l = c .before .before .before .before .before .before .before .before .before .before .before .before .before .before .before .before .before .before .before .before .loop-test .taken in omega (arith, l)
+loop-less c =
+    let l = c .before .before .before .before .before .before .before .before .before .before .before .before .before .before .before .before .before .before .before .before .loop-test .taken in
+    omega (arith, l)
 
 loop-again : tie.Need-loop-again Inv-loop μ-loop
 loop-again c =
@@ -61,26 +83,39 @@ loop-again c =
     let z = c .before .before .copy-down in (
       z .kept .0 ∙ t .kept .0 ∙ p .kept .0 ∙ l .inv .0,
       t .kept .1 .0 ∙ p .kept .1 .0 ∙ l .inv .1,
-      round-again (a .m) (a .n) (a .k) (read (a .m) (a .n) (a .w .now) (a .iw .now)) (read (a .m) (a .n) (l .w) (l .iw)) (l .past) (l .f) (s .pre .1) (l .inv .2) (p .result) (read (a .m) (a .n) (p .last .0) (p .last .1 .0)) (p .ensures) (not-false _ (c .before .before .before .before .before .before .before .before .before .before .before .if1 .left)) (c .before .before .before .before .before .before .before .before .before .before .before .before .before .before .before .before .before .before .before .before .loop-test .taken) (t .result) (read (a .m) (a .n) (t .last .0) (t .last .1 .0)) (read (a .m) (a .n) (z .last .0) (t .last .1 .0)) (t .ensures)
-          (read-x (a .m) (a .n) (λ i. at (t .last .0) (1272 + i)) (t .last .0) (z .last .0) (t .last .1 .0) (s .pre .0) (s .pre .1) (z .ensures)
-          ∙ ap (λ (v : List Float). put v ((read (a .m) (a .n) (t .last .0) (t .last .1 .0)) .z) ((read (a .m) (a .n) (t .last .0) (t .last .1 .0)) .dual) ((read (a .m) (a .n) (t .last .0) (t .last .1 .0)) .passive) ((read (a .m) (a .n) (t .last .0) (t .last .1 .0)) .rejected) (read (a .m) (a .n) (t .last .0) (t .last .1 .0))) (sym (vec-is 1272 (a .n) (t .last .0) _ (λ i h. refl)))),
+      round-again (a .m) (a .n) (a .k) (read (a .m) (a .n) (a .w .now) (a .iw .now)) (read (a .m) (a .n) (l .w) (l .iw))
+          (l .past) (l .f) (s .pre .1) (l .inv .2) (p .result) (read (a .m) (a .n) (p .last .0) (p .last .1 .0)) (p .ensures)
+          (not-false _ (c .before .before .before .before .before .before .before .before .before .before .before .if1 .left))
+          (c .before .before .before .before .before .before .before .before .before .before .before .before .before .before .before .before .before .before .before .before .loop-test .taken)
+          (t .result) (read (a .m) (a .n) (t .last .0) (t .last .1 .0)) (read (a .m) (a .n) (z .last .0) (t .last .1 .0))
+          (t .ensures)
+          (read-copied (a .m) (a .n) (t .last .0) (z .last .0) (s .pre .0) (s .pre .1) (t .last .1 .0) (z .ensures)),
     )
 
 one-pass-requires-2 : tie.Need-one-pass-requires-2 Inv-loop μ-loop
-one-pass-requires-2 c κs = let s = c .before .before .before .before .before .before in let g = c .before .before .before .loop .inv in let w = g .2 .few in let v = g .2 .within in (s .pre .0, s .pre .1, omega (arith, g .0, s .pre .2), omega (arith, g .1, s .pre .3), omega (arith, w, v, s .pre .4))
+one-pass-requires-2 c κs =
+    let s = c .before .before .before .before .before .before in
+    let g = c .before .before .before .loop .inv in
+    let w = g .2 .few in
+    let v = g .2 .within in
+    (s .pre .0, s .pre .1, omega (arith, g .0, s .pre .2), omega (arith, g .1, s .pre .3), omega (arith, w, v, s .pre .4))
 
 same-length-3 : tie.Need-same-length-3 Inv-loop μ-loop
-same-length-3 c = c .before .before .before .before .before .one-pass2 .kept .0 ∙ c .before .before .before .before .before .before .before .before .before .loop .inv .0
+same-length-3 c =
+    c .before .before .before .before .before .one-pass2 .kept .0 ∙ c .before .before .before .before .before .before .before .before .before .loop .inv .0
 
 same-length-4 : tie.Need-same-length-4 Inv-loop μ-loop
-same-length-4 c = c .before .before .before .before .before .one-pass2 .kept .1 .0 ∙ c .before .before .before .before .before .before .before .before .before .loop .inv .1
+same-length-4 c =
+    c .before .before .before .before .before .one-pass2 .kept .1 .0 ∙ c .before .before .before .before .before .before .before .before .before .loop .inv .1
 
 returns-2 : tie.Need-returns-2 Inv-loop μ-loop
 returns-2 c =
     let a = c .before .before .before .before .before .before .before .before .before .before .before .before .args in
     let l = c .before .before .before .before .before .before .before .before .before .loop in
     let p = c .before .before .before .before .before .one-pass2 in
-    round-last (a .m) (a .n) (a .k) (read (a .m) (a .n) (a .w .now) (a .iw .now)) (read (a .m) (a .n) (l .w) (l .iw)) (l .past) (l .f) (c .before .before .before .before .before .before .before .before .before .before .before .before .pre .1) (l .inv .2) (p .result) (read (a .m) (a .n) (p .last .0) (p .last .1 .0)) (p .ensures) (c .before .before .before .before .before .before .before .before .loop-test .left)
+    round-last (a .m) (a .n) (a .k) (read (a .m) (a .n) (a .w .now) (a .iw .now)) (read (a .m) (a .n) (l .w) (l .iw))
+    (l .past) (l .f) (c .before .before .before .before .before .before .before .before .before .before .before .before .pre .1)
+    (l .inv .2) (p .result) (read (a .m) (a .n) (p .last .0) (p .last .1 .0)) (p .ensures) (c .before .before .before .before .before .before .before .before .loop-test .left)
 
 pub run-rounds-spec : {M : Type 1} → statement M
 run-rounds-spec =

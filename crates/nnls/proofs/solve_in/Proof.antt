@@ -1,13 +1,7 @@
 -- `solve_in`, of its steps. Assumes nothing.
-use mathlib.Core.Path.{ap, _∙_}
-use mathlib.Core.List.{List}
-use lib.ListN.{replicate}
-use lib.Ieee.{Float}
 use borrow.Author.Needs.{needs}
-use Rattle.numbers.specs.Numbers.{+0}
-use Rattle.numbers.proofs.Lists.{tab-replicate}
-use Rattle.nnls.specs.State.{State, read, put}
-use Rattle.nnls.proofs.States.{read-unmarked, read-x}
+use Rattle.nnls.specs.State.{read}
+use Rattle.nnls.proofs.States.{read-start}
 use Rattle.nnls.proofs.Rounding.{nnls-whole}
 use Rattle.nnls.proofs.solve_in.Statement.{statement}
 use Rattle.nnls.proofs.solve_in.Tie as tie
@@ -34,11 +28,9 @@ returns c =
     let v₁ = c .before .before .before .before .before .before .before .before .before .before .before .before .before .blank in
     let v₂ = c .before .before .before .before .before .before .before .before .before .blank-words in
     let v₃ = c .before .before .before .before .run-rounds in
-    nnls-whole (a .m) (a .n) (a .k) (read (a .m) (a .n) (a .w .now) (a .iw .now)) (read (a .m) (a .n) (v₁ .last .0) (v₂ .last .0)) (read (a .m) (a .n) (v₃ .last .0) (v₃ .last .1 .0)) (v₃ .result)
-    (read-unmarked (a .m) (a .n) (v₁ .last .0) (a .iw .now) (v₂ .last .0) (s .pre .1) (v₂ .ensures)
-    ∙ ap (λ (q : State). put (q .x) (q .z) (q .dual) (replicate (a .n) 0) (q .rejected) q)
-    (read-x (a .m) (a .n) (λ _. +0) (a .w .now) (v₁ .last .0) (a .iw .now) (s .pre .0) (s .pre .1) (v₁ .ensures))
-    ∙ ap (λ (x : List Float). put x ((read (a .m) (a .n) (a .w .now) (a .iw .now)) .z) ((read (a .m) (a .n) (a .w .now) (a .iw .now)) .dual) (replicate (a .n) 0) ((read (a .m) (a .n) (a .w .now) (a .iw .now)) .rejected) (read (a .m) (a .n) (a .w .now) (a .iw .now))) (tab-replicate (a .n) +0))
+    nnls-whole (a .m) (a .n) (a .k) (read (a .m) (a .n) (a .w .now) (a .iw .now)) (read (a .m) (a .n) (v₁ .last .0) (v₂ .last .0))
+    (read (a .m) (a .n) (v₃ .last .0) (v₃ .last .1 .0)) (v₃ .result)
+    (read-start (a .m) (a .n) (a .w .now) (v₁ .last .0) (s .pre .0) (s .pre .1) (a .iw .now) (v₂ .last .0) (v₁ .ensures) (v₂ .ensures))
     (v₃ .ensures)
 
 pub solve-in-spec : {M : Type 1} → statement M

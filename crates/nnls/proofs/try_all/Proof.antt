@@ -43,7 +43,8 @@ returns : tie.Need-returns Inv-loop μ-loop
 returns c =
     let a = c .before .before .before .before .before .before .before .before .before .args in
     let l = c .before .before .before .before .before .before .loop in
-    pass-nothing (a .m) (a .n) (a .f) (read (a .m) (a .n) (a .w .now) (a .iw .now)) (read (a .m) (a .n) (l .w) (l .iw)) (l .count) (l .inv .2) (sym (c .before .before .choose .ensures) ∙ ap trialOf (c .enum-told .given .1))
+    pass-nothing (a .m) (a .n) (a .f) (read (a .m) (a .n) (a .w .now) (a .iw .now)) (read (a .m) (a .n) (l .w) (l .iw))
+    (l .count) (l .inv .2) (sym (c .before .before .choose .ensures) ∙ ap trialOf (c .enum-told .given .1))
 
 try-column-requires : tie.Need-try-column-requires Inv-loop μ-loop
 try-column-requires c κs =
@@ -60,17 +61,22 @@ add-t20 : tie.Need-add-t20 Inv-loop μ-loop
 add-t20 c = omega arith
 
 same-length-3 : tie.Need-same-length-3 Inv-loop μ-loop
-same-length-3 c = c .before .before .before .before .before .try-column .kept .0 ∙ c .before .before .before .before .before .before .before .before .before .before .before .before .before .before .before .loop .inv .0
+same-length-3 c =
+    c .before .before .before .before .before .try-column .kept .0 ∙ c .before .before .before .before .before .before .before .before .before .before .before .before .before .before .before .loop .inv .0
 
 same-length-4 : tie.Need-same-length-4 Inv-loop μ-loop
-same-length-4 c = c .before .before .before .before .before .try-column .kept .1 .0 ∙ c .before .before .before .before .before .before .before .before .before .before .before .before .before .before .before .loop .inv .1
+same-length-4 c =
+    c .before .before .before .before .before .try-column .kept .1 .0 ∙ c .before .before .before .before .before .before .before .before .before .before .before .before .before .before .before .loop .inv .1
 
 returns-2 : tie.Need-returns-2 Inv-loop μ-loop
 returns-2 c =
     let a = c .before .before .before .before .before .before .before .before .before .before .before .before .before .before .before .before .before .before .args in
     let l = c .before .before .before .before .before .before .before .before .before .before .before .before .before .before .before .loop in
     let t = c .before .before .before .before .before .try-column in
-    pass-keep (a .m) (a .n) (a .f) (read (a .m) (a .n) (a .w .now) (a .iw .now)) (read (a .m) (a .n) (l .w) (l .iw)) (l .count) (l .inv .2) _ (sym (c .before .before .before .before .before .before .before .before .before .before .before .choose .ensures) ∙ ap trialOf (c .before .before .before .before .before .before .before .before .before .trial .given .1)) (c .before .before .before .before .before .before .before .before .before .before .before .before .before .before .loop-test .taken) (t .result) (read (a .m) (a .n) (t .last .0) (t .last .1 .0)) (t .ensures) (c .if1 .taken)
+    pass-keep (a .m) (a .n) (a .f) (read (a .m) (a .n) (a .w .now) (a .iw .now)) (read (a .m) (a .n) (l .w) (l .iw))
+    (l .count) (l .inv .2) _ (sym (c .before .before .before .before .before .before .before .before .before .before .before .choose .ensures) ∙ ap trialOf (c .before .before .before .before .before .before .before .before .before .trial .given .1))
+    (c .before .before .before .before .before .before .before .before .before .before .before .before .before .before .loop-test .taken)
+    (t .result) (read (a .m) (a .n) (t .last .0) (t .last .1 .0)) (t .ensures) (c .if1 .taken)
 
 loop-less : tie.Need-loop-less Inv-loop μ-loop
 loop-less c = omega arith
@@ -82,7 +88,10 @@ loop-again c =
     let t = c .before .before .before .before .before .try-column in (
       t .kept .0 ∙ l .inv .0,
       t .kept .1 .0 ∙ l .inv .1,
-      pass-again (a .m) (a .n) (a .f) (read (a .m) (a .n) (a .w .now) (a .iw .now)) (read (a .m) (a .n) (l .w) (l .iw)) (l .count) (l .inv .2) _ (sym (c .before .before .before .before .before .before .before .before .before .before .before .choose .ensures) ∙ ap trialOf (c .before .before .before .before .before .before .before .before .before .trial .given .1)) (c .before .before .before .before .before .before .before .before .before .before .before .before .before .before .loop-test .taken) (t .result) (read (a .m) (a .n) (t .last .0) (t .last .1 .0)) (t .ensures) (c .if1 .left),
+      pass-again (a .m) (a .n) (a .f) (read (a .m) (a .n) (a .w .now) (a .iw .now)) (read (a .m) (a .n) (l .w) (l .iw))
+          (l .count) (l .inv .2) _ (sym (c .before .before .before .before .before .before .before .before .before .before .before .choose .ensures) ∙ ap trialOf (c .before .before .before .before .before .before .before .before .before .trial .given .1))
+          (c .before .before .before .before .before .before .before .before .before .before .before .before .before .before .loop-test .taken)
+          (t .result) (read (a .m) (a .n) (t .last .0) (t .last .1 .0)) (t .ensures) (c .if1 .left),
     )
 
 add-t21 : tie.Need-add-t21 Inv-loop μ-loop
@@ -98,7 +107,8 @@ returns-3 : tie.Need-returns-3 Inv-loop μ-loop
 returns-3 c =
     let a = c .before .before .before .before .args in
     let l = c .before .loop in
-    pass-out (a .m) (a .n) (a .f) (read (a .m) (a .n) (a .w .now) (a .iw .now)) (read (a .m) (a .n) (l .w) (l .iw)) (l .count) (l .inv .2) (c .loop-test .left)
+    pass-out (a .m) (a .n) (a .f) (read (a .m) (a .n) (a .w .now) (a .iw .now)) (read (a .m) (a .n) (l .w) (l .iw))
+    (l .count) (l .inv .2) (c .loop-test .left)
 
 pub try-all-spec : {M : Type 1} → statement M
 try-all-spec =

@@ -31,7 +31,9 @@ same-length : tie.Need-same-length
 same-length c = search needs
 
 same-length-2 : tie.Need-same-length-2
-same-length-2 c = c .before .before .before .before .before .before .before .solve-passive .kept .1 .0 ∙ length-set (c .before .before .before .before .before .before .before .before .before .before .before .before .args .iw .now) (c .before .before .before .before .before .before .before .before .before .before .before .before .args .t) 1
+same-length-2 c =
+    c .before .before .before .before .before .before .before .solve-passive .kept .1 .0 ∙ length-set (c .before .before .before .before .before .before .before .before .before .before .before .before .args .iw .now)
+    (c .before .before .before .before .before .before .before .before .before .before .before .before .args .t) 1
 
 returns : tie.Need-returns
 unfolding ofBits
@@ -39,13 +41,17 @@ returns c =
     let s = c .before .before .before .before .before .before .before .before .before .before .before .before in
     let a = s .args in
     let v = c .before .before .before .before .before .before .before .solve-passive in
-    tried-stays (a .m) (a .n) (a .t) (v .result) (a .w .now) (v .last .0) (a .iw .now) (v .last .1 .0) (s .pre .0) (s .pre .1) (s .pre .2) (s .pre .4) (v .ensures) (c .before .before .if1 .taken) (c .if2 .taken)
+    tried-stays (a .m) (a .n) (a .t) (v .result) (a .w .now) (v .last .0) (a .iw .now) (v .last .1 .0) (s .pre .0)
+    (s .pre .1) (s .pre .2) (s .pre .4) (v .ensures) (c .before .before .if1 .taken) (c .if2 .taken)
 
 mul-iw-2 : tie.Need-mul-iw-2
 mul-iw-2 c = search needs
 
 slice-write-iw-2 : tie.Need-slice-write-iw-2
-slice-write-iw-2 c = let e = c .before .before .before .before .before .solve-passive .kept .1 .0 ∙ length-set (c .before .before .before .before .before .before .before .before .before .before .args .iw .now) (c .before .before .before .before .before .before .before .before .before .before .args .t) 1 in omega (arith, e, c .before .before .before .before .before .before .before .before .before .before .pre)
+slice-write-iw-2 c =
+    let e = c .before .before .before .before .before .solve-passive .kept .1 .0 ∙ length-set (c .before .before .before .before .before .before .before .before .before .before .args .iw .now)
+    (c .before .before .before .before .before .before .before .before .before .before .args .t) 1 in
+    omega (arith, e, c .before .before .before .before .before .before .before .before .before .before .pre)
 
 add-iw : tie.Need-add-iw
 add-iw c = search needs
@@ -54,13 +60,17 @@ mul-iw-3 : tie.Need-mul-iw-3
 mul-iw-3 c = search needs
 
 slice-write-iw-3 : tie.Need-slice-write-iw-3
-slice-write-iw-3 c = let e = c .before .before .before .before .before .solve-passive .kept .1 .0 ∙ length-set (c .before .before .before .before .before .before .before .before .before .before .args .iw .now) (c .before .before .before .before .before .before .before .before .before .before .args .t) 1 in simp length-set (omega (arith, e, c .before .before .before .before .before .before .before .before .before .before .pre))
+slice-write-iw-3 c =
+    let e = c .before .before .before .before .before .solve-passive .kept .1 .0 ∙ length-set (c .before .before .before .before .before .before .before .before .before .before .args .iw .now)
+    (c .before .before .before .before .before .before .before .before .before .before .args .t) 1 in
+    simp length-set (omega (arith, e, c .before .before .before .before .before .before .before .before .before .before .pre))
 
 same-length-3 : tie.Need-same-length-3
 same-length-3 c = search needs
 
 same-length-4 : tie.Need-same-length-4
-same-length-4 c = simp length-set (c .before .before .before .before .before .solve-passive .kept .1 .0 ∙ length-set (c .before .before .before .before .before .before .before .before .before .before .args .iw .now) (c .before .before .before .before .before .before .before .before .before .before .args .t) 1)
+same-length-4 c =
+    simp length-set (c .before .before .before .before .before .solve-passive .kept .1 .0 ∙ length-set (c .before .before .before .before .before .before .before .before .before .before .args .iw .now) (c .before .before .before .before .before .before .before .before .before .before .args .t) 1)
 
 returns-2 : tie.Need-returns-2
 unfolding ofBits
@@ -68,7 +78,8 @@ returns-2 c =
     let s = c .before .before .before .before .before .before .before .before .before .before in
     let a = s .args in
     let v = c .before .before .before .before .before .solve-passive in
-    tried-back (a .m) (a .n) (a .t) (v .result) (a .w .now) (v .last .0) (a .iw .now) (v .last .1 .0) (s .pre .0) (s .pre .1) (s .pre .2) (s .pre .4) (v .ensures) (v .kept .1 .0)
+    tried-back (a .m) (a .n) (a .t) (v .result) (a .w .now) (v .last .0) (a .iw .now) (v .last .1 .0) (s .pre .0)
+    (s .pre .1) (s .pre .2) (s .pre .4) (v .ensures) (v .kept .1 .0)
     (⊎-elim (λ w. inr (w .2 .left)) (λ w. inl (w .left)) (c .if1 .came)) (s .pre .5)
 
 pub try-column-spec : {M : Type 1} → statement M

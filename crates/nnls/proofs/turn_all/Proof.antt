@@ -43,7 +43,8 @@ returns : tie.Need-returns Inv-loop μ-loop
 returns c =
     let a = c .before .before .before .before .before .before .before .before .before .args in
     let l = c .before .before .before .before .before .before .loop in
-    turn-free (a .m) (a .n) (a .f) (read (a .m) (a .n) (a .w .now) (a .iw .now)) (read (a .m) (a .n) (l .w) (l .iw)) (l .count) (l .inv .2) (sym (c .before .before .blocking .ensures) ∙ ap blockOf (c .enum-told .given .1))
+    turn-free (a .m) (a .n) (a .f) (read (a .m) (a .n) (a .w .now) (a .iw .now)) (read (a .m) (a .n) (l .w) (l .iw))
+    (l .count) (l .inv .2) (sym (c .before .before .blocking .ensures) ∙ ap blockOf (c .enum-told .given .1))
 
 move-all-requires : tie.Need-move-all-requires Inv-loop μ-loop
 move-all-requires c κs = omega arith
@@ -67,7 +68,9 @@ loop-again c =
       t .kept .0 ∙ v .kept .0 ∙ l .inv .0,
       t .kept .1 .0 ∙ v .kept .1 .0 ∙ l .inv .1,
       turn-again (a .m) (a .n) (a .f) (read (a .m) (a .n) (a .w .now) (a .iw .now)) (read (a .m) (a .n) (l .w) (l .iw)) (l .count) (l .inv .2) _ _
-          (sym (c .before .before .before .before .before .before .before .before .before .before .before .before .before .before .before .before .before .blocking .ensures) ∙ ap blockOf (c .before .before .before .before .before .before .before .before .before .before .before .before .before .before .before .blocker .given .1)) (c .before .before .before .before .before .before .before .before .before .before .before .before .before .before .before .before .before .before .before .before .loop-test .taken) (read (a .m) (a .n) (v .last .0) (v .last .1 .0)) (read (a .m) (a .n) (t .last .0) (t .last .1 .0))
+          (sym (c .before .before .before .before .before .before .before .before .before .before .before .before .before .before .before .before .before .blocking .ensures) ∙ ap blockOf (c .before .before .before .before .before .before .before .before .before .before .before .before .before .before .before .blocker .given .1))
+          (c .before .before .before .before .before .before .before .before .before .before .before .before .before .before .before .before .before .before .before .before .loop-test .taken)
+          (read (a .m) (a .n) (v .last .0) (v .last .1 .0)) (read (a .m) (a .n) (t .last .0) (t .last .1 .0))
           (read-moved (a .m) (a .n) _ _ (l .w) (v .last .0) (l .iw) (v .last .1 .0) (s .pre .0) (s .pre .1) (v .ensures))
           (read-solve (a .m) (a .n) (t .result) (v .last .0) (t .last .0) (v .last .1 .0) (t .last .1 .0) (s .pre .0) (s .pre .1) (t .ensures)),
     )
@@ -85,7 +88,8 @@ returns-2 : tie.Need-returns-2 Inv-loop μ-loop
 returns-2 c =
     let a = c .before .before .before .before .args in
     let l = c .before .loop in
-    turn-out (a .m) (a .n) (a .f) (read (a .m) (a .n) (a .w .now) (a .iw .now)) (read (a .m) (a .n) (l .w) (l .iw)) (l .count) (l .inv .2) (c .loop-test .left)
+    turn-out (a .m) (a .n) (a .f) (read (a .m) (a .n) (a .w .now) (a .iw .now)) (read (a .m) (a .n) (l .w) (l .iw))
+    (l .count) (l .inv .2) (c .loop-test .left)
 
 pub turn-all-spec : {M : Type 1} → statement M
 turn-all-spec =

@@ -57,7 +57,9 @@ same-length : tie.Need-same-length Inv-loop μ-loop
 same-length c = c .before .loop .inv .1
 
 returns : tie.Need-returns Inv-loop μ-loop
-returns c = let e : c .before .loop .j ≡ c .before .before .before .args .n = omega arith in rw (← e) (c .before .loop .inv .2)
+returns c =
+    let e : c .before .loop .j ≡ c .before .before .before .args .n = omega arith in
+    rw (← e) (c .before .loop .inv .2)
 
 pub write-dual-spec : {M : Type 1} → statement M
 write-dual-spec =

@@ -30,7 +30,8 @@ cast-j : tie.Need-cast-j Inv-loop μ-loop
 cast-j c = omega (arith, c .before .before .before .before .before .pre .4 (c .before .before .loop .t) (c .before .loop-test .taken))
 
 mul-copy-up : tie.Need-mul-copy-up Inv-loop μ-loop
-mul-copy-up c = omega (arith, c .before .before .before .before .before .before .pre .4 (c .before .before .before .loop .t) (c .before .before .loop-test .taken))
+mul-copy-up c =
+    omega (arith, c .before .before .before .before .before .before .pre .4 (c .before .before .before .loop .t) (c .before .before .loop-test .taken))
 
 mul-copy-up-2 : tie.Need-mul-copy-up-2 Inv-loop μ-loop
 mul-copy-up-2 c = omega arith
@@ -39,7 +40,9 @@ add-copy-up : tie.Need-add-copy-up Inv-loop μ-loop
 add-copy-up c = omega arith
 
 copy-up-requires : tie.Need-copy-up-requires Inv-loop μ-loop
-copy-up-requires c κs = let j = c .before .before .before .before .before .before .pre .4 (c .before .before .before .loop .t) (c .before .before .loop-test .taken) in (omega arith, omega arith)
+copy-up-requires c κs =
+    let j = c .before .before .before .before .before .before .pre .4 (c .before .before .before .loop .t) (c .before .before .loop-test .taken) in
+    (omega arith, omega arith)
 
 add-t : tie.Need-add-t Inv-loop μ-loop
 add-t c = omega arith
@@ -54,14 +57,17 @@ loop-again c =
     let l = c .before .before .before .before .before .before .loop in (
       omega arith,
       c .before .before .copy-up .kept .0 ∙ l .inv .1,
-      collected-more (a .m) (l .t) (a .iw .now) (a .w .now) (l .w) _ (s .pre .0) (s .pre .4 (l .t) (c .before .before .before .before .before .loop-test .taken)) (c .before .before .copy-up .ensures) (l .inv .2),
+      collected-more (a .m) (l .t) (a .iw .now) (a .w .now) (l .w) _ (s .pre .0) (s .pre .4 (l .t) (c .before .before .before .before .before .loop-test .taken))
+          (c .before .before .copy-up .ensures) (l .inv .2),
     )
 
 same-length : tie.Need-same-length Inv-loop μ-loop
 same-length c = c .before .loop .inv .1
 
 returns : tie.Need-returns Inv-loop μ-loop
-returns c = let e : c .before .loop .t ≡ c .before .before .before .before .args .c = omega arith in rw (← e) (c .before .loop .inv .2)
+returns c =
+    let e : c .before .loop .t ≡ c .before .before .before .before .args .c = omega arith in
+    rw (← e) (c .before .loop .inv .2)
 
 pub collect-spec : {M : Type 1} → statement M
 collect-spec =

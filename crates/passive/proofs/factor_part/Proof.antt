@@ -36,7 +36,8 @@ returns : tie.Need-returns
 returns c =
     let a = c .before .before .before .before .before .before .before .before .before .args in
     let f = c .before .before .before .before .factor-in in
-    factored-is (a .m) (a .c) (f .result) (a .w .now) (f .last .0) (a .iw .now) (f .last .1 .0) (omega (arith, c .before .before .before .before .before .before .before .before .before .pre)) (omega (arith, c .before .before .before .before .before .before .before .before .before .pre)) (f .ensures)
+    factored-is (a .m) (a .c) (f .result) (a .w .now) (f .last .0) (a .iw .now) (f .last .1 .0) (omega (arith, c .before .before .before .before .before .before .before .before .before .pre))
+    (omega (arith, c .before .before .before .before .before .before .before .before .before .pre)) (f .ensures)
 
 pub factor-part-spec : {M : Type 1} → statement M
 factor-part-spec =

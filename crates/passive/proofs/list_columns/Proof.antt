@@ -53,14 +53,17 @@ loop-again c =
       omega arith,
       omega arith,
       simp length-set (l .inv .2),
-      listed-more (l .j) (l .c) _ (c .before .before .before .before .before .args .iw .now) (l .iw) (omega arith) (omega arith) (c .flag .ensures .0) (l .inv .3),
+      listed-more (l .j) (l .c) _ (c .before .before .before .before .before .args .iw .now) (l .iw) (omega arith)
+          (omega arith) (c .flag .ensures .0) (l .inv .3),
     )
 
 same-length : tie.Need-same-length Inv-loop μ-loop
 same-length c = c .before .loop .inv .2
 
 returns : tie.Need-returns Inv-loop μ-loop
-returns c = let e : c .before .loop .j ≡ c .before .before .before .args .n = omega arith in rw (← e) (c .before .loop .inv .3)
+returns c =
+    let e : c .before .loop .j ≡ c .before .before .before .args .n = omega arith in
+    rw (← e) (c .before .loop .inv .3)
 
 pub list-columns-spec : {M : Type 1} → statement M
 list-columns-spec =

@@ -40,7 +40,9 @@ returns : tie.Need-returns
 returns c =
     let s = c .before .before .before .before .before .before .before .before .before .before .before in
     let a = s .args in
-    solved-part (a .m) (a .c) (a .k) (a .w .now) (c .before .before .before .before .before .before .before .copy-up .last .0) (c .before .before .solve .last .0) (a .iw .now) (omega (arith, s .pre)) (omega (arith, s .pre, c .before .before .before .before .before .before .before .copy-up .kept)) (omega (arith, s .pre)) (c .before .before .before .before .before .before .before .copy-up .ensures) (c .before .before .solve .ensures)
+    solved-part (a .m) (a .c) (a .k) (a .w .now) (c .before .before .before .before .before .before .before .copy-up .last .0)
+    (c .before .before .solve .last .0) (a .iw .now) (omega (arith, s .pre)) (omega (arith, s .pre, c .before .before .before .before .before .before .before .copy-up .kept))
+    (omega (arith, s .pre)) (c .before .before .before .before .before .before .before .copy-up .ensures) (c .before .before .solve .ensures)
 
 pub solve-part-spec : {M : Type 1} → statement M
 solve-part-spec =

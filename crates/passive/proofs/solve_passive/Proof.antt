@@ -73,10 +73,16 @@ spread-requires c κs =
     )
 
 same-length : tie.Need-same-length
-same-length c = c .before .before .spread .kept .0 ∙ c .before .before .before .before .before .before .before .blank .kept .0 ∙ c .before .before .before .before .before .before .before .before .before .before .before .solve-part .kept .0 ∙ c .before .before .before .before .before .before .before .before .before .before .before .before .before .before .before .before .before .before .factor-part .kept .0 ∙ c .before .before .before .before .before .before .before .before .before .before .before .before .before .before .before .before .before .before .before .before .before .before .before .collect .kept .0
+same-length c =
+    c .before .before .spread .kept .0 ∙ c .before .before .before .before .before .before .before .blank .kept .0
+    ∙ c .before .before .before .before .before .before .before .before .before .before .before .solve-part .kept .0
+    ∙ c .before .before .before .before .before .before .before .before .before .before .before .before .before .before .before .before .before .before .factor-part .kept .0
+    ∙ c .before .before .before .before .before .before .before .before .before .before .before .before .before .before .before .before .before .before .before .before .before .before .before .collect .kept .0
 
 same-length-2 : tie.Need-same-length-2
-same-length-2 c = c .before .before .before .before .before .before .before .before .before .before .before .before .before .before .before .before .before .before .factor-part .kept .1 .0 ∙ c .before .before .before .before .before .before .before .before .before .before .before .before .before .before .before .before .before .before .before .before .before .before .before .before .before .before .before .before .list-columns .kept .0
+same-length-2 c =
+    c .before .before .before .before .before .before .before .before .before .before .before .before .before .before .before .before .before .before .factor-part .kept .1 .0
+    ∙ c .before .before .before .before .before .before .before .before .before .before .before .before .before .before .before .before .before .before .before .before .before .before .before .before .before .before .before .before .list-columns .kept .0
 
 returns : tie.Need-returns
 returns c =
@@ -88,7 +94,8 @@ returns c =
     let S = c .before .before .before .before .before .before .before .before .before .before .before .solve-part in
     let B = c .before .before .before .before .before .before .before .blank in
     let D = c .before .before .spread in
-    solves-is (a .m) (a .n) (L .result) (F .result) _ (a .w .now) (C .last .0) (F .last .0) (S .last .0) (B .last .0) (D .last .0) (a .iw .now) (L .last .0) (F .last .1 .0)
+    solves-is (a .m) (a .n) (L .result) (F .result) _ (a .w .now) (C .last .0) (F .last .0) (S .last .0) (B .last .0)
+    (D .last .0) (a .iw .now) (L .last .0) (F .last .1 .0)
     (s .pre .0) (s .pre .1) (L .ensures) (C .ensures) (F .ensures) (S .ensures) (B .ensures) (D .ensures) refl
 
 pub solve-passive-spec : {M : Type 1} → statement M

@@ -60,14 +60,17 @@ loop-again c =
     let l = c .before .before .before .loop in (
       omega arith,
       simp length-set (l .inv .1),
-      spread-more (a .n) (l .t) (a .c) (a .iw .now) (a .w .now) (l .w) (omega arith) (omega arith) (omega arith) (c .before .before .before .before .pre .4 (l .t) (c .before .before .loop-test .taken)) (l .inv .2),
+      spread-more (a .n) (l .t) (a .c) (a .iw .now) (a .w .now) (l .w) (omega arith) (omega arith) (omega arith)
+          (c .before .before .before .before .pre .4 (l .t) (c .before .before .loop-test .taken)) (l .inv .2),
     )
 
 same-length : tie.Need-same-length Inv-loop μ-loop
 same-length c = c .before .loop .inv .1
 
 returns : tie.Need-returns Inv-loop μ-loop
-returns c = let e : c .before .loop .t ≡ c .before .before .args .c = omega arith in rw e at (c .before .loop .inv .2)
+returns c =
+    let e : c .before .loop .t ≡ c .before .before .args .c = omega arith in
+    rw e at (c .before .loop .inv .2)
 
 pub spread-spec : {M : Type 1} → statement M
 spread-spec =

@@ -1,0 +1,90 @@
+//! The library, through its C interface, in workspaces that are lent again and again.
+
+use crate::problems::{Matrix, Step};
+
+#[rustfmt::skip]
+unsafe extern "C" {
+    fn gritstrut_norm(x: *const f64, x_len: usize) -> f64;
+    fn gritstrut_qr(
+        m: usize, n: usize, a: *const f64, a_len: usize, r: *mut f64, r_len: usize,
+        perm: *mut u32, perm_len: usize, u: *mut f64, u_len: usize, b: *mut f64, b_len: usize,
+        rank: *mut u32, w: *mut f64, w_len: usize, iw: *mut u32, iw_len: usize,
+    ) -> u32;
+    fn gritstrut_nnls(
+        m: usize, n: usize, k: usize, a: *const f64, a_len: usize, b: *const f64, b_len: usize,
+        x: *mut f64, x_len: usize, rounds: *mut u32, factorings: *mut u32,
+        w: *mut f64, w_len: usize, iw: *mut u32, iw_len: usize,
+    ) -> u32;
+    fn gritstrut_step(
+        n: usize, m: usize, factor: *const f64, factor_len: usize,
+        gradient: *const f64, gradient_len: usize, kinds: *const u8, kinds_len: usize,
+        values: *const f64, values_len: usize, jacobian: *const f64, jacobian_len: usize,
+        lower: *const f64, lower_len: usize, upper: *const f64, upper_len: usize,
+        d: *mut f64, d_len: usize, multipliers: *mut f64, multipliers_len: usize,
+        relaxation: *mut f64, w: *mut f64, w_len: usize, iw: *mut u32, iw_len: usize,
+    ) -> u32;
+}
+
+pub fn norm(x: &[f64]) -> f64 {
+    unsafe { gritstrut_norm(x.as_ptr(), x.len()) }
+}
+
+/// The workspaces, and buffers for every output.
+pub struct Lent {
+    w: Vec<f64>,
+    iw: Vec<u32>,
+    first: Vec<f64>,
+    second: Vec<f64>,
+    third: Vec<f64>,
+    index: Vec<u32>,
+}
+
+impl Lent {
+    pub fn new() -> Self {
+        let room = || vec![0.0; 18 * 66];
+        Lent { w: vec![0.0; 8192], iw: vec![0; 512], first: room(), second: room(), third: room(), index: vec![0; 66] }
+    }
+
+    pub fn step(&mut self, p: &Step) -> u32 {
+        let mut relaxation = 0.0;
+        #[rustfmt::skip]
+        let number = unsafe {
+            gritstrut_step(
+                p.gradient.len(), p.values.len(), p.factor.as_ptr(), p.factor.len(),
+                p.gradient.as_ptr(), p.gradient.len(), p.kinds.as_ptr(), p.kinds.len(),
+                p.values.as_ptr(), p.values.len(), p.jacobian.as_ptr(), p.jacobian.len(),
+                p.lower.as_ptr(), p.lower.len(), p.upper.as_ptr(), p.upper.len(),
+                self.first.as_mut_ptr(), p.gradient.len(), self.second.as_mut_ptr(), p.values.len(),
+                &mut relaxation, self.w.as_mut_ptr(), 8192, self.iw.as_mut_ptr(), 512,
+            )
+        };
+        number
+    }
+
+    pub fn nnls(&mut self, p: &Matrix) -> u32 {
+        let (mut rounds, mut factorings) = (0, 0);
+        #[rustfmt::skip]
+        let number = unsafe {
+            gritstrut_nnls(
+                p.m, p.n, 3 * p.n, p.a.as_ptr(), p.a.len(), p.b.as_ptr(), p.b.len(),
+                self.first.as_mut_ptr(), p.n, &mut rounds, &mut factorings,
+                self.w.as_mut_ptr(), 8192, self.iw.as_mut_ptr(), 512,
+            )
+        };
+        number
+    }
+
+    pub fn qr(&mut self, p: &Matrix) -> usize {
+        let (mut rank, steps) = (0, p.m.min(p.n));
+        #[rustfmt::skip]
+        let number = unsafe {
+            gritstrut_qr(
+                p.m, p.n, p.a.as_ptr(), p.a.len(), self.first.as_mut_ptr(), p.m * p.n,
+                self.index.as_mut_ptr(), p.n, self.second.as_mut_ptr(), steps * p.m,
+                self.third.as_mut_ptr(), steps, &mut rank,
+                self.w.as_mut_ptr(), 8192, self.iw.as_mut_ptr(), 512,
+            )
+        };
+        if number == 0 { rank as usize } else { 0 }
+    }
+}

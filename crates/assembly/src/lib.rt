@@ -1,0 +1,198 @@
+// What the step's problems are assembled from besides their rows, and how their answers are read: the target, the matrices and the right sides, and the multipliers in order.
+//
+// f64: f at 0; LSEI's part, or LSI's, from 18 on. The step d is left at 18 and its multipliers at 36.
+ghost use mathlib.Core.Path.{_≡_};
+ghost use mathlib.Core.Bool.{cond};
+ghost use mathlib.Core.List.{[], _∷_, _++_, map};
+ghost use Prim.Native.Nat.{ℕ, _+_, _*_, _-_, _≤_, _<_};
+ghost use lib.Dec.{leb, eqb};
+ghost use lib.ListN.{length};
+ghost use lib.Ieee.{neg};
+ghost use Rattle.numbers.specs.Numbers.{+0, Σ, at, transposed, _⊖_, _⊗_, _⊘_};
+ghost use Rattle.workspace.specs.Readings.{vec, Block, Loaded};
+ghost use Rattle.householder.specs.Qr.{downward};
+ghost use Rattle.subproblem.specs.Step.{inOrder, paired, clamped};
+ghost use Rattle.subproblem.specs.Work.{equalitiesAmong, inequalitiesAmong, relaxedAmong};
+ghost use Rattle.assembly.specs.Work.{triangle, cornered};
+
+// ---- f = -L^-1 g
+
+// Entry i of L^-1 g, from those before it, which stand at the front.
+fn solved_entry(factor: &[f64], w: &[f64], n: usize, i: usize) -> f64
+    requires { ⌜ (i < n) × (length (now factor) ≡ n * n) × (n ≤ length (now w)) ⌝ }
+    ensures { λ r. ⌜ r ≡ (at (now (w .entry)) i ⊖ Σ i (λ j. at (now (factor .entry)) (i * n + j * 1) ⊗ at (now (w .entry)) (0 + j * 1))) ⊘ at (now (factor .entry)) (i * n + i) ⌝ }
+{
+    let p = i * n;
+    let t = numbers::dot_strided(factor, p, 1, w, 0, 1, i);
+    (w[i] - t) / factor[p + i]
+}
+
+// L^-1 g in the place of g, by forward substitution.
+fn substitute(factor: &[f64], w: &mut [f64], n: usize)
+    requires { ⌜ (length (now factor) ≡ n * n) × (n ≤ length (now w)) ⌝ }
+    ensures { λ _. ⌜ vec 0 n (now (w .exit)) ≡ downward n (transposed n n (now (factor .entry))) n (vec 0 n (now (w .entry))) ⌝ }
+{
+    for i in 0..n {
+        let v = solved_entry(factor, w, n, i);
+        w[i] = v;
+    }
+}
+
+// The first n entries negated.
+fn negate(w: &mut [f64], n: usize)
+    requires { ⌜ n ≤ length (now w) ⌝ }
+    ensures { λ _. ⌜ vec 0 n (now (w .exit)) ≡ map neg (vec 0 n (now (w .entry))) ⌝ }
+{
+    for i in 0..n {
+        w[i] = -w[i];
+    }
+}
+
+// f, to the front.
+pub fn write_target(factor: &[f64], gradient: &[f64], w: &mut [f64], n: usize)
+    requires { ⌜ (length (now factor) ≡ n * n) × (length (now gradient) ≡ n) × (n ≤ length (now w)) ⌝ }
+    ensures { λ _. ⌜ vec 0 n (now (w .exit)) ≡ map neg (downward n (transposed n n (now (factor .entry))) n (now (gradient .entry))) ⌝ }
+{
+    workspace::load(gradient, w, 0, n);
+    substitute(factor, w, n);
+    negate(w, n);
+}
+
+// ---- matrices and right sides
+
+// The sides of c rows of n coefficients at 444, to 732.
+pub fn gather_sides(w: &mut [f64], c: usize, n: usize)
+    requires { ⌜ (c ≤ 16) × (n ≤ 17) × (748 ≤ length (now w)) ⌝ }
+    ensures { λ _. ⌜ Block 732 c (λ t. at (now (w .entry)) (444 + t * 18 + n)) (now (w .entry)) (now (w .exit)) ⌝ }
+{
+    for t in 0..c {
+        w[732 + t] = w[444 + t * 18 + n];
+    }
+}
+
+// f with +0 behind it, to 750.
+pub fn write_side(w: &mut [f64], n: usize)
+    requires { ⌜ (n ≤ 16) × (768 ≤ length (now w)) ⌝ }
+    ensures { λ _. ⌜ Block 750 (n + 1) (λ t. at (vec 0 n (now (w .entry)) ++ (+0 ∷ [])) t) (now (w .entry)) (now (w .exit)) ⌝ }
+{
+    workspace::copy_up(w, 0, 750, n);
+    w[750 + n] = 0.0;
+}
+
+// Column j of the relaxed problem's matrix: the first j + 1 entries of row j of the factor, and +0 below.
+fn write_column(factor: &[f64], w: &mut [f64], n: usize, j: usize)
+    requires { ⌜ (n ≤ 16) × (j < n) × (length (now factor) ≡ n * n) × (750 ≤ length (now w)) ⌝ }
+    ensures { λ _. ⌜ Block (444 + j * 18) (n + 1) (λ i. cond (leb i j) (at (now (factor .entry)) (j * n + i)) +0) (now (w .entry)) (now (w .exit)) ⌝ }
+{
+    let p = 444 + j * 18;
+    let q = p + (j + 1);
+    workspace::copy_strided(factor, w, j * n, 1, p, j + 1);
+    workspace::blank(w, q, n - j);
+}
+
+// All columns but the last.
+fn write_columns(factor: &[f64], w: &mut [f64], n: usize)
+    requires { ⌜ (n ≤ 16) × (length (now factor) ≡ n * n) × (750 ≤ length (now w)) ⌝ }
+    ensures { λ _. ⌜ Loaded 444 (n + 1) n (triangle n (now (factor .entry))) (now (w .entry)) (now (w .exit)) ⌝ }
+{
+    for j in 0..n {
+        write_column(factor, w, n, j);
+    }
+}
+
+// The relaxed problem's matrix: the upper triangle of L', and in the corner the root of the weight.
+pub fn write_matrix(factor: &[f64], w: &mut [f64], n: usize, root: f64)
+    requires { ⌜ (n ≤ 16) × (length (now factor) ≡ n * n) × (750 ≤ length (now w)) ⌝ }
+    ensures { λ _. ⌜ Loaded 444 (n + 1) (n + 1) (cornered n root (now (factor .entry))) (now (w .entry)) (now (w .exit)) ⌝ }
+{
+    write_columns(factor, w, n);
+    subproblem::write_unit(w, 444 + n * 18, n + 1, n, root);
+}
+
+// ---- the multipliers, one per constraint in constraint order, to 36
+
+// Where the multiplier of constraint j of the exact problem stands, e equalities being passed.
+fn place_of(kind: u8, e: usize, j: usize) -> usize
+    requires { ⌜ (e ≤ j) × (j ≤ 16) ⌝ }
+    ensures { λ r. ⌜ (r ≡ cond (eqb kind 0) (378 + e) (4350 + (j - e))) × (378 ≤ r) × (r < 4367) ⌝ }
+{
+    if kind == 0 {
+        return 378 + e;
+    }
+    4350 + (j - e)
+}
+
+// How many equalities are passed after a constraint.
+fn passed(kind: u8, e: usize) -> usize
+    requires { ⌜ e ≤ 16 ⌝ }
+    ensures { λ r. ⌜ r ≡ cond (eqb kind 0) (e + 1) e ⌝ }
+{
+    if kind == 0 {
+        return e + 1;
+    }
+    e
+}
+
+// Those of the exact problem: c equalities' stand at 378, and g inequalities' at 4350.
+pub fn order_multipliers(kinds: &[u8], w: &mut [f64], m: usize, c: usize, g: usize)
+    requires { ⌜ (m ≤ 16) × (length (now kinds) ≡ m) × (c ≡ equalitiesAmong (now kinds)) × (inequalitiesAmong (now kinds) ≤ g) × (4367 ≤ length (now w)) ⌝ }
+    ensures { λ _. ⌜ Block 36 m (λ t. at (inOrder (now (kinds .entry)) 0 c (vec 378 c (now (w .entry)) ++ vec 4350 g (now (w .entry)))) t) (now (w .entry)) (now (w .exit)) ⌝ }
+{
+    let mut e = 0;
+    for j in 0..m {
+        let kind = kinds[j];
+        let v = w[place_of(kind, e, j)];
+        w[36 + j] = v;
+        e = passed(kind, e);
+    }
+}
+
+// The multiplier of a constraint of the relaxed problem, r rows being passed: of an equality, that of its first row less that of its second.
+fn paired_of(kind: u8, w: &[f64], r: usize) -> f64
+    requires { ⌜ (r ≤ 65) × (2173 ≤ length (now w)) ⌝ }
+    ensures { λ v. ⌜ v ≡ cond (eqb kind 0) (at (now (w .entry)) (2106 + r) ⊖ at (now (w .entry)) (2106 + r + 1)) (at (now (w .entry)) (2106 + r)) ⌝ }
+{
+    let p = 2106 + r;
+    if kind == 0 {
+        return w[p] - w[p + 1];
+    }
+    w[p]
+}
+
+// How many rows are passed after a constraint of the relaxed problem.
+fn passed_rows(kind: u8, r: usize) -> usize
+    requires { ⌜ r ≤ 65 ⌝ }
+    ensures { λ v. ⌜ v ≡ cond (eqb kind 0) (r + 2) (r + 1) ⌝ }
+{
+    if kind == 0 {
+        return r + 2;
+    }
+    r + 1
+}
+
+// Those of the relaxed problem: its g rows' stand at 2106.
+pub fn pair_multipliers(kinds: &[u8], w: &mut [f64], m: usize, g: usize)
+    requires { ⌜ (m ≤ 16) × (length (now kinds) ≡ m) × (relaxedAmong (now kinds) ≤ g) × (g ≤ 66) × (2173 ≤ length (now w)) ⌝ }
+    ensures { λ _. ⌜ Block 36 m (λ t. at (paired (now (kinds .entry)) 0 (vec 2106 g (now (w .entry)))) t) (now (w .entry)) (now (w .exit)) ⌝ }
+{
+    let mut r = 0;
+    for j in 0..m {
+        let kind = kinds[j];
+        let v = paired_of(kind, w, r);
+        w[36 + j] = v;
+        r = passed_rows(kind, r);
+    }
+}
+
+// The relaxation clamped to [0, 1]: a NaN and -0 stay.
+pub fn clamp(v: f64) -> f64
+    ensures { λ r. ⌜ r ≡ clamped v ⌝ }
+{
+    if v < 0.0 {
+        return 0.0;
+    }
+    if 1.0 < v {
+        return 1.0;
+    }
+    v
+}

@@ -1,0 +1,3 @@
+pub mod Interface
+pub mod Factors
+pub mod Counts

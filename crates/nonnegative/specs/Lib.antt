@@ -1,0 +1,2 @@
+-- How the public answer reads as docs/RULES.md's numbers and values. Definitions only.
+pub mod Outcomes

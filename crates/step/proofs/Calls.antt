@@ -1,0 +1,136 @@
+-- The tests of the call, and what it leaves by its answer. Assumes nothing.
+use mathlib.Core.Path.{_≡_, refl, sym, ap, _∙_}
+use mathlib.Core.Bool.{Bool, true, false, cond, _&&_, _||_}
+use mathlib.Core.List.{List, [], _∷_, _++_}
+use mathlib.Core.Option.{Option, none, some}
+use Prim.Native.Nat.{ℕ, suc, _+_, _*_, _≤_, _<_}
+use native.Mathlib.Numerals.{add-one}
+use native.Mathlib.Omega.{arith}
+use lib.Dec.{eqb, leb}
+use lib.ListN.{length, drop, drop-of-length-le, length-append}
+use lib.Seq.{drop-cons}
+use lib.Ieee.{Float}
+use borrow.Author.Tests.{le-leb, lt-leb, eqb-true}
+use Rattle.numbers.specs.Numbers.{+0, nth}
+use Rattle.workspace.specs.Tables.{Answer, done, refused, call, cleared, isCleared, isDimension, isEqualities}
+use Rattle.workspace.specs.Readings.{vec, Cleared}
+use Rattle.workspace.proofs.Parts.{vec-front, front-cleared}
+use Rattle.workspace.proofs.Tests.{and-true, dimension-le, equalities-le}
+use Rattle.nnls.specs.Counted.{Counted}
+use Rattle.subproblem.specs.Step.{Step}
+use Rattle.subproblem.specs.Promise.{areKinds, Steps}
+use Rattle.step.specs.Work.{taken}
+use Rattle.step.specs.declared.Tried.the-variants.{Done, Refused}
+
+-- ---- the tests
+
+pub sizes-le : (n m : ℕ) → (isDimension n && isEqualities m) ≡ true → (n ≤ 16) × (m ≤ 16)
+sizes-le n m h = let p = and-true (isDimension n) (isEqualities m) h in (dimension-le n (p .0), equalities-le m (p .1))
+
+pub lengths-are : (n m a b c d e : ℕ) → (eqb a (n * n) && eqb b n && eqb c m && eqb d m && eqb e (m * n)) ≡ true
+    → (a ≡ n * n) × (b ≡ n) × (c ≡ m) × (d ≡ m) × (e ≡ m * n)
+lengths-are n m a b c d e h =
+    let p = and-true (eqb a (n * n) && eqb b n && eqb c m && eqb d m) (eqb e (m * n)) h in
+    let q = and-true (eqb a (n * n) && eqb b n && eqb c m) (eqb d m) (p .0) in
+    let r = and-true (eqb a (n * n) && eqb b n) (eqb c m) (q .0) in
+    let s = and-true (eqb a (n * n)) (eqb b n) (r .0) in
+    (eqb-true a (n * n) (s .0), eqb-true b n (s .1), eqb-true c m (r .1), eqb-true d m (q .1), eqb-true e (m * n) (p .1))
+
+pub widths-are : (n m a b c d : ℕ) → (eqb a n && eqb b n && eqb c n && eqb d m) ≡ true → (a ≡ n) × (b ≡ n) × (c ≡ n) × (d ≡ m)
+widths-are n m a b c d h =
+    let p = and-true (eqb a n && eqb b n && eqb c n) (eqb d m) h in
+    let q = and-true (eqb a n && eqb b n) (eqb c n) (p .0) in
+    let r = and-true (eqb a n) (eqb b n) (q .0) in
+    (eqb-true a n (r .0), eqb-true b n (r .1), eqb-true c n (q .1), eqb-true d m (p .1))
+
+-- a kind a turn
+kinds-suc : (ks : List ℕ) (j : ℕ) → j < length ks → areKinds (drop j ks) ≡ (leb (nth ks j) 1 && areKinds (drop (j + 1) ks))
+unfolding areKinds
+kinds-suc ks j h = rw (drop-cons ks j 0 h, add-one)
+
+pub kinds-more : (ks : List ℕ) (j : ℕ) → j < length ks → nth ks j ≤ 1 → areKinds ks ≡ areKinds (drop j ks) → areKinds ks ≡ areKinds (drop (j + 1) ks)
+kinds-more ks j h k e = e ∙ kinds-suc ks j h ∙ ap (λ (b : Bool). b && areKinds (drop (j + 1) ks)) (le-leb (nth ks j) 1 k)
+
+pub kinds-bad : (ks : List ℕ) (j : ℕ) → j < length ks → 1 < nth ks j → areKinds ks ≡ areKinds (drop j ks) → false ≡ areKinds ks
+kinds-bad ks j h k e = sym (e ∙ kinds-suc ks j h ∙ ap (λ (b : Bool). b && areKinds (drop (j + 1) ks)) (lt-leb (nth ks j) 1 k))
+
+pub kinds-all : (ks : List ℕ) (j : ℕ) → length ks ≤ j → areKinds ks ≡ areKinds (drop j ks) → true ≡ areKinds ks
+unfolding areKinds
+kinds-all ks j h e = sym (e ∙ ap areKinds (drop-of-length-le ks {i = j} h))
+
+-- ---- the call, by what its tests found
+
+module _ (a : Answer Step) (s l r k : Bool) (d x w : List Float) (iw : List ℕ) where
+  pub size-refused : s ≡ false → Steps (call s l r k a) 1 none d d x x w w iw iw
+  size-refused e = rw e (record { the-number = refl; the-relaxation = refl; the-d = refl; the-multipliers = refl; the-floats = refl; the-words = refl })
+
+  pub length-refused : s ≡ true → l ≡ false → Steps (call s l r k a) 2 none d d x x w w iw iw
+  length-refused e f = rw (e, f) (record { the-number = refl; the-relaxation = refl; the-d = refl; the-multipliers = refl; the-floats = refl; the-words = refl })
+
+  pub room-refused : s ≡ true → l ≡ true → r ≡ false → Steps (call s l r k a) 3 none d d x x w w iw iw
+  room-refused e f g = rw (e, f, g) (record { the-number = refl; the-relaxation = refl; the-d = refl; the-multipliers = refl; the-floats = refl; the-words = refl })
+
+  pub kind-refused : s ≡ true → l ≡ true → r ≡ true → k ≡ false → Steps (call s l r k a) 4 none d d x x w w iw iw
+  kind-refused e f g h = rw (e, f, g, h) (record { the-number = refl; the-relaxation = refl; the-d = refl; the-multipliers = refl; the-floats = refl; the-words = refl })
+
+pub call-answered : (a : Answer Step) (s l r k : Bool) (n : ℕ) (o : Option Float) (d d' x x' w w' : List Float) (iw iw' : List ℕ)
+    → s ≡ true → l ≡ true → r ≡ true → k ≡ true → Steps a n o d d' x x' w w' iw iw' → Steps (call s l r k a) n o d d' x x' w w' iw iw'
+call-answered a s l r k n o d d' x x' w w' iw iw' e f g h t = rw (e, f, g, h) t
+
+-- the nine lengths in two tests
+pub lengths-bad : (a b c d e : Bool) → a ≡ false → (a && b && c && d && e) ≡ false
+lengths-bad a b c d e h = rw h
+
+pub lengths-good : (a b c d e : Bool) → a ≡ true → (b && c && d && e) ≡ true → (a && b && c && d && e) ≡ true
+lengths-good a b c d e h k = rw h k
+
+pub lengths-rest : (a b c d e : Bool) → a ≡ true → (b && c && d && e) ≡ false → (a && b && c && d && e) ≡ false
+lengths-rest a b c d e h k = rw h k
+
+-- ---- the answer: v and u are what the step left of the workspaces' parts
+
+late-cleared : (k : ℕ) → 5 ≤ k → isCleared k ≡ true
+late-cleared k h = ap (λ (b : Bool). eqb k 0 || b) (le-leb 5 k h) ∙ or-true (eqb k 0)
+  where
+    or-true : (b : Bool) → (b || true) ≡ true
+    or-true true = refl
+    or-true false = refl
+
+module _ (n m : ℕ) (c : Counted Step) (d x v w w' : List Float) (u iw iw' : List ℕ) (lv : length v ≡ 8192) (lu : length u ≡ 512)
+    (K : Cleared (v ++ drop 8192 w) w' (u ++ drop 512 iw) iw') where
+  floats-cleared : w' ≡ cleared +0 8192 w
+  floats-cleared = K .floats ∙ front-cleared +0 8192 v w lv
+
+  words-cleared : iw' ≡ cleared 0 512 iw
+  words-cleared = K .words ∙ front-cleared 0 512 u iw lu
+
+  pub step-refused : (k a b : ℕ) → 5 ≤ k → taken (Refused k a b) (vec 18 n v) (vec 36 m v) ≡ c → Steps (c .answer) k none d d x x w w' iw iw'
+  step-refused k a b h e =
+      let q : refused k ≡ c .answer = ap (λ (t : Counted Step). t .answer) e in
+      rw (← q)
+      (record {
+        the-number = refl;
+        the-relaxation = refl;
+        the-d = refl;
+        the-multipliers = refl;
+        the-floats = rw (late-cleared k h) floats-cleared;
+        the-words = rw (late-cleared k h) words-cleared;
+      })
+
+  pub step-done : (t : Float) (a b : ℕ) (d' x' : List Float) → n ≤ 16 → m ≤ 16 → taken (Done t a b) (vec 18 n v) (vec 36 m v) ≡ c
+      → d' ≡ vec 18 n (v ++ drop 8192 w) → x' ≡ vec 36 m (v ++ drop 8192 w) → Steps (c .answer) 0 (some t) d d' x x' w w' iw iw'
+  step-done t a b d' x' hn hm e f g =
+      let q : done (record { d = vec 18 n v; multipliers = vec 36 m v; relaxation = t }) ≡ c .answer = ap (λ (t : Counted Step). t .answer) e in
+      rw (← q)
+      (record {
+        the-number = refl;
+        the-relaxation = refl;
+        the-d = f ∙ vec-front v (drop 8192 w) 18 n (omega arith);
+        the-multipliers = g ∙ vec-front v (drop 8192 w) 36 m (omega arith);
+        the-floats = floats-cleared;
+        the-words = words-cleared;
+      })
+
+-- the first k entries came back as v, and the whole is at least as long
+pub front-long : {A : Type 0} (k : ℕ) (v w : List A) → length v ≡ k → k ≤ length (v ++ drop k w)
+front-long k v w e = omega (arith, length-append v (drop k w))

@@ -1,0 +1,93 @@
+//! Four meters around one header: what comes in from two generators goes out to two vessels.
+//!
+//!     rt staticlib cabinet
+//!     rustc --edition 2021 -O -L target/staticlib -l static=cabinet examples/meters.rs -o target/meters-rs && target/meters-rs
+//!
+//! The corrections of the measured flows are the least squares, each weighed by its meter's
+//! spread, such that the corrected flows balance and none is below zero.
+
+extern "C" {
+    #[rustfmt::skip]
+    fn gritstrut_step(
+        n: usize, m: usize,
+        factor: *const f64, factor_len: usize, gradient: *const f64, gradient_len: usize,
+        kinds: *const u8, kinds_len: usize, values: *const f64, values_len: usize,
+        jacobian: *const f64, jacobian_len: usize, lower: *const f64, lower_len: usize,
+        upper: *const f64, upper_len: usize, d: *mut f64, d_len: usize,
+        multipliers: *mut f64, multipliers_len: usize, relaxation: *mut f64,
+        w: *mut f64, w_len: usize, iw: *mut u32, iw_len: usize,
+    ) -> u32;
+}
+
+/// The data of a step: see include/gritstrut.h.
+struct Problem<'a> {
+    factor: &'a [f64],
+    gradient: &'a [f64],
+    kinds: &'a [u8],
+    values: &'a [f64],
+    jacobian: &'a [f64],
+    lower: &'a [f64],
+    upper: &'a [f64],
+}
+
+struct Step {
+    d: Vec<f64>,
+    multipliers: Vec<f64>,
+    relaxation: f64,
+}
+
+/// The step, or the number of the refusal.
+fn solve(p: &Problem) -> Result<Step, u32> {
+    let (n, m) = (p.gradient.len(), p.values.len());
+    let mut step = Step { d: vec![0.0; n], multipliers: vec![0.0; m], relaxation: 0.0 };
+    let (mut w, mut iw) = (vec![0.0f64; 8192], vec![0u32; 512]);
+    // Every length is passed as it is, so a wrong one is refused by number; no two slices overlap.
+    #[rustfmt::skip]
+    let number = unsafe {
+        gritstrut_step(
+            n, m,
+            p.factor.as_ptr(), p.factor.len(), p.gradient.as_ptr(), p.gradient.len(),
+            p.kinds.as_ptr(), p.kinds.len(), p.values.as_ptr(), p.values.len(),
+            p.jacobian.as_ptr(), p.jacobian.len(), p.lower.as_ptr(), p.lower.len(),
+            p.upper.as_ptr(), p.upper.len(), step.d.as_mut_ptr(), n,
+            step.multipliers.as_mut_ptr(), m, &mut step.relaxation,
+            w.as_mut_ptr(), w.len(), iw.as_mut_ptr(), iw.len(),
+        )
+    };
+    if number == 0 { Ok(step) } else { Err(number) }
+}
+
+fn main() {
+    let names = ["generator A", "generator B", "vessel 1", "vessel 2"];
+    let measured = [120.4, 79.1, 131.9, 70.2];
+    let spread = [1.0, 1.0, 2.0, 0.5];
+    let header = [1.0, 1.0, -1.0, -1.0];
+
+    let mut factor = [0.0; 16];
+    for i in 0..4 {
+        factor[i * 4 + i] = 1.0 / spread[i];
+    }
+    let balance: f64 = (0..4).map(|i| header[i] * measured[i]).sum();
+    let problem = Problem {
+        factor: &factor,
+        gradient: &[0.0; 4],
+        kinds: &[0],
+        values: &[balance],
+        jacobian: &header,
+        lower: &measured.map(|v: f64| -v),
+        upper: &[f64::INFINITY; 4],
+    };
+    let step = match solve(&problem) {
+        Ok(step) => step,
+        Err(number) => {
+            println!("refused {number}");
+            std::process::exit(1);
+        }
+    };
+    println!("{:<12} {:>10} {:>10}", "meter", "measured", "corrected");
+    for i in 0..4 {
+        println!("{:<12} {:>10.3} {:>10.3}", names[i], measured[i], measured[i] + step.d[i]);
+    }
+    let left: f64 = (0..4).map(|i| header[i] * (measured[i] + step.d[i])).sum();
+    println!("header: {balance:.3} before, {left:.3} after; multiplier {:.6}, relaxation {:.3}", step.multipliers[0], step.relaxation);
+}

@@ -1,0 +1,165 @@
+//! Holds a library of the C interface, and the record program, against the Rust files.
+
+mod arguments;
+mod linked;
+mod programs;
+mod root;
+
+use arguments::Arguments;
+use linked::{LIBRARY, linked};
+use reference::shape::{OPS, Op};
+use std::fs;
+use std::process::ExitCode;
+use std::time::Instant;
+use trial::held::Junk;
+use trial::kinds;
+use trial::replay;
+use trial::run::{self, Plan};
+use trial::table;
+
+const USAGE: &str = "usage: oracle COMMAND [--OPTION VALUE]...
+  calls       compares library calls       --calls N --seed N --threads N --ops qr,nnls,..
+  one         shows one library call       --op OP --kind KIND --index N --seed N
+  sqrt        compares square roots        --patterns N --seed N
+  records     compares record programs     --program FILE --files N --seed N --threads N
+  all         calls, and then records      with the options of both
+  write-list  writes the stored list       --file FILE --each N --seed N
+  check-list  checks the stored list       --file FILE
+";
+
+fn main() -> ExitCode {
+    match Arguments::read().and_then(|arguments| command(&arguments)) {
+        Ok(true) => ExitCode::SUCCESS,
+        Ok(false) => ExitCode::FAILURE,
+        Err(fault) => {
+            eprintln!("{fault}");
+            ExitCode::from(2)
+        }
+    }
+}
+
+/// Carries out a command: whether all that was compared is equal.
+fn command(arguments: &Arguments) -> Result<bool, String> {
+    if !reference::sums_start_at_minus_zero() {
+        return Err("this toolchain's empty sum is not -0".to_string());
+    }
+    match arguments.command.as_str() {
+        "calls" => calls(arguments),
+        "one" => one(arguments),
+        "sqrt" => sqrt(arguments),
+        "records" => records(arguments),
+        "all" => Ok(calls(arguments)? & records(arguments)?),
+        "write-list" => write_list(arguments),
+        "check-list" => check_list(arguments),
+        _ => Err(USAGE.to_string()),
+    }
+}
+
+/// Says what is compared with what.
+fn announce(own: &[Op]) {
+    let names: Vec<&str> = own.iter().map(|op| op.name()).collect();
+    println!("toolchain: {}", reference::TOOLCHAIN);
+    println!("library: {LIBRARY}");
+    println!(
+        "from the library: {}",
+        if names.is_empty() { "nothing".into() } else { names.join(", ") }
+    );
+    println!("from the peer over the Rust: every other operation");
+}
+
+/// Compares calls and prints the table.
+fn calls(arguments: &Arguments) -> Result<bool, String> {
+    let (library, own) = linked();
+    announce(&own);
+    let plan = Plan {
+        ops: arguments.ops()?,
+        calls: arguments.value("calls", 20_000)?,
+        seed: arguments.value("seed", 1)?,
+        threads: arguments.value("threads", 1)?,
+    };
+    let start = Instant::now();
+    let (rows, differences) = run::run(&library, &plan);
+    let time = start.elapsed();
+    let lines: Vec<_> = rows.iter().map(|(kind, counts)| (kind.op, kind.name, *counts)).collect();
+    let total = table::print(&lines);
+    for one in &differences {
+        println!("differs: --op {} --kind '{}' --index {}", one.op.name(), one.kind, one.index);
+        one.found.iter().take(4).for_each(|line| println!("    {line}"));
+    }
+    let missed = run::missed(&rows);
+    for (op, kind, aim) in &missed {
+        println!("never reached: {} {kind}: {aim:?}", op.name());
+    }
+    let comparable = total.calls - total.not_comparable;
+    println!("seed {}, {} calls in {:.1} s", plan.seed, total.calls, time.as_secs_f64());
+    println!("comparable with the Rust: {comparable}");
+    println!("with a NaN ratio, held to the rule of docs/RULES.md alone: {}", total.not_comparable);
+    println!("differences: {}; aims never reached: {}", total.different, missed.len());
+    Ok(total.different == 0 && missed.is_empty())
+}
+
+/// Shows one call in full.
+fn one(arguments: &Arguments) -> Result<bool, String> {
+    let op = arguments.text("op").and_then(Op::named).ok_or("--op is missing")?;
+    let name = arguments.text("kind").ok_or("--kind is missing")?;
+    let kind = kinds::of(op).into_iter().find(|kind| kind.name == name);
+    let kind = kind.ok_or(format!("{} has no kind {name}", op.name()))?;
+    let (seed, index) = (arguments.value("seed", 1)?, arguments.value("index", 0)?);
+    let (library, _) = linked();
+    let (call, owed, found) = run::try_one(&library, &kind, seed, index, &Junk::new(seed));
+    println!("{call:?}\nowed: {owed:?}");
+    found.iter().for_each(|line| println!("{line}"));
+    println!("differences: {}", found.len());
+    Ok(found.is_empty())
+}
+
+/// Compares square roots with the hardware's.
+fn sqrt(arguments: &Arguments) -> Result<bool, String> {
+    let (library, own) = linked();
+    announce(&own);
+    let (patterns, seed) = (arguments.value("patterns", 10_000_000)?, arguments.value("seed", 1)?);
+    Ok(root::compare(&library, patterns, seed))
+}
+
+/// Compares what a record program prints.
+fn records(arguments: &Arguments) -> Result<bool, String> {
+    let start = Instant::now();
+    let plan = programs::Plan {
+        program: arguments.text("program").ok_or("--program is missing")?,
+        files: arguments.value("files", 2_000)?,
+        seed: arguments.value("seed", 1)?,
+        threads: arguments.value("threads", 1)?,
+    };
+    let equal = programs::compare(plan)?;
+    println!("seed {}, {} files in {:.1} s", plan.seed, plan.files, start.elapsed().as_secs_f64());
+    Ok(equal)
+}
+
+/// Writes the stored list.
+fn write_list(arguments: &Arguments) -> Result<bool, String> {
+    let file = arguments.text("file").ok_or("--file is missing")?;
+    let (bytes, calls) = replay::list(arguments.value("seed", 1)?, arguments.value("each", 30)?);
+    fs::write(file, &bytes).map_err(|error| format!("{file}: {error}"))?;
+    println!("{calls} calls, {} bytes", bytes.len());
+    Ok(true)
+}
+
+/// Checks the stored list against the Rust, and the library against it.
+fn check_list(arguments: &Arguments) -> Result<bool, String> {
+    let (library, own) = linked();
+    announce(&own);
+    let file = arguments.text("file").ok_or("--file is missing")?;
+    let bytes = fs::read(file).map_err(|error| format!("{file}: {error}"))?;
+    let found = replay::verify(&bytes, &library)?;
+    println!("{:<10}{:>7} {:?}", "op", "calls", "by number, from 0");
+    for op in OPS {
+        let numbers = found.numbers[op.code()];
+        println!("{:<10}{:>7} {numbers:?}", op.name(), numbers.iter().sum::<u64>());
+    }
+    println!(
+        "{} calls, {} with a NaN ratio, the longest {} words",
+        found.calls, found.nan_ratios, found.longest
+    );
+    println!("differences: {}", found.different);
+    Ok(found.different == 0)
+}

@@ -1,0 +1,156 @@
+/// One slip in the Rust files: the file, what is changed there, and, where the comparison cannot
+/// tell it, why.
+pub struct Slip {
+    pub name: &'static str,
+    pub file: &'static str,
+    /// What is found, which of its places (from 1), and what is put there.
+    pub changes: &'static [(&'static str, usize, &'static str)],
+    pub unseen: Option<&'static str>,
+}
+
+const fn told(
+    file: &'static str,
+    name: &'static str,
+    changes: &'static [(&'static str, usize, &'static str)],
+) -> Slip {
+    Slip { name, file, changes, unseen: None }
+}
+
+const fn unseen(
+    file: &'static str,
+    name: &'static str,
+    changes: &'static [(&'static str, usize, &'static str)],
+    why: &'static str,
+) -> Slip {
+    Slip { name, file, changes, unseen: Some(why) }
+}
+
+const QR: &str = "householder";
+const NNLS: &str = "nnls";
+const LSEI: &str = "lsei";
+const HESSIAN: &str = "hessian";
+const STEP: &str = "subproblem";
+
+/// A sum that starts at +0.
+const FROM_ZERO: &str = ".fold(0.0, |sum: f64, term: f64| sum + term)";
+
+pub const SLIPS: &[Slip] = &[
+    told(QR, "last of equal pivots", &[("next.1 > best.1", 1, "next.1 >= best.1")]),
+    told(QR, "a NaN norm wins", &[("next.1 > best.1", 1, "!(next.1 <= best.1)")]),
+    told(QR, "tolerance by the shorter side", &[("m.max(n)", 1, "m.min(n)")]),
+    told(QR, "goes on at the tolerance", &[("largest <= tol", 1, "largest < tol")]),
+    told(QR, "tolerance of every step", &[("k == 0", 1, "k < m")]),
+    told(QR, "a zero head taken as above zero", &[("head > 0.0", 1, "head >= 0.0")]),
+    told(QR, "a zero dot reflects", &[("dot == 0.0", 1, "false")]),
+    told(QR, "reflection with one rounding too few", &[(
+        "v[offset + i * stride] += scale * u",
+        1,
+        "v[offset + i * stride] = scale.mul_add(*u, v[offset + i * stride])",
+    )]),
+    told(QR, "product with the inverse of b", &[("dot / self.b", 1, "dot * (1.0 / self.b)")]),
+    told(QR, "below the pivot not cleared but multiplied", &[("k] = 0.0", 1, "k] *= 0.0")]),
+    told(QR, "columns swapped from the pivot row on", &[("in 0..m {", 1, "in k..m {")]),
+    unseen(QR, "reflection's sum from +0", &[(".sum()", 1, FROM_ZERO)],
+        "the sum's sign shows only where it is zero, and then the reflector leaves its vector"),
+    told(QR, "triangle's sum from +0", &[(".sum()", 2, FROM_ZERO)]),
+    told(QR, "transposed triangle's sum from +0", &[(".sum()", 3, FROM_ZERO)]),
+    told(NNLS, "first of equal duals", &[(".max_by(", 1, ".rev().max_by(")]),
+    told(NNLS, "marks cleared inside a pass", &[(
+        "rejected[t] = true",
+        1,
+        "rejected.fill(false); rejected[t] = true",
+    )]),
+    told(NNLS, "marks kept into the next pass", &[
+        ("let mut rejected = vec![false; n];", 1, ""),
+        ("iterations = 0;", 1, "iterations = 0; let mut rejected = vec![false; n];"),
+    ]),
+    told(NNLS, "kept without full rank", &[("full_rank && ", 1, "")]),
+    told(NNLS, "a zero trial value kept", &[("z[t] > 0.0", 1, "z[t] >= 0.0")]),
+    told(NNLS, "a NaN trial value kept", &[("z[t] > 0.0", 1, "!(z[t] <= 0.0)")]),
+    told(NNLS, "a zero dual tried", &[("w[j] > 0.0", 1, "w[j] >= 0.0")]),
+    told(NNLS, "last of equal ratios", &[(".min_by(", 1, ".rev().min_by(")]),
+    told(NNLS, "a zero trial value does not block", &[("z[j] <= 0.0", 1, "z[j] < 0.0")]),
+    told(NNLS, "only the blocking column leaves", &[("j == q || x[j] <= 0.0", 1, "j == q")]),
+    told(NNLS, "a NaN ratio before every number", &[
+        ("reference::tally::ratio", 1, "reference::tally::ratio).map(|p| (p.0, if p.1.is_nan() { -p.1 } else { p.1 })"),
+    ]),
+    unseen(NNLS, "last of 3n rounds refused", &[("iterations > 3", 1, "iterations >= 3")],
+        "no drawn problem ends in exactly 3n rounds, the most are about 1.3n; the limit itself is tried with k below"),
+    told(NNLS, "residual summed right to left", &[("(0..a.cols).map(", 1, "(0..a.cols).rev().map(")]),
+    unseen(NNLS, "ratio at no gap", &[("gap > 0.0", 1, "gap >= 0.0")],
+        "a passive value is above zero or NaN whenever it can block, so no gap is zero"),
+    unseen(NNLS, "what leaves multiplied by zero", &[("x[j] = 0.0", 1, "x[j] *= 0.0")],
+        "the trial takes the place of the whole list at the round's end, +0 outside"),
+    unseen(NNLS, "residual's sum from +0", &[(".sum::<f64>()", 1, FROM_ZERO)],
+        "it shows only as the sign of a zero residual, and from there of a zero dual, which is not tried"),
+    unseen(NNLS, "dual's sum from +0", &[(".sum()", 1, FROM_ZERO)],
+        "it shows only as the sign of a zero dual, which is not tried"),
+    told(LSEI, "a NaN denominator refused", &[("denominator <= INF", 1, "!(denominator > INFEASIBILITY) || denominator <= INF")]),
+    told(LSEI, "admits the infeasibility itself", &[("denominator <= INF", 1, "denominator < INF")]),
+    told(LSEI, "infeasibility ten times smaller", &[("1e3 *", 1, "1e2 *")]),
+    unseen(LSEI, "denominator as one minus the sum", &[(
+        "-r[n]",
+        1,
+        "1.0 - (0..m).map(|i| dual.at(n, i) * u[i]).sum::<f64>()",
+    )], "the two differ only as zeros of other sign, which are refused"),
+    told(LSEI, "LDP's sum from +0", &[(".sum::<f64>()", 1, FROM_ZERO)]),
+    told(LSEI, "E x summed from +0", &[(".sum::<f64>()", 2, FROM_ZERO)]),
+    told(LSEI, "E' r summed from +0", &[(".sum::<f64>()", 3, FROM_ZERO)]),
+    told(LSEI, "G' lambda summed from +0", &[(".sum::<f64>()", 4, FROM_ZERO)]),
+    told(LSEI, "shift's sum from +0", &[(".sum()", 1, FROM_ZERO)]),
+    told(LSEI, "right-hand sides not permuted", &[(".map(|&i| d[i])", 1, ".enumerate().map(|(i, _)| d[i])")]),
+    told(LSEI, "equality multipliers not put back", &[("multipliers[i] = v", 1, "multipliers[k] = v")]),
+    told(LSEI, "solution not put back", &[("x[j] = z[k]", 1, "x[k] = z[k]")]),
+    told(LSEI, "E's rank not tested", &[("qr.rank() < n", 1, "false")]),
+    told(LSEI, "C's rank not tested", &[("qr.rank() < mc", 1, "n < mc")]),
+    told(HESSIAN, "r taken as y when theta is 1", &[(
+        "theta * y +",
+        1,
+        "if theta == 1.0 { *y } else { theta * y + (1.0 - theta) * bs } + 0.0 *",
+    ), ("0.0 * (1.0 - theta) * bs", 1, "-0.0")]),
+    told(HESSIAN, "a NaN s'Bs leaves B", &[("sbs <= 0.0", 1, "!(sbs > 0.0)")]),
+    told(HESSIAN, "a zero s'Bs updates", &[("sbs <= 0.0", 1, "sbs < 0.0")]),
+    told(HESSIAN, "damped at the share itself", &[("sy >= D", 1, "sy > D")]),
+    unseen(HESSIAN, "0.8 for the rest of 0.2", &[("(1.0 - DAMPING)", 1, "0.8")],
+        "1 - 0.2 rounds to the number that 0.8 is"),
+    told(HESSIAN, "first quotient before the product", &[("* r[j] / sr", 1, "/ sr * r[j]")]),
+    told(HESSIAN, "second quotient before the product", &[("* bs[j] / sbs", 1, "/ sbs * bs[j]")]),
+    told(HESSIAN, "two roundings into B", &[("/ sr - bs[i]", 1, "/ sr; self.b[i * n + j] -= bs[i]")]),
+    told(HESSIAN, "Cholesky of the upper triangle", &[("self.b[i * n + j] - dot", 1, "self.b[j * n + i] - dot")]),
+    told(HESSIAN, "an infinite pivot taken", &[(" && entry.is_finite()", 1, "")]),
+    told(HESSIAN, "product's sum from +0", &[(".sum()", 1, FROM_ZERO)]),
+    told(HESSIAN, "Cholesky's sum from +0", &[(".sum()", 2, FROM_ZERO)]),
+    told(HESSIAN, "dot's sum from +0", &[(".sum()", 3, FROM_ZERO)]),
+    told(STEP, "exact problem without the upper triangle", &[(
+        "l[(k % n) * n + k / n]",
+        1,
+        "if k % n < k / n { 0.0 } else { l[(k % n) * n + k / n] }",
+    )]),
+    told(STEP, "relaxed problem with the upper triangle", &[("in i..n", 1, "in 0..n")]),
+    told(STEP, "an infinite lower bound closed", &[("lower.is_finite()", 1, "!lower.is_nan()")]),
+    told(STEP, "a NaN upper bound closed", &[("upper.is_finite()", 1, "!upper.is_infinite()")]),
+    told(STEP, "upper rows before lower", &[
+        ("lower.is_finite()", 1, "upper.is_finite()"),
+        ("upper.is_finite()", 2, "lower.is_finite()"),
+        ("unit(i, 1.0), lower", 1, "unit(i, -1.0), -upper"),
+        ("unit(i, -1.0), -upper", 2, "unit(i, 1.0), lower"),
+    ]),
+    told(STEP, "every inequality in the last column", &[("if c < 0.0 { -c } else { 0.0 }", 1, "-c")]),
+    told(STEP, "second minus first", &[("lambda[0] - lambda[1]", 1, "lambda[1] - lambda[0]")]),
+    told(STEP, "a NaN relaxation clamped", &[(".clamp(0.0, 1.0)", 1, ".max(0.0).min(1.0)")]),
+    told(STEP, "relaxation not clamped", &[(".clamp(0.0, 1.0)", 1, "")]),
+    told(STEP, "only infeasibility relaxes", &[(
+        "|_| relaxed(l, &f, model)",
+        1,
+        "|why| if why == Failure::Infeasible { relaxed(l, &f, model) } else { Err(why) }",
+    )]),
+    told(STEP, "the exact failure returned", &[(
+        "|_| relaxed(l, &f, model)",
+        1,
+        "|why| relaxed(l, &f, model).map_err(|_| why)",
+    )]),
+    told(STEP, "relaxation above 1 admitted", &[("g.push(unit(n, -1.0), -1.0);", 1, "")]),
+    told(STEP, "weight instead of its root", &[("WEIGHT.sqrt()", 1, "WEIGHT")]),
+    told(STEP, "whole rows in the solve for f", &[("i * n + i], &w[..i]", 1, "i * n + n], &w")]),
+    told(STEP, "inequality multipliers from the first", &[("(0, equalities.rhs.len())", 1, "(0, 0)")]),
+];

@@ -1,0 +1,90 @@
+//! Slips around the Rust files: in part 1, in the tests, in the round limit, in what is cleared.
+
+use peer::{Library, library};
+use reference::Rust;
+use reference::call::{Call, Edge, passes};
+use reference::shape::{Op, WORKSPACES};
+
+/// Declares edges, each with its slip, and lists them.
+macro_rules! edges {
+    ($($name:ident $what:literal { $($slip:tt)* })*) => {
+        $(struct $name;
+        impl Edge for $name { $($slip)* })*
+
+        /// What each slip is, and the library that has it.
+        pub fn libraries() -> Vec<(&'static str, Library)> {
+            vec![$(($what, library::<Rust, $name>())),*]
+        }
+    };
+}
+
+edges! {
+    SumFromZero "sum from +0" {
+        fn sum(x: &[f64]) -> f64 { x.iter().fold(0.0, |sum, term| sum + term) }
+    }
+    SumBackwards "sum right to left" {
+        fn sum(x: &[f64]) -> f64 { x.iter().rev().sum() }
+    }
+    NormFromZero "norm from +0" {
+        fn norm(x: &[f64]) -> f64 { x.iter().fold(0.0, |sum, term| sum + term * term).sqrt() }
+    }
+    NormScaled "norm that survives small units" {
+        fn norm(x: &[f64]) -> f64 { x.iter().fold(-0.0, |sum: f64, term| sum.hypot(*term)) }
+    }
+    RootOfMinusZero "root of -0 taken as +0" {
+        fn sqrt(x: f64) -> f64 { x.sqrt() + 0.0 }
+    }
+    RootTruncated "root rounded down" {
+        fn sqrt(x: f64) -> f64 {
+            let root = x.sqrt();
+            let above = root.mul_add(root, -x) > 0.0;
+            if above && root > 0.0 && x.is_finite() { root.next_down() } else { root }
+        }
+    }
+    LengthsFirst "lengths before sizes" { const TESTS: [u32; 4] = [2, 1, 3, 4]; }
+    WorkspacesFirst "workspaces before lengths" { const TESTS: [u32; 4] = [1, 3, 2, 4]; }
+    KindsBefore "kinds before workspaces" { const TESTS: [u32; 4] = [1, 2, 4, 3]; }
+    KindTwo "kind 2 taken" {
+        fn passes(call: &Call, test: u32) -> bool {
+            if test == 4 { call.kinds.iter().all(|&kind| kind <= 2) } else { passes(call, test) }
+        }
+    }
+    ShortWorkspace "a workspace one short taken" {
+        fn passes(call: &Call, test: u32) -> bool {
+            let long = call.work[0] + 1 >= WORKSPACES[0] && call.work[1] >= WORKSPACES[1];
+            if test == 3 { long } else { passes(call, test) }
+        }
+    }
+    ShortIndices "an index workspace one short taken" {
+        fn passes(call: &Call, test: u32) -> bool {
+            let long = call.work[0] >= WORKSPACES[0] && call.work[1] + 1 >= WORKSPACES[1];
+            if test == 3 { long } else { passes(call, test) }
+        }
+    }
+    AnyLimit "a round limit past 3n taken" {
+        fn passes(call: &Call, test: u32) -> bool {
+            let mut call = call.clone();
+            if call.op == Op::Nnls {
+                call.sizes[2] = 0;
+            }
+            passes(&call, test)
+        }
+    }
+    EarlyLimit "refused at the round limit" {
+        fn within(rounds: usize, limit: usize) -> bool { rounds < limit || rounds == 0 }
+    }
+    NoLimit "the round limit not kept" {
+        fn within(_: usize, _: usize) -> bool { true }
+    }
+    Uncleared "not cleared after 5 to 8" {
+        fn clears(number: u32) -> bool { number == 0 }
+    }
+    Overcleared "cleared after 1 to 4" {
+        fn clears(_: u32) -> bool { true }
+    }
+    ClearedShort "one f64 not cleared" { const CLEARED: [usize; 2] = [8191, 512]; }
+    IndicesShort "one u32 not cleared" { const CLEARED: [usize; 2] = [8192, 511]; }
+    ClearedLong "f64 cleared past 8,192" { const CLEARED: [usize; 2] = [8193, 512]; }
+    IndicesLong "u32 cleared past 512" { const CLEARED: [usize; 2] = [8192, 513]; }
+    NothingCleared "workspaces never cleared" { const CLEARED: [usize; 2] = [0, 0]; }
+}

@@ -1,0 +1,199 @@
+//! The C interface, said once: one table, from which the type of a library, a call of it, the
+//! functions over the Rust files and (in the driver) the declarations of a linked one are made.
+
+use crate::lent::{Lent, read, serve};
+use reference::call::{Edge, Kernels};
+use reference::shape::Op;
+
+/// Hands the table of the lent operations to a macro. A row: the operation, its function, its
+/// symbol, its sizes, its slices (pointer, length, role) and its single results.
+#[macro_export]
+macro_rules! interface {
+    ($apply:ident) => {
+        $apply! {
+            Qr qr "gritstrut_qr" [m n]
+                (a a_len read) (r r_len write) (perm perm_len index) (u u_len write)
+                (b b_len write) {rank count};
+            Nnls nnls "gritstrut_nnls" [m n k]
+                (a a_len read) (b b_len read) (x x_len write) {rounds count} {factorings count};
+            Ldp ldp "gritstrut_ldp" [m n]
+                (g g_len read) (h h_len read) (x x_len write) (multipliers l_len write);
+            Lsi lsi "gritstrut_lsi" [n me mg]
+                (e e_len read) (f f_len read) (g g_len read) (h h_len read)
+                (x x_len write) (multipliers l_len write);
+            Lsei lsei "gritstrut_lsei" [n mc me mg]
+                (c c_len read) (d d_len read) (e e_len read) (f f_len read) (g g_len read)
+                (h h_len read) (x x_len write) (multipliers l_len write);
+            Identity identity "gritstrut_identity" [n] (b b_len write);
+            Times times "gritstrut_times" [n]
+                (b b_len read) (v v_len read) (out out_len write);
+            Cholesky cholesky "gritstrut_cholesky" [n] (b b_len read) (l l_len write);
+            Update update "gritstrut_update" [n]
+                (b b_len both) (s s_len read) (y y_len read);
+            Step step "gritstrut_step" [n m]
+                (factor factor_len read) (gradient gradient_len read) (kinds kinds_len kind)
+                (values values_len read) (jacobian jacobian_len read) (lower lower_len read)
+                (upper upper_len read) (d d_len write) (multipliers l_len write)
+                {relaxation real};
+        }
+    };
+}
+
+/// The C type of a slice's pointer or a single result, by its role.
+#[macro_export]
+macro_rules! pointer {
+    (read) => { *const f64 };
+    (kind) => { *const u8 };
+    (write) => { *mut f64 };
+    (both) => { *mut f64 };
+    (index) => { *mut u32 };
+    (count) => { *mut u32 };
+    (real) => { *mut f64 };
+}
+
+/// Counts sizes.
+macro_rules! count_size {
+    ($size:ident) => {
+        usize
+    };
+}
+
+/// What a call passes: each method answers the next slice or place of its role.
+pub trait Lender {
+    fn size(&mut self) -> usize;
+    fn read(&mut self) -> (*const f64, usize);
+    fn kind(&mut self) -> (*const u8, usize);
+    fn write(&mut self) -> (*mut f64, usize);
+    fn both(&mut self) -> (*mut f64, usize);
+    fn index(&mut self) -> (*mut u32, usize);
+    fn count(&mut self) -> *mut u32;
+    fn real(&mut self) -> *mut f64;
+    fn workspace(&mut self) -> (*mut f64, usize);
+    fn index_workspace(&mut self) -> (*mut u32, usize);
+}
+
+/// Gathers a call's arguments by their roles.
+#[derive(Default)]
+struct Arguments {
+    inputs: Vec<Vec<f64>>,
+    kinds: Vec<u8>,
+    outputs: Vec<(*mut f64, usize)>,
+    perm: Option<(*mut u32, usize)>,
+    counts: Vec<*mut u32>,
+    value: Option<*mut f64>,
+}
+
+impl Arguments {
+    unsafe fn read(&mut self, data: *const f64, len: usize) {
+        self.inputs.push(unsafe { read(data, len) });
+    }
+    unsafe fn kind(&mut self, data: *const u8, len: usize) {
+        self.kinds = unsafe { read(data, len) };
+    }
+    unsafe fn write(&mut self, data: *mut f64, len: usize) {
+        self.outputs.push((data, len));
+    }
+    unsafe fn both(&mut self, data: *mut f64, len: usize) {
+        unsafe { self.read(data, len) };
+        self.outputs.push((data, len));
+    }
+    unsafe fn index(&mut self, data: *mut u32, len: usize) {
+        self.perm = Some((data, len));
+    }
+    fn count(&mut self, place: *mut u32) {
+        self.counts.push(place);
+    }
+    fn real(&mut self, place: *mut f64) {
+        self.value = Some(place);
+    }
+
+    unsafe fn answer<K: Kernels, E: Edge>(
+        self,
+        op: Op,
+        sizes: &[usize],
+        w: (*mut f64, usize),
+        iw: (*mut u32, usize),
+    ) -> u32 {
+        let mut lent = Lent::new(&self.outputs, w, iw);
+        lent.perm = self.perm.unwrap_or(lent.perm);
+        (lent.counts, lent.value) = (self.counts, self.value);
+        unsafe { serve::<K, E>(op, sizes, self.inputs, self.kinds, lent) }
+    }
+}
+
+macro_rules! define {
+    ($($op:ident $name:ident $symbol:tt [$($size:ident)*]
+        $(($data:ident $len:ident $role:ident))* $({$place:ident $what:ident})*;)*) => {
+        /// A library's functions, by operation.
+        #[derive(Clone, Copy)]
+        pub struct Library {
+            pub sqrt: unsafe extern "C" fn(f64) -> f64,
+            pub sum: unsafe extern "C" fn(*const f64, usize) -> f64,
+            pub norm: unsafe extern "C" fn(*const f64, usize) -> f64,
+            $(pub $name: unsafe extern "C" fn(
+                $(count_size!($size),)* $(pointer!($role), usize,)* $(pointer!($what),)*
+                *mut f64, usize, *mut u32, usize,
+            ) -> u32,)*
+        }
+
+        /// The lent operations and their symbols.
+        pub const INTERFACE: &[(Op, &str)] = &[$((Op::$op, $symbol)),*];
+
+        impl Library {
+            /// Calls a lent operation with what the lender passes.
+            ///
+            /// # Safety
+            /// All that is lent is good for so many reads and writes.
+            pub unsafe fn call(&self, op: Op, lender: &mut impl Lender) -> u32 {
+                match op {
+                    $(Op::$op => {
+                        $(let $size = lender.size();)*
+                        $(let ($data, $len) = lender.$role();)*
+                        $(let $place = lender.$what();)*
+                        let ((w, w_len), (iw, iw_len)) =
+                            (lender.workspace(), lender.index_workspace());
+                        unsafe {
+                            (self.$name)(
+                                $($size,)* $($data, $len,)* $($place,)* w, w_len, iw, iw_len,
+                            )
+                        }
+                    })*
+                    Op::Sqrt | Op::Sum | Op::Norm => unreachable!("not lent"),
+                }
+            }
+        }
+
+        $(#[allow(clippy::too_many_arguments)]
+        unsafe extern "C" fn $name<K: Kernels, E: Edge>(
+            $($size: usize,)* $($data: pointer!($role), $len: usize,)* $($place: pointer!($what),)*
+            w: *mut f64, w_len: usize, iw: *mut u32, iw_len: usize,
+        ) -> u32 {
+            #[allow(unused_mut)]
+            let mut arguments = Arguments::default();
+            unsafe {
+                $(arguments.$role($data, $len);)*
+                $(arguments.$what($place);)*
+                arguments.answer::<K, E>(Op::$op, &[$($size),*], (w, w_len), (iw, iw_len))
+            }
+        })*
+
+        /// The library over the Rust files.
+        pub fn library<K: Kernels, E: Edge>() -> Library {
+            Library { sqrt: sqrt::<E>, sum: sum::<E>, norm: norm::<E>, $($name: $name::<K, E>,)* }
+        }
+    };
+}
+
+interface!(define);
+
+unsafe extern "C" fn sqrt<E: Edge>(x: f64) -> f64 {
+    E::sqrt(x)
+}
+
+unsafe extern "C" fn sum<E: Edge>(x: *const f64, x_len: usize) -> f64 {
+    E::sum(unsafe { std::slice::from_raw_parts(x, x_len) })
+}
+
+unsafe extern "C" fn norm<E: Edge>(x: *const f64, x_len: usize) -> f64 {
+    E::norm(unsafe { std::slice::from_raw_parts(x, x_len) })
+}

@@ -1,0 +1,238 @@
+//! A call of a public operation and the full answer that it is owed.
+
+use crate::shape::{Lengths, Op, WORKSPACES};
+use crate::stand_in::{self, Failure};
+use crate::tally::{self, Tally};
+
+/// A call: everything that crosses the C interface inwards.
+#[derive(Debug, Clone)]
+pub struct Call {
+    pub op: Op,
+    /// The sizes, and k for NNLS.
+    pub sizes: Vec<usize>,
+    /// The slices of f64 that are read, in the order of the C interface.
+    pub inputs: Vec<Vec<f64>>,
+    /// The kinds of the constraints.
+    pub kinds: Vec<u8>,
+    /// The lengths of the slices of f64 that are written.
+    pub outputs: Vec<usize>,
+    /// The length of the permutation.
+    pub perm: usize,
+    /// The lengths of the workspaces.
+    pub work: [usize; 2],
+}
+
+impl Call {
+    /// A call whose outputs and workspaces are as long as its sizes ask.
+    pub fn new(op: Op, sizes: &[usize], inputs: Vec<Vec<f64>>) -> Self {
+        let Lengths { kinds, outputs, perm, .. } = op.lengths(sizes);
+        let (sizes, kinds) = (sizes.to_vec(), vec![0; kinds]);
+        Self { op, sizes, inputs, kinds, outputs, perm, work: WORKSPACES }
+    }
+
+    /// The lengths of the slices as they are.
+    pub fn lengths(&self) -> Lengths {
+        Lengths {
+            inputs: self.inputs.iter().map(Vec::len).collect(),
+            kinds: self.kinds.len(),
+            outputs: self.outputs.clone(),
+            perm: self.perm,
+        }
+    }
+}
+
+/// What a call returns: its number, and with 0 all its values.
+#[derive(Debug, Clone, Default)]
+pub struct Answer {
+    pub number: u32,
+    /// The slices of f64 that are written; for `update` the matrix afterwards.
+    pub outputs: Vec<Vec<f64>>,
+    pub perm: Vec<u32>,
+    /// The rank; or the rounds and the factorings.
+    pub counts: Vec<u32>,
+    /// The relaxation, or the value of a root, sum or norm.
+    pub value: Option<f64>,
+    /// What the run passed through.
+    pub tally: Tally,
+}
+
+impl Answer {
+    fn refused(number: u32) -> Self {
+        Self { number, ..Self::default() }
+    }
+
+    fn written(outputs: Vec<Vec<f64>>) -> Self {
+        Self { outputs, ..Self::default() }
+    }
+
+    fn valued(value: f64) -> Self {
+        Self { value: Some(value), ..Self::default() }
+    }
+
+    /// Whether an output or the value is NaN.
+    pub fn has_nan(&self) -> bool {
+        let mut all = self.outputs.iter().flatten().chain(&self.value);
+        all.any(|value| value.is_nan())
+    }
+
+    /// Columns that NNLS tried and put back.
+    pub fn rejected(&self) -> u32 {
+        let rounds = self.counts.first().copied().unwrap_or(0);
+        (self.tally.factorings - self.tally.blocks).saturating_sub(rounds)
+    }
+}
+
+/// A factorization as the public operation shows it.
+pub struct Factored {
+    pub rank: usize,
+    pub r: Vec<f64>,
+    pub perm: Vec<u32>,
+    pub u: Vec<f64>,
+    pub b: Vec<f64>,
+}
+
+/// A point and its multipliers.
+pub struct Solution {
+    pub x: Vec<f64>,
+    pub multipliers: Vec<f64>,
+}
+
+/// What stands around the Rust files: part 1, the tests before the arithmetic, the round limit,
+/// and what a call leaves in the buffers that it is lent.
+pub trait Edge: 'static {
+    /// The numbers of the tests before the arithmetic, in their order.
+    const TESTS: [u32; 4] = [1, 2, 3, 4];
+    /// How many f64 and u32 of the workspaces are cleared.
+    const CLEARED: [usize; 2] = WORKSPACES;
+    fn sqrt(x: f64) -> f64 {
+        x.sqrt()
+    }
+    fn sum(x: &[f64]) -> f64 {
+        x.iter().sum()
+    }
+    fn norm(x: &[f64]) -> f64 {
+        stand_in::norm(x.iter().copied())
+    }
+    /// Whether a call passes the test of a number.
+    fn passes(call: &Call, test: u32) -> bool {
+        passes(call, test)
+    }
+    /// Whether an answer of so many rounds is within the limit.
+    fn within(rounds: usize, limit: usize) -> bool {
+        rounds <= limit
+    }
+    /// Whether a number leaves the workspaces cleared.
+    fn clears(number: u32) -> bool {
+        number == 0 || number >= 5
+    }
+}
+
+/// The rules' edge.
+pub struct Sound;
+
+impl Edge for Sound {}
+
+/// The arithmetic behind the public operations, as the Rust files have it.
+pub trait Kernels: 'static {
+    fn qr(m: usize, n: usize, a: &[f64]) -> Factored;
+    /// The solution and its rounds.
+    fn nnls(m: usize, n: usize, a: &[f64], b: &[f64]) -> Result<(Vec<f64>, usize), Failure>;
+    fn ldp(m: usize, n: usize, g: &[f64], h: &[f64]) -> Result<Solution, Failure>;
+    /// LSI of `[n, me, mg]` on `[e, f, g, h]`.
+    fn lsi(sizes: &[usize], inputs: &[Vec<f64>]) -> Result<Solution, Failure>;
+    /// LSEI of `[n, mc, me, mg]` on `[c, d, e, f, g, h]`.
+    fn lsei(sizes: &[usize], inputs: &[Vec<f64>]) -> Result<Solution, Failure>;
+    fn identity(n: usize) -> Vec<f64>;
+    fn times(n: usize, b: &[f64], v: &[f64]) -> Vec<f64>;
+    fn cholesky(n: usize, b: &[f64]) -> Option<Vec<f64>>;
+    fn update(n: usize, b: &[f64], s: &[f64], y: &[f64]) -> Vec<f64>;
+    /// The step for `[factor, gradient, values, jacobian, lower, upper]`, and its relaxation.
+    fn step(kinds: &[u8], inputs: &[Vec<f64>]) -> Result<(Solution, f64), Failure>;
+}
+
+/// The first refusal before the arithmetic, if there is one.
+pub fn refusal<E: Edge>(call: &Call) -> Option<u32> {
+    if !call.op.is_lent() {
+        return None;
+    }
+    E::TESTS.into_iter().find(|&test| !E::passes(call, test))
+}
+
+/// Whether a call passes the test of a number.
+pub fn passes(call: &Call, test: u32) -> bool {
+    match test {
+        1 => call.op.sizes_fit(&call.sizes),
+        2 => fits(call),
+        3 => call.work[0] >= WORKSPACES[0] && call.work[1] >= WORKSPACES[1],
+        _ => call.kinds.iter().all(|&kind| kind <= 1),
+    }
+}
+
+/// Whether each slice is as long as its size; sizes out of the table ask for nothing here.
+fn fits(call: &Call) -> bool {
+    let small = call.sizes.iter().all(|&size| size < 1 << 16);
+    small && call.op.lengths(&call.sizes) == call.lengths()
+}
+
+/// The full answer to a call.
+pub fn answer<K: Kernels, E: Edge>(call: &Call) -> Answer {
+    if let Some(number) = refusal::<E>(call) {
+        return Answer::refused(number);
+    }
+    tally::take();
+    let mut answer = arithmetic::<K, E>(call);
+    answer.tally = tally::take();
+    if call.op == Op::Nnls && answer.number == 0 {
+        answer.counts.push(answer.tally.factorings);
+    }
+    answer
+}
+
+fn arithmetic<K: Kernels, E: Edge>(call: &Call) -> Answer {
+    let (sizes, inputs) = (&call.sizes[..], &call.inputs[..]);
+    match call.op {
+        Op::Sqrt => Answer::valued(E::sqrt(inputs[0][0])),
+        Op::Sum => Answer::valued(E::sum(&inputs[0])),
+        Op::Norm => Answer::valued(E::norm(&inputs[0])),
+        Op::Qr => factored(K::qr(sizes[0], sizes[1], &inputs[0])),
+        Op::Nnls => match K::nnls(sizes[0], sizes[1], &inputs[0], &inputs[1]) {
+            Ok((x, rounds)) if E::within(rounds, sizes[2]) => {
+                Answer { counts: vec![rounds as u32], ..Answer::written(vec![x]) }
+            }
+            _ => Answer::refused(7),
+        },
+        Op::Ldp => solved(K::ldp(sizes[0], sizes[1], &inputs[0], &inputs[1])),
+        Op::Lsi => solved(K::lsi(sizes, inputs)),
+        Op::Lsei => solved(K::lsei(sizes, inputs)),
+        Op::Identity => Answer::written(vec![K::identity(sizes[0])]),
+        Op::Times => Answer::written(vec![K::times(sizes[0], &inputs[0], &inputs[1])]),
+        Op::Cholesky => match K::cholesky(sizes[0], &inputs[0]) {
+            Some(l) => Answer::written(vec![l]),
+            None => Answer::refused(8),
+        },
+        Op::Update => {
+            let after = K::update(sizes[0], &inputs[0], &inputs[1], &inputs[2]);
+            Answer::written(vec![after])
+        }
+        Op::Step => match K::step(&call.kinds, inputs) {
+            Ok((solution, relaxation)) => {
+                Answer { value: Some(relaxation), ..solved(Ok(solution)) }
+            }
+            Err(failure) => solved(Err(failure)),
+        },
+    }
+}
+
+fn factored(factored: Factored) -> Answer {
+    let Factored { rank, r, perm, u, b } = factored;
+    Answer { perm, counts: vec![rank as u32], ..Answer::written(vec![r, u, b]) }
+}
+
+fn solved(result: Result<Solution, Failure>) -> Answer {
+    match result {
+        Ok(Solution { x, multipliers }) => Answer::written(vec![x, multipliers]),
+        Err(Failure::RankDeficient) => Answer::refused(5),
+        Err(Failure::Infeasible) => Answer::refused(6),
+        Err(Failure::IterationCap) => Answer::refused(7),
+    }
+}

@@ -1,0 +1,21 @@
+//! The Rust files, built with a stand-in by docs/RULES.md for what they lean on, and the
+//! full answer that a public operation owes: the rules' refusals around their arithmetic.
+
+extern crate self as reference;
+
+pub mod call;
+pub mod shape;
+pub mod stand_in;
+pub mod tally;
+
+include!(concat!(env!("OUT_DIR"), "/tree.rs"));
+
+pub use kernels::Rust;
+
+/// The toolchain that this was built with.
+pub const TOOLCHAIN: &str = env!("TOOLCHAIN");
+
+/// Whether this library's sums start at -0, as docs/RULES.md has it.
+pub fn sums_start_at_minus_zero() -> bool {
+    std::iter::empty::<f64>().sum::<f64>().to_bits() == (-0.0f64).to_bits()
+}

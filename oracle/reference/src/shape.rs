@@ -1,0 +1,144 @@
+//! The public operations: their sizes, and how long each slice is.
+
+/// A public operation.
+#[derive(Debug, Clone, Copy, PartialEq, Eq, Hash)]
+pub enum Op {
+    Sqrt,
+    Sum,
+    Norm,
+    Qr,
+    Nnls,
+    Ldp,
+    Lsi,
+    Lsei,
+    Identity,
+    Times,
+    Cholesky,
+    Update,
+    Step,
+}
+
+/// Every public operation, in the order of the port.
+pub const OPS: [Op; 13] = [
+    Op::Sqrt,
+    Op::Sum,
+    Op::Norm,
+    Op::Qr,
+    Op::Nnls,
+    Op::Ldp,
+    Op::Lsi,
+    Op::Lsei,
+    Op::Identity,
+    Op::Times,
+    Op::Cholesky,
+    Op::Update,
+    Op::Step,
+];
+
+/// How many f64 and u32 the workspaces hold at least.
+pub const WORKSPACES: [usize; 2] = [8192, 512];
+
+/// The lengths of an operation's slices, each group in the order of the C interface.
+#[derive(Debug, Clone, PartialEq, Eq, Default)]
+pub struct Lengths {
+    /// Slices of f64 that are read; the first of `update` is written too.
+    pub inputs: Vec<usize>,
+    /// Kinds of constraints.
+    pub kinds: usize,
+    /// Slices of f64 that are written.
+    pub outputs: Vec<usize>,
+    /// Entries of the permutation.
+    pub perm: usize,
+}
+
+impl Op {
+    /// The operation's place in the port, from 0; the stored list names it so.
+    pub fn code(self) -> usize {
+        self as usize
+    }
+
+    /// The name after `gritstrut_`.
+    pub fn name(self) -> &'static str {
+        match self {
+            Op::Sqrt => "sqrt",
+            Op::Sum => "sum",
+            Op::Norm => "norm",
+            Op::Qr => "qr",
+            Op::Nnls => "nnls",
+            Op::Ldp => "ldp",
+            Op::Lsi => "lsi",
+            Op::Lsei => "lsei",
+            Op::Identity => "identity",
+            Op::Times => "times",
+            Op::Cholesky => "cholesky",
+            Op::Update => "update",
+            Op::Step => "step",
+        }
+    }
+
+    /// The operation of a name.
+    pub fn named(name: &str) -> Option<Op> {
+        OPS.into_iter().find(|op| op.name() == name)
+    }
+
+    /// Whether the operation has sizes, refusals and workspaces: all but part 1.
+    pub fn is_lent(self) -> bool {
+        !matches!(self, Op::Sqrt | Op::Sum | Op::Norm)
+    }
+
+    /// From where to where each size may go, in the order of the C interface. The limit of
+    /// NNLS's last one is for the most columns: see `sizes_fit`.
+    pub fn sizes(self) -> &'static [(usize, usize)] {
+        match self {
+            Op::Sqrt | Op::Sum | Op::Norm => &[],
+            Op::Qr => &[(0, 18), (0, 66)],
+            Op::Nnls => &[(0, 18), (0, 66), (0, 198)],
+            Op::Ldp => &[(0, 66), (0, 17)],
+            Op::Lsi => &[(0, 17), (0, 17), (0, 66)],
+            Op::Lsei => &[(0, 17), (0, 16), (0, 17), (0, 66)],
+            Op::Identity | Op::Times | Op::Cholesky | Op::Update => &[(1, 16)],
+            Op::Step => &[(1, 16), (0, 16)],
+        }
+    }
+
+    /// Whether the sizes are those of the rules' table.
+    pub fn sizes_fit(self, sizes: &[usize]) -> bool {
+        let mut ranges = self.sizes().iter().zip(sizes);
+        let within = ranges.all(|(&(from, to), &size)| from <= size && size <= to);
+        within && (self != Op::Nnls || sizes[2] <= 3 * sizes[1])
+    }
+
+    /// The lengths that fitting sizes ask for; for `sum` and `norm` none is asked.
+    pub fn lengths(self, sizes: &[usize]) -> Lengths {
+        let size = |i: usize| sizes.get(i).copied().unwrap_or(0);
+        let (first, second, third, fourth) = (size(0), size(1), size(2), size(3));
+        let (inputs, outputs) = match self {
+            Op::Sqrt | Op::Sum | Op::Norm => (vec![], vec![]),
+            Op::Qr => {
+                let steps = first.min(second);
+                (vec![first * second], vec![first * second, steps * first, steps])
+            }
+            Op::Nnls => (vec![first * second, first], vec![second]),
+            Op::Ldp => (vec![first * second, first], vec![second, first]),
+            Op::Lsi => {
+                let inputs = vec![second * first, second, third * first, third];
+                (inputs, vec![first, third])
+            }
+            Op::Lsei => {
+                let (n, mc, me, mg) = (first, second, third, fourth);
+                (vec![mc * n, mc, me * n, me, mg * n, mg], vec![n, mc + mg])
+            }
+            Op::Identity => (vec![], vec![first * first]),
+            Op::Times => (vec![first * first, first], vec![first]),
+            Op::Cholesky => (vec![first * first], vec![first * first]),
+            Op::Update => (vec![first * first, first, first], vec![]),
+            Op::Step => {
+                let (n, m) = (first, second);
+                (vec![n * n, n, m, m * n, n, n], vec![n, m])
+            }
+        };
+        let kinds = if self == Op::Step { second } else { 0 };
+        let perm = if self == Op::Qr { second } else { 0 };
+        Lengths { inputs, kinds, outputs, perm }
+    }
+}

@@ -1,0 +1,329 @@
+//! The buffers of a call with a margin around each, and the comparison of all that it leaves.
+
+use crate::draw::Draw;
+use peer::{Lender, Library};
+use reference::call::{Answer, Call};
+use reference::shape::{Op, WORKSPACES};
+
+/// Entries on either side of each buffer that no call may touch.
+const MARGIN: usize = 3;
+
+/// Values that are compared by their bits.
+pub trait Pattern: Copy {
+    fn bits(self) -> u64;
+    fn of(bits: u64) -> Self;
+}
+
+impl Pattern for f64 {
+    fn bits(self) -> u64 {
+        self.to_bits()
+    }
+    fn of(bits: u64) -> Self {
+        f64::from_bits(bits)
+    }
+}
+
+impl Pattern for u32 {
+    fn bits(self) -> u64 {
+        u64::from(self)
+    }
+    fn of(bits: u64) -> Self {
+        bits as u32
+    }
+}
+
+impl Pattern for u8 {
+    fn bits(self) -> u64 {
+        u64::from(self)
+    }
+    fn of(bits: u64) -> Self {
+        bits as u8
+    }
+}
+
+/// Junk to fill buffers with: NaNs, infinities, zeros of both signs, whole numbers, any bits.
+pub struct Junk(Vec<u64>);
+
+impl Junk {
+    /// Some twenty thousand entries of a seed.
+    pub fn new(seed: u64) -> Self {
+        let mut draw = Draw::new(seed, Op::Sum, "junk", 0);
+        let one = |draw: &mut Draw| match draw.below(8) {
+            0 => draw.pick(&crate::draw::SPECIAL),
+            1 => (draw.below(100) as f64).to_bits(),
+            2 => draw.below(600) as u64,
+            3 => draw.smooth().to_bits(),
+            _ => draw.bits(),
+        };
+        Self((0..20_011).map(|_| one(&mut draw)).collect())
+    }
+}
+
+/// A buffer as it was before the call and as it is now.
+pub struct Held<T> {
+    before: Vec<T>,
+    now: Vec<T>,
+}
+
+impl<T: Pattern> Held<T> {
+    fn of(values: &[T], junk: &Junk, draw: &mut Draw) -> Self {
+        let mut held = Self::junk(values.len(), junk, draw);
+        held.before[MARGIN..MARGIN + values.len()].copy_from_slice(values);
+        held.now.copy_from_slice(&held.before);
+        held
+    }
+
+    fn junk(len: usize, junk: &Junk, draw: &mut Draw) -> Self {
+        let total = len + 2 * MARGIN;
+        let start = draw.below(junk.0.len() - total);
+        let before: Vec<T> = junk.0[start..start + total].iter().map(|&bits| T::of(bits)).collect();
+        Self { now: before.clone(), before }
+    }
+
+    fn pointer(&mut self) -> (*mut T, usize) {
+        let len = self.now.len() - 2 * MARGIN;
+        (self.now[MARGIN..].as_mut_ptr(), len)
+    }
+
+    fn body(&self) -> &[T] {
+        &self.now[MARGIN..self.now.len() - MARGIN]
+    }
+
+    /// The first entry from `start` on whose bits changed, counted in the buffer.
+    fn changed(&self, start: usize) -> Option<isize> {
+        let end = self.now.len();
+        let differs = |&i: &usize| self.now[i].bits() != self.before[i].bits();
+        let found = (MARGIN + start..end).chain(0..MARGIN).find(differs)?;
+        Some(found as isize - MARGIN as isize)
+    }
+
+    /// The first entry before or after the buffer whose bits changed.
+    fn spilt(&self) -> Option<isize> {
+        let mut found = None;
+        for i in (0..MARGIN).chain(self.now.len() - MARGIN..self.now.len()) {
+            if self.now[i].bits() != self.before[i].bits() {
+                found = Some(i as isize - MARGIN as isize);
+            }
+        }
+        found
+    }
+}
+
+/// All buffers of a call, handed out in their order.
+struct Buffers {
+    sizes: Vec<usize>,
+    inputs: Vec<Held<f64>>,
+    kinds: Held<u8>,
+    outputs: Vec<Held<f64>>,
+    perm: Held<u32>,
+    counts: Vec<Held<u32>>,
+    value: Held<f64>,
+    w: Held<f64>,
+    iw: Held<u32>,
+    /// How many sizes, inputs, outputs and counts were handed out.
+    given: [usize; 4],
+}
+
+impl Buffers {
+    fn new(call: &Call, junk: &Junk, draw: &mut Draw) -> Self {
+        let inputs = call.inputs.iter().map(|values| Held::of(values, junk, draw)).collect();
+        let outputs = call.outputs.iter().map(|&len| Held::junk(len, junk, draw)).collect();
+        let counts = (0..2).map(|_| Held::junk(1, junk, draw)).collect();
+        Self {
+            sizes: call.sizes.clone(),
+            inputs,
+            kinds: Held::of(&call.kinds, junk, draw),
+            outputs,
+            perm: Held::junk(call.perm, junk, draw),
+            counts,
+            value: Held::junk(1, junk, draw),
+            w: Held::junk(call.work[0], junk, draw),
+            iw: Held::junk(call.work[1], junk, draw),
+            given: [0; 4],
+        }
+    }
+
+    fn next(&mut self, group: usize) -> usize {
+        self.given[group] += 1;
+        self.given[group] - 1
+    }
+}
+
+impl Lender for Buffers {
+    fn size(&mut self) -> usize {
+        let next = self.next(0);
+        self.sizes[next]
+    }
+    fn read(&mut self) -> (*const f64, usize) {
+        let (data, len) = self.both();
+        (data, len)
+    }
+    fn kind(&mut self) -> (*const u8, usize) {
+        let (data, len) = self.kinds.pointer();
+        (data, len)
+    }
+    fn write(&mut self) -> (*mut f64, usize) {
+        let next = self.next(2);
+        self.outputs[next].pointer()
+    }
+    fn both(&mut self) -> (*mut f64, usize) {
+        let next = self.next(1);
+        self.inputs[next].pointer()
+    }
+    fn index(&mut self) -> (*mut u32, usize) {
+        self.perm.pointer()
+    }
+    fn count(&mut self) -> *mut u32 {
+        let next = self.next(3);
+        self.counts[next].pointer().0
+    }
+    fn real(&mut self) -> *mut f64 {
+        self.value.pointer().0
+    }
+    fn workspace(&mut self) -> (*mut f64, usize) {
+        self.w.pointer()
+    }
+    fn index_workspace(&mut self) -> (*mut u32, usize) {
+        self.iw.pointer()
+    }
+}
+
+/// Whether a value is the one owed: the same bits, or any NaN for any NaN.
+fn same(owed: f64, found: f64) -> bool {
+    owed.to_bits() == found.to_bits() || (owed.is_nan() && found.is_nan())
+}
+
+fn shown(value: f64) -> String {
+    format!("{:016x} ({value:e})", value.to_bits())
+}
+
+/// Makes the call and answers every way in which the library's answer is not the one owed.
+pub fn compare(
+    library: &Library,
+    call: &Call,
+    owed: &Answer,
+    junk: &Junk,
+    draw: &mut Draw,
+) -> Vec<String> {
+    if !call.op.is_lent() {
+        return compare_value(library, call, owed, junk, draw);
+    }
+    let mut buffers = Buffers::new(call, junk, draw);
+    let number = unsafe { library.call(call.op, &mut buffers) };
+    let mut found = vec![];
+    if number != owed.number {
+        found.push(format!("number: owed {}, found {number}", owed.number));
+    }
+    let done = owed.number == 0;
+    compare_inputs(&buffers, call.op == Op::Update && done, &mut found);
+    compare_workspaces(&buffers, owed.number, &mut found);
+    if done {
+        compare_outputs(&buffers, call.op, owed, &mut found);
+    } else {
+        compare_untouched(&buffers, &mut found);
+    }
+    found
+}
+
+fn compare_value(
+    library: &Library,
+    call: &Call,
+    owed: &Answer,
+    junk: &Junk,
+    draw: &mut Draw,
+) -> Vec<String> {
+    let mut input = Held::of(&call.inputs[0], junk, draw);
+    let (data, len) = input.pointer();
+    let value = unsafe {
+        match call.op {
+            Op::Sqrt => (library.sqrt)(*data),
+            Op::Sum => (library.sum)(data, len),
+            _ => (library.norm)(data, len),
+        }
+    };
+    let mut found = vec![];
+    let owed = owed.value.unwrap_or(f64::NAN);
+    if !same(owed, value) {
+        found.push(format!("value: owed {}, found {}", shown(owed), shown(value)));
+    }
+    if let Some(entry) = input.changed(0) {
+        found.push(format!("input 0 changed at {entry}"));
+    }
+    found
+}
+
+fn compare_inputs(buffers: &Buffers, updated: bool, found: &mut Vec<String>) {
+    for (i, input) in buffers.inputs.iter().enumerate() {
+        let entry = if updated && i == 0 { input.spilt() } else { input.changed(0) };
+        if let Some(entry) = entry {
+            found.push(format!("input {i} changed at {entry}"));
+        }
+    }
+    if let Some(entry) = buffers.kinds.changed(0) {
+        found.push(format!("kinds changed at {entry}"));
+    }
+}
+
+/// Entries of a workspace that are cleared by a call of the number that is owed.
+fn cleared(number: u32, entries: usize) -> usize {
+    if number == 0 || number >= 5 { entries } else { 0 }
+}
+
+fn compare_workspaces(buffers: &Buffers, number: u32, found: &mut Vec<String>) {
+    let (reals, indices) = (cleared(number, WORKSPACES[0]), cleared(number, WORKSPACES[1]));
+    let w = buffers.w.body().iter().take(reals).position(|value| value.to_bits() != 0);
+    let iw = buffers.iw.body().iter().take(indices).position(|&value| value != 0);
+    for (name, entry) in [("workspace", w), ("index workspace", iw)] {
+        if let Some(entry) = entry {
+            found.push(format!("{name} not cleared at {entry}"));
+        }
+    }
+    let kept = [buffers.w.changed(reals), buffers.iw.changed(indices)];
+    for (name, entry) in ["workspace", "index workspace"].into_iter().zip(kept) {
+        if let Some(entry) = entry {
+            found.push(format!("{name} not kept at {entry}"));
+        }
+    }
+}
+
+fn compare_outputs(buffers: &Buffers, op: Op, owed: &Answer, found: &mut Vec<String>) {
+    let written = if op == Op::Update { &buffers.inputs[..1] } else { &buffers.outputs[..] };
+    for (i, (held, values)) in written.iter().zip(&owed.outputs).enumerate() {
+        for (j, (&value, &owed)) in held.body().iter().zip(values).enumerate() {
+            if !same(owed, value) {
+                let (owed, value) = (shown(owed), shown(value));
+                found.push(format!("output {i} at {j}: owed {owed}, found {value}"));
+            }
+        }
+        if let Some(entry) = held.spilt() {
+            found.push(format!("output {i} spilt at {entry}"));
+        }
+    }
+    if buffers.perm.body() != owed.perm {
+        found.push(format!("perm: owed {:?}, found {:?}", owed.perm, buffers.perm.body()));
+    }
+    for (i, (held, &count)) in buffers.counts.iter().zip(&owed.counts).enumerate() {
+        if held.body() != [count] {
+            found.push(format!("count {i}: owed {count}, found {:?}", held.body()));
+        }
+    }
+    let (value, spilt) = (buffers.value.body()[0], buffers.perm.spilt());
+    if owed.value.is_some_and(|owed| !same(owed, value)) {
+        found.push(format!("relaxation: owed {:?}, found {}", owed.value, shown(value)));
+    }
+    if spilt.is_some() {
+        found.push(format!("perm spilt at {spilt:?}"));
+    }
+}
+
+fn compare_untouched(buffers: &Buffers, found: &mut Vec<String>) {
+    for (i, output) in buffers.outputs.iter().enumerate() {
+        if let Some(entry) = output.changed(0) {
+            found.push(format!("output {i} touched at {entry}"));
+        }
+    }
+    let counts = buffers.counts.iter().any(|held| held.changed(0).is_some());
+    if counts || buffers.perm.changed(0).is_some() || buffers.value.changed(0).is_some() {
+        found.push("perm, a count or the relaxation touched".to_string());
+    }
+}

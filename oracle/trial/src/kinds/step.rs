@@ -1,0 +1,258 @@
+//! Kinds for the step.
+
+use super::parts::{huge, product, strew, tiny};
+use super::{Row, Share};
+use crate::draw::{Draw, Palette, SPECIAL, spell};
+use crate::table::Aim::{Blocked, Nan, Number, Relaxed};
+use reference::call::Call;
+use reference::shape::Op;
+use std::cmp::Ordering;
+
+/// The places of the slices in a call.
+const FACTOR: usize = 0;
+const VALUES: usize = 2;
+const JACOBIAN: usize = 3;
+const LOWER: usize = 4;
+const UPPER: usize = 5;
+
+pub const ROWS: [Row; 23] = [
+    ("every size", Share::All(16 * 17 * 8), &[Number(0), Relaxed], |_, index, draw| {
+        let at = index / 8;
+        posed(draw, (at / 17) as usize + 1, (at % 17) as usize, Palette::Smooth)
+    }),
+    ("one free", Share::All(12 * 12 * 12 * 12), &[Number(0), Number(5), Number(6), Nan], one_free),
+    ("one by one", Share::All(2 * 6561), &[Number(0), Number(6), Relaxed], one_by_one),
+    ("smooth", Share::Weight(8), &[Number(0), Blocked], |_, _, draw| of(draw, Palette::Smooth)),
+    ("whole", Share::Weight(8), &[Number(0), Relaxed, Blocked], |_, _, draw| {
+        of(draw, Palette::Whole)
+    }),
+    ("loose", Share::Weight(6), &[Number(0), Number(6), Relaxed], |_, _, draw| {
+        loose(draw, Palette::Whole)
+    }),
+    ("signs", Share::Weight(4), &[Number(0), Relaxed], |_, _, draw| loose(draw, Palette::Signs)),
+    ("at rest", Share::Weight(5), &[Number(0)], at_rest),
+    ("above the diagonal", Share::Weight(6), &[Number(0), Relaxed], above),
+    ("incompatible", Share::Weight(6), &[Relaxed], incompatible),
+    ("dependent", Share::Weight(5), &[Relaxed], dependent),
+    ("crowded", Share::Weight(4), &[Relaxed], crowded),
+    ("violated", Share::Weight(5), &[Relaxed], violated),
+    ("crossed bounds", Share::Weight(4), &[Number(6)], crossed),
+    ("open sides", Share::Weight(5), &[Number(0)], open),
+    ("singular", Share::Weight(4), &[Number(5)], singular),
+    ("wide", Share::Weight(4), &[Number(0)], |_, _, draw| of(draw, Palette::Wide)),
+    ("tiny", Share::Weight(3), &[Number(0)], |_, _, draw| scaled(draw, tiny)),
+    ("huge", Share::Weight(3), &[Number(0)], |_, _, draw| scaled(draw, huge)),
+    ("one special", Share::Weight(6), &[Number(0), Nan, Relaxed], |_, _, draw| strewn(draw, 1)),
+    ("some special", Share::Weight(4), &[Number(0), Nan], |_, _, draw| strewn(draw, 4)),
+    ("specials", Share::Weight(3), &[Number(0)], |_, _, draw| loose(draw, Palette::Special)),
+    ("bits", Share::Weight(3), &[Number(5)], |_, _, draw| loose(draw, Palette::Bits)),
+];
+
+/// Every slice of a palette.
+fn loose(draw: &mut Draw, palette: Palette) -> Call {
+    let sizes = [draw.size(1, 16), draw.size(0, 16)];
+    let lengths = Op::Step.lengths(&sizes).inputs;
+    let inputs = lengths.into_iter().map(|len| draw.reals(palette, len)).collect();
+    let mut call = Call::new(Op::Step, &sizes, inputs);
+    call.kinds = (0..sizes[1]).map(|_| draw.pick(&[0, 1, 1])).collect();
+    call
+}
+
+/// A lower factor with a sound diagonal; what is above it is +0.
+fn factor(draw: &mut Draw, n: usize, palette: Palette) -> Vec<f64> {
+    let diagonal = |draw: &mut Draw| match palette {
+        Palette::Whole => draw.pick(&[1.0, 2.0]),
+        _ => 0.5 + draw.fraction(),
+    };
+    let mut l = draw.reals(palette, n * n);
+    for (at, entry) in l.iter_mut().enumerate() {
+        match (at / n).cmp(&(at % n)) {
+            Ordering::Less => *entry = 0.0,
+            Ordering::Equal => *entry = diagonal(draw),
+            Ordering::Greater => {}
+        }
+    }
+    l
+}
+
+/// A model that one drawn step fulfils, but for equalities past the variables.
+fn posed(draw: &mut Draw, n: usize, m: usize, palette: Palette) -> Call {
+    let l = factor(draw, n, palette);
+    let (gradient, jacobian) = (draw.reals(palette, n), draw.reals(palette, m * n));
+    let whole = palette == Palette::Whole;
+    let point = draw.reals(if whole { Palette::Whole } else { Palette::Smooth }, n);
+    let slack = |draw: &mut Draw| {
+        if whole { draw.below(3) as f64 } else { draw.fraction() }
+    };
+    let kinds: Vec<u8> = (0..m).map(|_| draw.pick(&[0, 1, 1])).collect();
+    let values = product(&jacobian, n, &point);
+    let values = values
+        .iter()
+        .zip(&kinds)
+        .map(|(reached, &kind)| if kind == 0 { -reached } else { slack(draw) - reached });
+    let values = values.collect();
+    let side = |draw: &mut Draw, open: f64| {
+        if draw.one_in(3) { open } else { open.signum() * slack(draw) }
+    };
+    let lower = point.iter().map(|d| d + side(draw, f64::NEG_INFINITY)).collect();
+    let upper = point.iter().map(|d| d + side(draw, f64::INFINITY)).collect();
+    let inputs = vec![l, gradient, values, jacobian, lower, upper];
+    let mut call = Call::new(Op::Step, &[n, m], inputs);
+    call.kinds = kinds;
+    call
+}
+
+fn of(draw: &mut Draw, palette: Palette) -> Call {
+    let (n, m) = (draw.size(1, 16), draw.size(0, 16));
+    posed(draw, n, m, palette)
+}
+
+fn scaled(draw: &mut Draw, scale: fn(&mut Draw, &mut [Vec<f64>])) -> Call {
+    let mut call = of(draw, Palette::Smooth);
+    let one = draw.below(call.inputs.len());
+    scale(draw, &mut call.inputs[one..=one]);
+    call
+}
+
+fn strewn(draw: &mut Draw, places: usize) -> Call {
+    let mut call = of(draw, Palette::Smooth);
+    strew(draw, &mut call.inputs, places);
+    call
+}
+
+/// A gradient and values of zeros of both signs, bounds that are zeros or open.
+fn at_rest(_: Op, _: u64, draw: &mut Draw) -> Call {
+    let (n, m) = (draw.size(1, 4), draw.size(0, 4));
+    let palette = draw.pick(&[Palette::Smooth, Palette::Whole]);
+    let mut call = posed(draw, n, m, palette);
+    for (side, open) in [(1, 0.0), (VALUES, 0.0), (LOWER, -f64::INFINITY), (UPPER, f64::INFINITY)] {
+        call.inputs[side].iter_mut().for_each(|value| *value = draw.pick(&[0.0, -0.0, open]));
+    }
+    call
+}
+
+/// One variable, no constraint: factor, gradient and bounds over a dozen special values.
+fn one_free(_: Op, index: u64, _: &mut Draw) -> Call {
+    let letters: Vec<f64> = [0, 1, 2, 3, 4, 5, 6, 9, 13, 16, 22, 23]
+        .into_iter()
+        .map(|at: usize| f64::from_bits(SPECIAL[at]))
+        .collect();
+    let values = spell(index, &letters, 4);
+    let one = |at: usize| vec![values[at]];
+    let inputs = vec![one(0), one(1), vec![], vec![], one(2), one(3)];
+    Call::new(Op::Step, &[1, 0], inputs)
+}
+
+/// One variable, one constraint, over short lists of values.
+fn one_by_one(_: Op, index: u64, draw: &mut Draw) -> Call {
+    let letters = [-1.0, -0.0, 2.0];
+    let values = spell(index / 2, &letters, 6);
+    let one = |at: usize| vec![values[at]];
+    let far = draw.pick(&[f64::INFINITY, f64::NEG_INFINITY, f64::NAN, 1.0, 2.0]);
+    let lower = if draw.one_in(2) { vec![-f64::INFINITY] } else { one(4) };
+    let upper = if draw.one_in(2) { vec![far] } else { one(5) };
+    let diagonal = vec![draw.pick(&[1.0, 2.0, values[0]])];
+    let inputs = vec![diagonal, one(1), one(2), one(3), lower, upper];
+    let mut call = Call::new(Op::Step, &[1, 1], inputs);
+    call.kinds = vec![(index % 2) as u8];
+    call
+}
+
+/// Values above the factor's diagonal: the exact problem reads them, the relaxed one does not.
+fn above(_: Op, _: u64, draw: &mut Draw) -> Call {
+    let n = draw.size(2, 16);
+    let m = draw.size(0, 16);
+    let mut call = posed(draw, n, m, Palette::Smooth);
+    let palette = draw.pick(&[Palette::Smooth, Palette::Smooth, Palette::Whole, Palette::Special]);
+    for at in (0..n * n).filter(|at| at % n > at / n) {
+        call.inputs[FACTOR][at] = draw.real(palette);
+    }
+    call
+}
+
+/// Two equalities on one row that differ in their values.
+fn incompatible(_: Op, _: u64, draw: &mut Draw) -> Call {
+    let (n, m) = (draw.size(1, 16), draw.size(2, 16));
+    let palette = draw.pick(&[Palette::Smooth, Palette::Whole]);
+    let mut call = posed(draw, n, m, palette);
+    let (from, to) = (draw.below(m - 1), m - 1);
+    call.inputs[JACOBIAN].copy_within(from * n..(from + 1) * n, to * n);
+    (call.kinds[from], call.kinds[to]) = (0, draw.pick(&[0, 1]));
+    call.inputs[VALUES][to] = call.inputs[VALUES][from] - draw.fraction() * draw.power(-10, 10);
+    call
+}
+
+/// Equalities that stand twice and agree.
+fn dependent(_: Op, _: u64, draw: &mut Draw) -> Call {
+    let (n, m) = (draw.size(1, 16), draw.size(2, 16));
+    let palette = draw.pick(&[Palette::Smooth, Palette::Whole]);
+    let mut call = posed(draw, n, m, palette);
+    let (from, to) = (draw.below(m - 1), m - 1);
+    call.inputs[JACOBIAN].copy_within(from * n..(from + 1) * n, to * n);
+    (call.kinds[from], call.kinds[to]) = (0, 0);
+    call.inputs[VALUES][to] = call.inputs[VALUES][from];
+    call
+}
+
+/// More equalities than variables.
+fn crowded(_: Op, _: u64, draw: &mut Draw) -> Call {
+    let n = draw.between(1, 8);
+    let m = draw.between(n + 1, 16);
+    let mut call = posed(draw, n, m, Palette::Smooth);
+    call.kinds = vec![0; m];
+    if draw.one_in(2) {
+        call.inputs[VALUES] = draw.reals(Palette::Smooth, m);
+    }
+    call
+}
+
+/// Inequalities that the bounds keep from being met, with values of either sign.
+fn violated(_: Op, _: u64, draw: &mut Draw) -> Call {
+    let (n, m) = (draw.size(1, 16), draw.size(1, 16));
+    let mut call = posed(draw, n, m, Palette::Smooth);
+    call.kinds = vec![1; m];
+    for (lower, upper) in [(-0.1, 0.1); 16].into_iter().take(n) {
+        call.inputs[LOWER].push(lower * draw.fraction());
+        call.inputs[UPPER].push(upper * draw.fraction());
+    }
+    call.inputs[LOWER].drain(..n);
+    call.inputs[UPPER].drain(..n);
+    for value in &mut call.inputs[VALUES] {
+        *value = draw.pick(&[-0.0, 0.0, 1.0, -1.0, -3.0]) * (1.0 + draw.fraction());
+    }
+    call
+}
+
+/// A lower bound above its upper.
+fn crossed(_: Op, _: u64, draw: &mut Draw) -> Call {
+    let palette = draw.pick(&[Palette::Smooth, Palette::Whole]);
+    let mut call = of(draw, palette);
+    let at = draw.below(call.sizes[0]);
+    let middle = draw.smooth();
+    call.inputs[LOWER][at] = middle + draw.fraction();
+    call.inputs[UPPER][at] = middle - draw.fraction();
+    call
+}
+
+/// Nonfinite bounds of every sort on both sides.
+fn open(_: Op, _: u64, draw: &mut Draw) -> Call {
+    let mut call = of(draw, Palette::Smooth);
+    for side in [LOWER, UPPER] {
+        for bound in &mut call.inputs[side] {
+            if draw.one_in(2) {
+                *bound = draw.pick(&[f64::INFINITY, f64::NEG_INFINITY, f64::NAN, -f64::NAN]);
+            }
+        }
+    }
+    call
+}
+
+/// A factor with a diagonal entry that is zero or next to it.
+fn singular(_: Op, _: u64, draw: &mut Draw) -> Call {
+    let palette = draw.pick(&[Palette::Smooth, Palette::Whole]);
+    let mut call = of(draw, palette);
+    let n = call.sizes[0];
+    let at = draw.below(n) * (n + 1);
+    call.inputs[FACTOR][at] = draw.pick(&[0.0, -0.0, 1e-17, 1e-300]);
+    call
+}

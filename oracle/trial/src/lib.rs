@@ -1,0 +1,10 @@
+//! Tries a library against the Rust files: seeded calls of every kind, each compared in full.
+
+pub mod draw;
+pub mod files;
+pub mod held;
+pub mod kinds;
+pub mod records;
+pub mod replay;
+pub mod run;
+pub mod table;
