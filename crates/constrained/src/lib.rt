@@ -152,6 +152,9 @@ fn solve_all_ldp(
 pub struct Ldp {}
 
 impl Ldp {
+    // 1 - h'u is refused where it is at most this.
+    pub const INFEASIBILITY: f64 = lsei::Distance::INFEASIBILITY;
+
     // x and the multipliers l, for the m by n matrix G.
     pub fn solve(
         m: usize,

@@ -1,4 +1,12 @@
-// Least distance programming and least squares with inequalities, in the workspace.
+// Least distance programming, min ||x|| with G x >= h, and least squares with inequalities,
+// min ||E x - f|| with G x >= h, each in one part of each workspace.
+//
+// Row i of G stands with h_i behind it, in 18 places: read by columns, that is column i of LDP's dual.
+// LDP, f64: the rows at 0, the dual's right side at 1188, its solution at 1206, its residual at 1272, the
+// multipliers at 1338, x at 1404. In all 3,036, and 264 u32, as nonnegative least squares.
+// LSI, f64: a QR part for E at 0, where x is left at 360; f, then Q'f at 732; LDP's part from 750 on, where
+// the multipliers are left at 2088. In all 3,786. u32: the permutation of E at 0, LDP's part from 18 on.
+// In all 282.
 ghost use mathlib.Core.Path.{_≡_};
 ghost use mathlib.Core.Bool.{cond};
 ghost use Prim.Native.Nat.{ℕ, _+_, _*_, _<_, _≤_};
@@ -26,11 +34,11 @@ pub struct Ended {
 
 // ---- least distance programming
 
-// The solver of min ||x|| with G x >= h.
+// The kernel of least distance programming.
 pub struct Distance {}
 
 impl Distance {
-    // The smallest 1 - h'u that is let pass is above this.
+    // 1 - h'u is refused where it is at most this.
     pub const INFEASIBILITY: f64 = 1000.0 * numbers::Binary64::EPSILON;
 }
 
