@@ -13,13 +13,16 @@ use lib.Ieee.{Float}
 use borrow.Author.Tests.{le-leb, lt-leb, eqb-true}
 use Rattle.numbers.specs.Numbers.{+0, nth}
 use Rattle.workspace.specs.Tables.{Answer, done, refused, call, cleared, isCleared, isDimension, isEqualities}
-use Rattle.workspace.specs.Readings.{vec, Cleared}
+use Rattle.workspace.specs.Readings.{vec}
 use Rattle.workspace.proofs.Parts.{vec-front, front-cleared}
 use Rattle.workspace.proofs.Tests.{and-true, dimension-le, equalities-le}
 use Rattle.nnls.specs.Counted.{Counted}
 use Rattle.subproblem.specs.Step.{Step}
 use Rattle.subproblem.specs.Promise.{areKinds, Steps}
-use Rattle.step.specs.Work.{taken}
+use Rattle.step.specs.Outcomes.{numberOf, relaxationOf}
+use Rattle.step.specs.Work.{takenIn, IsLate, Given}
+use Rattle.step.specs.declared.Outcome.{Outcome}
+use Rattle.step.specs.declared.Tried.{Tried}
 use Rattle.step.specs.declared.Tried.the-variants.{Done, Refused}
 
 -- ---- the tests
@@ -96,40 +99,30 @@ late-cleared k h = ap (λ (b : Bool). eqb k 0 || b) (le-leb 5 k h) ∙ or-true (
     or-true true = refl
     or-true false = refl
 
-module _ (n m : ℕ) (c : Counted Step) (d x v w w' : List Float) (u iw iw' : List ℕ) (lv : length v ≡ 8192) (lu : length u ≡ 512)
-    (K : Cleared (v ++ drop 8192 w) w' (u ++ drop 512 iw) iw') where
-  floats-cleared : w' ≡ cleared +0 8192 w
-  floats-cleared = K .floats ∙ front-cleared +0 8192 v w lv
-
-  words-cleared : iw' ≡ cleared 0 512 iw
-  words-cleared = K .words ∙ front-cleared 0 512 u iw lu
-
-  pub step-refused : (k a b : ℕ) → 5 ≤ k → taken (Refused k a b) (vec 18 n v) (vec 36 m v) ≡ c → Steps (c .answer) k none d d x x w w' iw iw'
-  step-refused k a b h e =
-      let q : refused k ≡ c .answer = ap (λ (t : Counted Step). t .answer) e in
-      rw (← q)
-      (record {
-        the-number = refl;
-        the-relaxation = refl;
-        the-d = refl;
-        the-multipliers = refl;
-        the-floats = rw (late-cleared k h) floats-cleared;
-        the-words = rw (late-cleared k h) words-cleared;
-      })
-
-  pub step-done : (t : Float) (a b : ℕ) (d' x' : List Float) → n ≤ 16 → m ≤ 16 → taken (Done t a b) (vec 18 n v) (vec 36 m v) ≡ c
-      → d' ≡ vec 18 n (v ++ drop 8192 w) → x' ≡ vec 36 m (v ++ drop 8192 w) → Steps (c .answer) 0 (some t) d d' x x' w w' iw iw'
-  step-done t a b d' x' hn hm e f g =
-      let q : done (record { d = vec 18 n v; multipliers = vec 36 m v; relaxation = t }) ≡ c .answer = ap (λ (t : Counted Step). t .answer) e in
-      rw (← q)
-      (record {
-        the-number = refl;
-        the-relaxation = refl;
-        the-d = f ∙ vec-front v (drop 8192 w) 18 n (omega arith);
-        the-multipliers = g ∙ vec-front v (drop 8192 w) 36 m (omega arith);
-        the-floats = floats-cleared;
-        the-words = words-cleared;
-      })
+pub step-given : (n m : ℕ) (c : Counted Step) (t : Tried) (r : Outcome) (d d' x x' v w w' : List Float) (u iw iw' : List ℕ) → n ≤ 16 → m ≤ 16 → length v ≡ 8192 → length u ≡ 512
+    → takenIn n m t v ≡ c → IsLate t → Given n m t r d d' x x' (v ++ drop 8192 w) w' (u ++ drop 512 iw) iw' → Steps (c .answer) (numberOf r) (relaxationOf r) d d' x x' w w' iw iw'
+step-given n m c (Done delta a b) r d d' x x' v w w' u iw iw' hn hm lv lu e l g =
+    let q : done (record { d = vec 18 n v; multipliers = vec 36 m v; relaxation = delta }) ≡ c .answer = ap (λ (t : Counted Step). t .answer) e in
+    rw (← q, g .outcome)
+    (record {
+      the-number = refl;
+      the-relaxation = refl;
+      the-d = g .the-d ∙ vec-front v (drop 8192 w) 18 n (omega arith);
+      the-multipliers = g .the-multipliers ∙ vec-front v (drop 8192 w) 36 m (omega arith);
+      the-floats = g .both .floats ∙ front-cleared +0 8192 v w lv;
+      the-words = g .both .words ∙ front-cleared 0 512 u iw lu;
+    })
+step-given n m c (Refused k a b) r d d' x x' v w w' u iw iw' hn hm lv lu e l g =
+    let q : refused k ≡ c .answer = ap (λ (t : Counted Step). t .answer) e in
+    rw (← q, g .outcome)
+    (record {
+      the-number = refl;
+      the-relaxation = refl;
+      the-d = g .the-d;
+      the-multipliers = g .the-multipliers;
+      the-floats = rw (late-cleared k l) (g .both .floats ∙ front-cleared +0 8192 v w lv);
+      the-words = rw (late-cleared k l) (g .both .words ∙ front-cleared 0 512 u iw lu);
+    })
 
 -- the first k entries came back as v, and the whole is at least as long
 pub front-long : {A : Type 0} (k : ℕ) (v w : List A) → length v ≡ k → k ≤ length (v ++ drop k w)

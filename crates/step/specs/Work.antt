@@ -7,7 +7,7 @@ use lib.ListN.{length}
 use lib.Ieee.{Float}
 use Rattle.numbers.specs.Numbers.{+0, transposed}
 use Rattle.workspace.specs.Tables.{done, refused}
-use Rattle.workspace.specs.Readings.{vec, mat, stack}
+use Rattle.workspace.specs.Readings.{vec, mat, stack, Cleared}
 use Rattle.nnls.specs.Counted.{Counted}
 use Rattle.subproblem.specs.Problem.{Problem, matrixOf, sidesOf, equalityRows, inequalityRows, relaxedRows}
 use Rattle.subproblem.specs.Step.{Step, relaxedMatrix}
@@ -15,6 +15,8 @@ use Rattle.subproblem.specs.Work.{Lengths}
 use Rattle.lsei.specs.Work.{sides}
 use Rattle.lsei.specs.declared.Ending.{Ending}
 use Rattle.lsei.specs.declared.Ending.the-variants as Ending
+use Rattle.step.specs.declared.Outcome.{Outcome}
+use Rattle.step.specs.declared.Outcome.the-variants as Outcome
 use Rattle.step.specs.declared.Sizes.{Sizes}
 use Rattle.step.specs.declared.Tried.{Tried}
 use Rattle.step.specs.declared.Tried.the-variants.{Done, Refused}
@@ -136,3 +138,19 @@ pub record Lent (n m : ℕ) (factor gradient : List Float) (kinds : List ℕ) (v
   pub prices : length multipliers ≡ m
   pub floats : 8192 ≤ length w
   pub words : 512 ≤ length iw
+
+-- a new list where the step is done, and else the old one
+abbrev pub handed : Tried → (new old : List Float) → List Float
+handed (Done relaxation rounds factorings) new old = new
+handed (Refused k rounds factorings) new old = old
+
+abbrev pub outcomeOf : Tried → Outcome
+outcomeOf (Done relaxation rounds factorings) = Outcome.Done relaxation
+outcomeOf (Refused k rounds factorings) = Outcome.Refused k
+
+-- from how the step ended: the outcome, the outputs d and l, and the workspaces, before and, primed, afterwards
+pub record Given (n m : ℕ) (t : Tried) (r : Outcome) (d d' l l' w w' : List Float) (iw iw' : List ℕ) : Type 0 where
+  pub outcome : r ≡ outcomeOf t
+  pub the-d : d' ≡ handed t (vec 18 n w) d
+  pub the-multipliers : l' ≡ handed t (vec 36 m w) l
+  pub both : Cleared w w' iw iw'

@@ -8,7 +8,7 @@ ghost use Prim.Native.Nat.{ℕ, _+_, _*_, _≤_, _<_};
 ghost use lib.Dec.{eqb};
 ghost use lib.ListN.{length, take};
 ghost use Rattle.numbers.specs.Numbers.{at};
-ghost use Rattle.workspace.specs.Tables.{isDimension, isEqualities};
+ghost use Rattle.workspace.specs.Tables.{isDimension, isEqualities, has};
 ghost use Rattle.workspace.specs.Readings.{vec};
 ghost use Rattle.nnls.specs.Counted.{Counted};
 ghost use Rattle.subproblem.specs.Claims.{withFactor};
@@ -16,7 +16,7 @@ ghost use Rattle.subproblem.specs.Promise.{areKinds, stepCall, Steps};
 ghost use Rattle.subproblem.specs.Step.{inOrder, paired, clamped, exact, relaxed, step};
 ghost use Rattle.subproblem.specs.Work.{bare, equalitiesAmong, inequalitiesAmong, relaxedAmong};
 ghost use Rattle.step.specs.Outcomes.{numberOf, relaxationOf};
-ghost use Rattle.step.specs.Work.{problemOf, Ready, ExactIn, RelaxedIn, Readable, Left, refusalOf, takenIn, Tries, roundsOf, factoringsOf, later, IsLate, Lent};
+ghost use Rattle.step.specs.Work.{problemOf, Ready, ExactIn, RelaxedIn, Readable, Left, refusalOf, takenIn, Tries, roundsOf, factoringsOf, later, IsLate, Lent, Given};
 
 // The solver of the step.
 pub struct Step {}
@@ -236,38 +236,45 @@ fn are_sizes(n: usize, m: usize) -> bool
 fn are_lengths(
     n: usize,
     m: usize,
-    factor: usize,
-    gradient: usize,
-    kinds: usize,
-    values: usize,
-    jacobian: usize,
+    factor: &[f64],
+    gradient: &[f64],
+    kinds: &[u8],
+    values: &[f64],
+    jacobian: &[f64],
 ) -> bool
     requires { ⌜ (n ≤ 16) × (m ≤ 16) ⌝ }
-    ensures { λ r. ⌜ r ≡ (eqb factor (n * n) && eqb gradient n && eqb kinds m && eqb values m && eqb jacobian (m * n)) ⌝ }
+    ensures { λ r. ⌜ r ≡ (has (now (factor .entry)) (n * n) && has (now (gradient .entry)) n && has (now (kinds .entry)) m && has (now (values .entry)) m && has (now (jacobian .entry)) (m * n)) ⌝ }
 {
-    if factor != n * n {
+    if factor.len() != n * n {
         return false;
     }
-    if gradient != n {
+    if gradient.len() != n {
         return false;
     }
-    if kinds != m {
+    if kinds.len() != m {
         return false;
     }
-    if values != m {
+    if values.len() != m {
         return false;
     }
-    jacobian == m * n
+    jacobian.len() == m * n
 }
 
-// The lengths of the bounds and of the two outputs.
-fn are_widths(n: usize, m: usize, lower: usize, upper: usize, d: usize, multipliers: usize) -> bool
-    ensures { λ r. ⌜ r ≡ (eqb lower n && eqb upper n && eqb d n && eqb multipliers m) ⌝ }
+// The lengths of the bounds, and those of the two outputs.
+fn are_widths(
+    n: usize,
+    m: usize,
+    lower: &[f64],
+    upper: &[f64],
+    d: usize,
+    multipliers: usize,
+) -> bool
+    ensures { λ r. ⌜ r ≡ (has (now (lower .entry)) n && has (now (upper .entry)) n && eqb d n && eqb multipliers m) ⌝ }
 {
-    if lower != n {
+    if lower.len() != n {
         return false;
     }
-    if upper != n {
+    if upper.len() != n {
         return false;
     }
     if d != n {
@@ -288,7 +295,34 @@ fn are_kinds(kinds: &[u8]) -> bool
     true
 }
 
-// The step, its outputs and the clearing of the workspaces, where no test refuses.
+// Both outputs, where the step is done, and the clearing of the workspaces.
+fn give(
+    t: Tried,
+    d: &mut [f64],
+    multipliers: &mut [f64],
+    w: &mut [f64],
+    iw: &mut [u32],
+    n: usize,
+    m: usize,
+) -> Outcome
+    requires { ⌜ (n ≤ 16) × (m ≤ 16) × (length (now d) ≡ n) × (length (now multipliers) ≡ m) × (8192 ≤ length (now w)) × (512 ≤ length (now iw)) ⌝ }
+    ensures { λ r. ⌜ Given n m t r (now (d .entry)) (now (d .exit)) (now (multipliers .entry)) (now (multipliers .exit)) (now (w .entry)) (now (w .exit)) (now (iw .entry)) (now (iw .exit)) ⌝ }
+{
+    match t {
+        Tried::Done(relaxation, _, _) => {
+            workspace::unload(w, d, 18, n);
+            workspace::unload(w, multipliers, 36, m);
+            workspace::clear(w, iw);
+            Outcome::Done(relaxation)
+        }
+        Tried::Refused(k, _, _) => {
+            workspace::clear(w, iw);
+            Outcome::Refused(k)
+        }
+    }
+}
+
+// The step in the front of the workspaces, where no test refuses.
 fn step_all(
     factor: &[f64],
     gradient: &[f64],
@@ -307,6 +341,8 @@ fn step_all(
     requires { ⌜ Lent n m (now factor) (now gradient) (now kinds) (now values) (now jacobian) (now lower) (now upper) (now d) (now multipliers) (now w) (now iw) ⌝ }
     ensures { λ r. ⌜ Steps (step (problemOf n m (now (factor .entry)) (now (gradient .entry)) (now (kinds .entry)) (now (values .entry)) (now (jacobian .entry)) (now (lower .entry)) (now (upper .entry))) .answer) (numberOf r) (relaxationOf r) (now (d .entry)) (now (d .exit)) (now (multipliers .entry)) (now (multipliers .exit)) (now (w .entry)) (now (w .exit)) (now (iw .entry)) (now (iw .exit)) ⌝ }
 {
+    let v = &mut w[..8192];
+    let u = &mut iw[..512];
     let t = solve_step(
         factor,
         gradient,
@@ -315,23 +351,12 @@ fn step_all(
         jacobian,
         lower,
         upper,
-        &mut w[..8192],
-        &mut iw[..512],
+        v,
+        u,
         n,
         m,
     );
-    match t {
-        Tried::Done(relaxation, _, _) => {
-            workspace::unload(w, d, 18, n);
-            workspace::unload(w, multipliers, 36, m);
-            workspace::clear(w, iw);
-            Outcome::Done(relaxation)
-        }
-        Tried::Refused(k, _, _) => {
-            workspace::clear(w, iw);
-            Outcome::Refused(k)
-        }
-    }
+    give(t, d, multipliers, w, iw, n, m)
 }
 
 impl Step {
@@ -356,18 +381,10 @@ impl Step {
         if !are_sizes(n, m) {
             return Outcome::Refused(1);
         }
-        if !are_lengths(
-            n,
-            m,
-            factor.len(),
-            gradient.len(),
-            kinds.len(),
-            values.len(),
-            jacobian.len(),
-        ) {
+        if !are_lengths(n, m, factor, gradient, kinds, values, jacobian) {
             return Outcome::Refused(2);
         }
-        if !are_widths(n, m, lower.len(), upper.len(), d.len(), multipliers.len()) {
+        if !are_widths(n, m, lower, upper, d.len(), multipliers.len()) {
             return Outcome::Refused(2);
         }
         if !workspace::is_room(w.len(), iw.len()) {

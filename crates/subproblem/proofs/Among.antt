@@ -38,7 +38,7 @@ unfolding inequalityRows
 enough-exact p e =
     let a : length (each (p .m) (λ j. cond (isEquality p j) [] (exactRow p j ∷ []))) ≡ inequalitiesAmong (p .kinds) =
     subst (λ (m : ℕ). length (each m (λ j. cond (isEquality p j) [] (exactRow p j ∷ []))) ≡ inequalitiesAmong (p .kinds)) e (exact-rows (p .kinds) (exactRow p)) in
-    omega (arith, a, length-append (each (p .m) (λ j. cond (isEquality p j) [] (exactRow p j ∷ []))) (boundRows (p .n) p))
+    simp length-append (omega (arith, a))
 
 -- ---- the relaxed problem
 
@@ -56,4 +56,4 @@ enough-relaxed p e =
     let f : ℕ → List Row = λ j. relaxedOf (isEquality p j) (row (p .n) j (p .jacobian)) (at (p .values) j) in
     let a : length (each (p .m) f) ≡ relaxedAmong (p .kinds) =
     subst (λ (m : ℕ). length (each m f) ≡ relaxedAmong (p .kinds)) e (relaxed-rows (p .kinds) (λ j. row (p .n) j (p .jacobian)) (at (p .values))) in
-    omega (arith, a, length-append (each (p .m) f) (boundRows (p .n + 1) p ++ deltaRows (p .n)))
+    simp length-append (omega (arith, a))

@@ -1,26 +1,26 @@
--- `step_all`: the step in the front of the workspaces, its outputs, and the clearing. Assumes nothing.
+-- `step_all`: the step in the front of the workspaces, and what is given of it. Assumes nothing.
 use mathlib.Core.Path.{_≡_, refl, sym, ap, _∙_}
 use Prim.Native.Nat.{ℕ, _+_, _*_, _-_, _≤_, _<_}
 use native.Mathlib.Omega.{arith}
 use lib.ListN.{length}
 use lib.Seq.{length-take-le}
 use borrow.Author.Needs.{needs}
-use Rattle.step.proofs.Calls.{step-done, step-refused, front-long}
+use Rattle.step.proofs.Calls.{step-given, front-long}
 use Rattle.step.proofs.step_all.Statement.{statement}
 use Rattle.step.proofs.step_all.Tie as tie
 
-slice-relend-prefix-solve-step : tie.Need-slice-relend-prefix-solve-step
-slice-relend-prefix-solve-step c = omega (arith, c .before .before .before .before .before .before .before .before .before .before .before .pre .floats)
+slice-relend-prefix-v : tie.Need-slice-relend-prefix-v
+slice-relend-prefix-v c = omega (arith, c .before .before .before .before .before .before .before .before .before .before .before .pre .floats)
 
-slice-aggregate-solve-step : tie.Need-slice-aggregate-solve-step
-slice-aggregate-solve-step c = let s = c .before .before .before .before .before .before .before .before .before .before .before .before in
+slice-aggregate-v : tie.Need-slice-aggregate-v
+slice-aggregate-v c = let s = c .before .before .before .before .before .before .before .before .before .before .before .before in
     sym (length-take-le 8192 (s .args .w .now) (s .pre .floats))
 
-slice-relend-prefix-solve-step-2 : tie.Need-slice-relend-prefix-solve-step-2
-slice-relend-prefix-solve-step-2 c = omega (arith, c .before .before .before .before .before .before .before .before .before .before .before .before .pre .words)
+slice-relend-prefix-u : tie.Need-slice-relend-prefix-u
+slice-relend-prefix-u c = omega (arith, c .before .before .before .before .before .before .before .before .before .before .before .before .pre .words)
 
-slice-aggregate-solve-step-2 : tie.Need-slice-aggregate-solve-step-2
-slice-aggregate-solve-step-2 c = let s = c .before .before .before .before .before .before .before .before .before .before .before .before .before in
+slice-aggregate-u : tie.Need-slice-aggregate-u
+slice-aggregate-u c = let s = c .before .before .before .before .before .before .before .before .before .before .before .before .before in
     sym (length-take-le 512 (s .args .iw .now) (s .pre .words))
 
 solve-step-requires : tie.Need-solve-step-requires
@@ -31,43 +31,13 @@ solve-step-requires c κs = let s = c .before .before .before .before .before .b
       omega (arith, length-take-le 512 (s .args .iw .now) (p .words)),
     )
 
-enum-known-t : tie.Need-enum-known-t
-enum-known-t c = search needs
-
-unload-requires : tie.Need-unload-requires
-unload-requires c κs = let s = c .before .before .before .before .before .before .before .before .before .before .before .before .before .before .before .before .before .before .before .before .before .before .before in
+give-requires : tie.Need-give-requires
+give-requires c κs = let s = c .before .before .before .before .before .before .before .before .before .before .before .before .before .before .before .before .before .before .before .before .before .before in
     let a = s .args in
-    let e = c .before .before .before .before .before .before .before .before .before .solve-step in
+    let e = c .before .before .before .before .before .before .before .before .solve-step in
     let lv = e .kept .1 .1 .1 .1 .1 .1 .1 .0 ∙ length-take-le 8192 (a .w .now) (s .pre .floats) in
     let lu = e .kept .1 .1 .1 .1 .1 .1 .1 .1 .0 ∙ length-take-le 512 (a .iw .now) (s .pre .words) in
-    (omega (arith, front-long 8192 (e .last .1 .1 .1 .1 .1 .1 .1 .0) (a .w .now) lv, s .pre .lengths), s .pre .step)
-
-unload-requires-2 : tie.Need-unload-requires-2
-unload-requires-2 c κs = let s = c .before .before .before .before .before .before .before .before .before .before .before .before .before .before .before .before .before .before .before .before .before .before .before .before .before .before .before .before in
-    let a = s .args in
-    let e = c .before .before .before .before .before .before .before .before .before .before .before .before .before .before .solve-step in
-    let lv = e .kept .1 .1 .1 .1 .1 .1 .1 .0 ∙ length-take-le 8192 (a .w .now) (s .pre .floats) in
-    let lu = e .kept .1 .1 .1 .1 .1 .1 .1 .1 .0 ∙ length-take-le 512 (a .iw .now) (s .pre .words) in
-    (omega (arith, front-long 8192 (e .last .1 .1 .1 .1 .1 .1 .1 .0) (a .w .now) lv, s .pre .lengths), s .pre .prices)
-
-clear-requires : tie.Need-clear-requires
-clear-requires c κs = let s = c .before .before .before .before .before .before .before .before .before .before .before .before .before .before .before .before .before .before .before .before .before .before .before .before .before .before .before .before .before .before .before .before .before in
-    let a = s .args in
-    let e = c .before .before .before .before .before .before .before .before .before .before .before .before .before .before .before .before .before .before .before .solve-step in
-    let lv = e .kept .1 .1 .1 .1 .1 .1 .1 .0 ∙ length-take-le 8192 (a .w .now) (s .pre .floats) in
-    let lu = e .kept .1 .1 .1 .1 .1 .1 .1 .1 .0 ∙ length-take-le 512 (a .iw .now) (s .pre .words) in
-    (front-long 8192 (e .last .1 .1 .1 .1 .1 .1 .1 .0) (a .w .now) lv, front-long 512 (e .last .1 .1 .1 .1 .1 .1 .1 .1 .0) (a .iw .now) lu)
-
-enum-known-t-2 : tie.Need-enum-known-t-2
-enum-known-t-2 c = search needs
-
-clear-requires-2 : tie.Need-clear-requires-2
-clear-requires-2 c κs = let s = c .before .before .before .before .before .before .before .before .before .before .before .before .before .before .before .before .before .before .before .before .before .before .before in
-    let a = s .args in
-    let e = c .before .before .before .before .before .before .before .before .before .solve-step in
-    let lv = e .kept .1 .1 .1 .1 .1 .1 .1 .0 ∙ length-take-le 8192 (a .w .now) (s .pre .floats) in
-    let lu = e .kept .1 .1 .1 .1 .1 .1 .1 .1 .0 ∙ length-take-le 512 (a .iw .now) (s .pre .words) in
-    (front-long 8192 (e .last .1 .1 .1 .1 .1 .1 .1 .0) (a .w .now) lv, front-long 512 (e .last .1 .1 .1 .1 .1 .1 .1 .1 .0) (a .iw .now) lu)
+    (s .pre .lengths .variables, s .pre .lengths .constraints, s .pre .step, s .pre .prices, front-long 8192 (e .last .1 .1 .1 .1 .1 .1 .1 .0) (a .w .now) lv, front-long 512 (e .last .1 .1 .1 .1 .1 .1 .1 .1 .0) (a .iw .now) lu)
 
 same-length : tie.Need-same-length
 same-length c = search needs
@@ -82,50 +52,26 @@ same-length-4 : tie.Need-same-length-4
 same-length-4 c = search needs
 
 returns : tie.Need-returns
-returns c = let s = c .before .before .before .before .before .before .before .before .before .before .before .before .before .before .before .before .before .before .before .before .before .before .before .before .before .before .before .before .before .before .before .before .before .before .before .before .before .before in
+returns c = let s = c .before .before .before .before .before .before .before .before .before .before .before .before .before .before .before .before .before .before .before .before .before .before .before .before .before .before .before .before .before .before .before in
     let a = s .args in
-    let e = c .before .before .before .before .before .before .before .before .before .before .before .before .before .before .before .before .before .before .before .before .before .before .before .before .solve-step in
+    let e = c .before .before .before .before .before .before .before .before .before .before .before .before .before .before .before .before .before .solve-step in
     let lv = e .kept .1 .1 .1 .1 .1 .1 .1 .0 ∙ length-take-le 8192 (a .w .now) (s .pre .floats) in
     let lu = e .kept .1 .1 .1 .1 .1 .1 .1 .1 .0 ∙ length-take-le 512 (a .iw .now) (s .pre .words) in
-    let q = c .before .before .before .before .before .before .before .before .before .before .before .before .before .before .before .before .before .before .t .given .1 in
-    step-done (a .n) (a .m) _ (a .d .now) (a .multipliers .now) (e .last .1 .1 .1 .1 .1 .1 .1 .0) (a .w .now) _ (e .last .1 .1 .1 .1 .1 .1 .1 .1 .0) (a .iw .now) _ lv lu (c .before .before .before .before .clear .ensures) _ _ _ _ _ (s .pre .lengths .variables) (s .pre .lengths .constraints)
-    (rw q at (e .ensures .0)) (c .before .before .before .before .before .before .before .before .before .before .before .before .before .before .unload .ensures) (c .before .before .before .before .before .before .before .before .before .unload2 .ensures)
-
-same-length-5 : tie.Need-same-length-5
-same-length-5 c = search needs
-
-same-length-6 : tie.Need-same-length-6
-same-length-6 c = search needs
-
-returns-2 : tie.Need-returns-2
-returns-2 c = let s = c .before .before .before .before .before .before .before .before .before .before .before .before .before .before .before .before .before .before .before .before .before .before .before .before .before .before .before .before in
-    let a = s .args in
-    let e = c .before .before .before .before .before .before .before .before .before .before .before .before .before .before .solve-step in
-    let lv = e .kept .1 .1 .1 .1 .1 .1 .1 .0 ∙ length-take-le 8192 (a .w .now) (s .pre .floats) in
-    let lu = e .kept .1 .1 .1 .1 .1 .1 .1 .1 .0 ∙ length-take-le 512 (a .iw .now) (s .pre .words) in
-    let q = c .before .before .before .before .before .before .before .before .t2 .given .1 in
-    step-refused (a .n) (a .m) _ (a .d .now) (a .multipliers .now) (e .last .1 .1 .1 .1 .1 .1 .1 .0) (a .w .now) _ (e .last .1 .1 .1 .1 .1 .1 .1 .1 .0) (a .iw .now) _ lv lu (c .before .before .before .before .clear2 .ensures) _ _ _ (rw q at (e .ensures .1)) (rw q at (e .ensures .0))
+    step-given (a .n) (a .m) _ (e .result) _ (a .d .now) _ (a .multipliers .now) _ (e .last .1 .1 .1 .1 .1 .1 .1 .0) (a .w .now) _ (e .last .1 .1 .1 .1 .1 .1 .1 .1 .0) (a .iw .now) _ (s .pre .lengths .variables) (s .pre .lengths .constraints) lv lu (e .ensures .0) (e .ensures .1)
+    (c .before .before .before .before .before .before .before .before .give .ensures)
 
 pub step-all-spec : {M : Type 1} → statement M
 step-all-spec =
     tie.close
     (tie.spec
-    slice-relend-prefix-solve-step
-    slice-aggregate-solve-step
-    slice-relend-prefix-solve-step-2
-    slice-aggregate-solve-step-2
+    slice-relend-prefix-v
+    slice-aggregate-v
+    slice-relend-prefix-u
+    slice-aggregate-u
     solve-step-requires
-    enum-known-t
-    unload-requires
-    unload-requires-2
-    clear-requires
-    enum-known-t-2
-    clear-requires-2
+    give-requires
     same-length
     same-length-2
     same-length-3
     same-length-4
-    returns
-    same-length-5
-    same-length-6
-    returns-2)
+    returns)
