@@ -1,0 +1,44 @@
+use borrow.Author.Tests.{eq-eqb, ne-eqb}
+use Rattle.record.specs.Work.{put}
+use borrow.Author.Needs.{needs}
+use Rattle.record.proofs.put.Statement.{statement}
+use Rattle.record.proofs.put.Tie as tie
+
+slice-read-if1 : tie.Need-slice-read-if1
+slice-read-if1 c = search needs
+
+returns : tie.Need-returns
+unfolding put
+returns c = simp (ne-eqb _ _ (c .if1 .taken))
+
+slice-write-marks : tie.Need-slice-write-marks
+slice-write-marks c = search needs
+
+mul-vals : tie.Need-mul-vals
+mul-vals c = search needs
+
+slice-write-vals : tie.Need-slice-write-vals
+slice-write-vals c = search needs
+
+same-length : tie.Need-same-length
+same-length c = search needs
+
+same-length-2 : tie.Need-same-length-2
+same-length-2 c = search needs
+
+returns-2 : tie.Need-returns-2
+unfolding put
+returns-2 c = simp (eq-eqb _ _ (c .if1 .left))
+
+pub put-spec : {M : Type 1} → statement M
+put-spec =
+    tie.close
+    (tie.spec
+    slice-read-if1
+    returns
+    slice-write-marks
+    mul-vals
+    slice-write-vals
+    same-length
+    same-length-2
+    returns-2)

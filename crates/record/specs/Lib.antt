@@ -1,0 +1,3 @@
+-- What the record program reads. Definitions only.
+pub mod Input
+pub mod Work
