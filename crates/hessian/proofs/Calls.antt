@@ -3,9 +3,9 @@ use mathlib.Core.Path.{_≡_, refl, sym}
 use mathlib.Core.Bool.{Bool, true, false, true≢false, _&&_}
 use mathlib.Core.List.{List}
 use Prim.Native.Nat.{ℕ, _*_}
+use borrow.Author.Tests.{eqb-true}
 use lib.Dec.{eqb}
 use lib.Ieee.{Float}
-use borrow.Author.Tests.{eqb-true}
 use Rattle.workspace.specs.Tables.{Answer, done, call, isDimension, isRoom, has}
 use Rattle.workspace.specs.Readings.{Cleared}
 use Rattle.workspace.proofs.Tests.{and-true, dimension-le, has-length, room-ge}

@@ -1,9 +1,9 @@
 -- The damped update, put together from what its functions left. Assumes nothing.
 use mathlib.Core.Path.{_≡_}
+use mathlib.Core.Bool.{true, false}
 use mathlib.Core.List.{List, _++_}
 use Prim.Native.Nat.{ℕ, _-_, _≤_}
 use native.Mathlib.Omega.{arith}
-use mathlib.Core.Bool.{true, false}
 use lib.ListN.{length, take, drop, length-drop}
 use lib.Seq.{take-at, take-all}
 use lib.Ieee.{Float, le}

@@ -24,7 +24,9 @@ use Rattle.record.specs.declared.Spot.the-variants.{Outside, At}
 use Rattle.record.specs.declared.Head.the-variants.{Unsound, TooLarge, Sizes}
 use Rattle.record.specs.Input.{tagOf, rowOf, columnOf, valueOf, spareZero, recordAt, is, field, gives, given, isSome, isSound, orElse, kindOf, problemOf, areGiven, isComplete, Decoded, fault, tooLarge, problem, walk, isHead, decode}
 use Rattle.record.specs.Work.{block, blockOf, ifSpot, within, spotOf, markOf, entryOf, next, ifEntered, put, entered, ifHead, sizesOf, headOf, defaultAt, noMarks, defaults, Filled, faultAt, outsideSizes, filled, ifFilled, onEntered, onHead, allMarked, closing, walkTables, decodeTables, kindAt, problemIn, saying}
-use Rattle.record.proofs.Laws.{mark-some, spot-within, room, within-in, square, sizes-in, InTable}
+use Rattle.record.proofs.Entries.{mark-some}
+use Rattle.record.proofs.Blocks.{spot-within, room, within-in, square}
+use Rattle.record.proofs.Heads.{sizes-in, InTable}
 use Rattle.record.proofs.Places.{one-entry, one-field, block-field}
 use Rattle.record.proofs.Inside.{isAt, inside-at}
 
@@ -273,6 +275,7 @@ module _ (m n : ℕ) (w : InTable m n) (bs : List ℕ) where
       at p e (some s) g =
           let z : getD marks p 0 ≡ markOf (tagOf s) = a .mark (tagOf r) (rowOf r) (columnOf r) p e ∙ ap markIn g in
           rw (ne-eqb (getD marks p 0) 0 (λ y. mark-some (tagOf s) (sym z ∙ y)))
+
       go : (z : Bool) (s : Spot) → spotOf m n (tagOf r) (rowOf r) (columnOf r) ≡ s
           → saying (onEntered (put (ifSpot z s) (markOf (tagOf r)) (valueOf r) marks vals) (faultAt k) f)
           ≡ cond (isAt s && (z && not (isSome (given rs (tagOf r) (rowOf r) (columnOf r))))) d (fault k)

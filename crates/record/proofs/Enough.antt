@@ -1,12 +1,12 @@
 -- Each record taken marks a place that was free, so an input has at most 577 sound records, and the first 578 records decide. Assumes nothing.
-use Prim.Native.Nat.{ℕ, zero, suc, _+_, _-_, _*_, _/_, _%_, _≤_, _<_}
 use mathlib.Core.Path.{_≡_, refl, sym, ap, _∙_}
-use mathlib.Core.List.{List, [], _∷_, _++_}
 use mathlib.Core.Bool.{Bool, true, false, cond}
-use native.Mathlib.Omega.{arith}
+use mathlib.Core.List.{List, [], _∷_, _++_}
+use Prim.Native.Nat.{ℕ, zero, suc, _+_, _-_, _*_, _/_, _≤_, _<_}
 use native.Mathlib.Nat.{not-suc-le-zero, le-of-suc-le-suc}
+use native.Mathlib.Omega.{arith}
 use borrow.Author.Tests.{eq-eqb, ne-eqb, le-ltb, eqb-true}
-use lib.Dec.{eqb, ltb}
+use lib.Dec.{eqb}
 use lib.ListN.{length, take, drop, getD, set, replicate, length-set, length-append, length-drop, length-replicate}
 use lib.Seq.{take-append-le, drop-append-le}
 use lib.Ieee.{Float, binary64, ofBits}
@@ -15,8 +15,12 @@ use Rattle.record.specs.declared.Spot.the-variants.{Outside, At}
 use Rattle.record.specs.declared.Head.{Head}
 use Rattle.record.specs.declared.Head.the-variants.{Unsound, TooLarge, Sizes}
 use Rattle.record.specs.Input.{tagOf, bitsOf, recordAt}
-use Rattle.record.specs.Work.{markOf, entryOf, Entered, bad, next, ifEntered, put, entered, faultAt, outsideSizes, filled, ifFilled, onEntered, onHead, allMarked, closing, walkTables, decodeTables, headOf, noMarks, defaults}
-use Rattle.record.proofs.Laws.{mark-some, entry-in, InTable, head-in}
+use Rattle.record.specs.Work.{markOf, entryOf, Entered, bad, next, ifEntered, put, entered, faultAt, outsideSizes, onEntered, onHead, walkTables, decodeTables, headOf, noMarks, defaults, saying}
+use Rattle.record.specs.Claims.{FirstBytesDecide}
+use Rattle.record.proofs.Agreement.{agreement}
+use Rattle.record.proofs.Entries.{mark-some}
+use Rattle.record.proofs.Blocks.{entry-in}
+use Rattle.record.proofs.Heads.{InTable, head-in}
 
 -- how many places are marked
 used : List ℕ → ℕ
@@ -68,29 +72,7 @@ entered-marks m n r marks marks′ vals vals′ hm hn l e = go (entryOf m n r) r
         let h : p < 576 = entry-in m n r p hm hn t in
         put-marks p (markOf (tagOf r)) (ofBits binary64 (bitsOf r)) marks marks′ vals vals′ (omega arith) (mark-some (tagOf r)) q
 
--- ---- the walkTables: at record k there are k - 1 marks
-
-walk-fault : (m n : ℕ) (bs : List ℕ) (left k : ℕ) (marks : List ℕ) (vals : List Float) (K : ℕ) → m ≤ 16 → n ≤ 16 → length marks ≡ 576
-    → used marks + 1 ≡ k → walkTables m n bs left k marks vals ≡ faultAt K → K ≤ 577
-unfolding walkTables closing
-walk-fault m n bs zero k marks vals K hm hn l u e =
-    let b = used-le marks in
-    go (eqb (length bs % 16) 0) (allMarked (take m (drop 272 marks))) e
-  where
-    go : (s t : Bool) → ifFilled s (ifFilled t (filled m n marks vals) (faultAt k)) (faultAt k) ≡ faultAt K → K ≤ 577
-    go true true q = let z : _≡_ {A = ℕ} 0 1 = cc in absurd (omega arith)
-    go true false q = let z : k ≡ K = cc in omega (arith, used-le marks)
-    go false t q = let z : k ≡ K = cc in omega (arith, used-le marks)
-walk-fault m n bs (suc left) k marks vals K hm hn l u e =
-    go (entered m n (recordAt bs k) marks vals) refl (λ marks′ vals′ l′ u′ q. walk-fault m n bs left (k + 1) marks′ vals′ K hm hn l′ u′ q) e
-  where
-    go : (s : Entered) → entered m n (recordAt bs k) marks vals ≡ s
-        → ((marks′ : List ℕ) (vals′ : List Float) → length marks′ ≡ 576 → used marks′ + 1 ≡ k + 1 → walkTables m n bs left (k + 1) marks′ vals′ ≡ faultAt K → K ≤ 577)
-        → onEntered s (faultAt k) (λ marks′ vals′. walkTables m n bs left (k + 1) marks′ vals′) ≡ faultAt K → K ≤ 577
-    go bad t ih q = let z : k ≡ K = cc in omega (arith, used-le marks)
-    go (next marks′ vals′) t ih q =
-        let w : Marked marks marks′ = entered-marks m n (recordAt bs k) marks marks′ vals vals′ hm hn l t in
-        ih marks′ vals′ (w .size ∙ l) (omega (arith, w .more)) q
+-- ---- the walk: at record k there are k - 1 marks
 
 -- two inputs whose first 578 records are the same
 walk-same : (m n : ℕ) (p q : List ℕ) (left more k : ℕ) (marks : List ℕ) (vals : List Float) → m ≤ 16 → n ≤ 16 → length marks ≡ 576
@@ -103,7 +85,7 @@ walk-same m n p q (suc left) (suc more) k marks vals hm hn l u lp e f =
     let g : 16 * k ≤ length p = omega arith in
     let h : 16 ≤ length (drop (16 * k) p) = simp length-drop (omega arith) in
     let r : recordAt (p ++ q) k ≡ recordAt p k =
-        ap (take 16) (drop-append-le (16 * k) p q g) ∙ take-append-le 16 (drop (16 * k) p) q h in
+    ap (take 16) (drop-append-le (16 * k) p q g) ∙ take-append-le 16 (drop (16 * k) p) q h in
     rw r
     (go (entered m n (recordAt p k) marks vals) refl
     (λ marks′ vals′ l′ u′. walk-same m n p q left more (k + 1) marks′ vals′ hm hn l′ u′ lp (omega arith) (omega arith)))
@@ -127,24 +109,8 @@ no-marks : (length noMarks ≡ 576) × (used noMarks + 1 ≡ 1)
 unfolding noMarks
 no-marks = (length-replicate {A = ℕ} 576 0, omega (arith, used-none 576))
 
--- a faultAt's index is at most 577
-pub fault-bound : (bs : List ℕ) (K : ℕ) → decodeTables bs ≡ faultAt K → K ≤ 577
-unfolding decodeTables
-fault-bound bs K e = go (ltb (length bs) 16) e
-  where
-    at : (h : Head) → headOf (take 16 bs) ≡ h
-        → onHead h (faultAt 0) outsideSizes (λ m n. walkTables m n bs (length bs / 16 - 1) 1 noMarks (defaults n)) ≡ faultAt K → K ≤ 577
-    at Unsound t q = let z : 0 ≡ K = cc in omega arith
-    at TooLarge t q = let z : _≡_ {A = ℕ} 0 1 = cc in absurd (omega arith)
-    at (Sizes m n) t q =
-        let w : InTable m n = head-in (take 16 bs) m n t in
-        walk-fault m n bs (length bs / 16 - 1) 1 noMarks (defaults n) K (w .few) (w .most) (no-marks .0) (no-marks .1) q
-    go : (b : Bool) → ifFilled b (faultAt 0) (onHead (headOf (take 16 bs)) (faultAt 0) outsideSizes (λ m n. walkTables m n bs (length bs / 16 - 1) 1 noMarks (defaults n))) ≡ faultAt K → K ≤ 577
-    go true q = let z : 0 ≡ K = cc in omega arith
-    go false q = at (headOf (take 16 bs)) refl q
-
--- the first 9,248 bytes decide
-pub enough : (p q : List ℕ) → length p ≡ 9248 → decodeTables (p ++ q) ≡ decodeTables p
+-- the first 9,248 bytes decide what the tables hold
+enough : (p q : List ℕ) → length p ≡ 9248 → decodeTables (p ++ q) ≡ decodeTables p
 unfolding decodeTables
 enough p q lp =
     let h : 16 ≤ length p = omega arith in
@@ -161,43 +127,5 @@ enough p q lp =
         walk-same m n p q (length p / 16 - 1) (length (p ++ q) / 16 - 1) 1 noMarks (defaults n) (w .few) (w .most) (no-marks .0) (no-marks .1) lp
         (omega arith) (omega (arith, length-append p q))
 
--- ---- the sizes of a filled
-
-fault-not : {A : Type 0} (k m n : ℕ) (a : List ℕ) (b : List Float) → faultAt k ≡ filled m n a b → A
-fault-not k m n a b e = let z : _≡_ {A = ℕ} 0 1 = cc in absurd (omega arith)
-
-large-no-problem : {A : Type 0} (m n : ℕ) (a : List ℕ) (b : List Float) → outsideSizes ≡ filled m n a b → A
-large-no-problem m n a b e = let z : _≡_ {A = ℕ} 0 1 = cc in absurd (omega arith)
-
-walk-sizes : (m n : ℕ) (bs : List ℕ) (left k : ℕ) (marks : List ℕ) (vals : List Float) (m′ n′ : ℕ) (a : List ℕ) (b : List Float)
-    → walkTables m n bs left k marks vals ≡ filled m′ n′ a b → (m ≡ m′) × (n ≡ n′)
-unfolding walkTables closing
-walk-sizes m n bs zero k marks vals m′ n′ a b e = go (eqb (length bs % 16) 0) (allMarked (take m (drop 272 marks))) e
-  where
-    go : (s t : Bool) → ifFilled s (ifFilled t (filled m n marks vals) (faultAt k)) (faultAt k) ≡ filled m′ n′ a b → (m ≡ m′) × (n ≡ n′)
-    go true true q = (cc, cc)
-    go true false q = fault-not k m′ n′ a b q
-    go false t q = fault-not k m′ n′ a b q
-walk-sizes m n bs (suc left) k marks vals m′ n′ a b e =
-    go (entered m n (recordAt bs k) marks vals) (λ x y q. walk-sizes m n bs left (k + 1) x y m′ n′ a b q) e
-  where
-    go : (s : Entered) → ((x : List ℕ) (y : List Float) → walkTables m n bs left (k + 1) x y ≡ filled m′ n′ a b → (m ≡ m′) × (n ≡ n′))
-        → onEntered s (faultAt k) (λ x y. walkTables m n bs left (k + 1) x y) ≡ filled m′ n′ a b → (m ≡ m′) × (n ≡ n′)
-    go bad ih q = fault-not k m′ n′ a b q
-    go (next x y) ih q = ih x y q
-
-pub problem-in : (bs : List ℕ) (m n : ℕ) (a : List ℕ) (b : List Float) → decodeTables bs ≡ filled m n a b → InTable m n
-unfolding decodeTables
-problem-in bs m n a b e = go (ltb (length bs) 16) e
-  where
-    at : (h : Head) → headOf (take 16 bs) ≡ h
-        → onHead h (faultAt 0) outsideSizes (λ m n. walkTables m n bs (length bs / 16 - 1) 1 noMarks (defaults n)) ≡ filled m n a b → InTable m n
-    at Unsound t q = fault-not 0 m n a b q
-    at TooLarge t q = large-no-problem m n a b q
-    at (Sizes m′ n′) t q =
-        let w : InTable m′ n′ = head-in (take 16 bs) m′ n′ t in
-        let s = walk-sizes m′ n′ bs (length bs / 16 - 1) 1 noMarks (defaults n′) m n a b q in
-        record { few = omega (arith, w .few, s .0); some = omega (arith, w .some, s .1); most = omega (arith, w .most, s .1) }
-    go : (b′ : Bool) → ifFilled b′ (faultAt 0) (onHead (headOf (take 16 bs)) (faultAt 0) outsideSizes (λ m n. walkTables m n bs (length bs / 16 - 1) 1 noMarks (defaults n))) ≡ filled m n a b → InTable m n
-    go true q = fault-not 0 m n a b q
-    go false q = at (headOf (take 16 bs)) refl q
+pub first-bytes : FirstBytesDecide
+first-bytes p q lp = sym (agreement (p ++ q)) ∙ ap saying (enough p q lp) ∙ agreement p

@@ -12,7 +12,7 @@ use Rattle.record.specs.declared.Spot.{Spot}
 use Rattle.record.specs.declared.Spot.the-variants.{Outside, At}
 use Rattle.record.specs.Input.{is, isInside}
 use Rattle.record.specs.Work.{block, either, blockOf, ifSpot, within, spotOf}
-use Rattle.record.proofs.Laws.{and-false}
+use Rattle.record.proofs.Bytes.{and-false}
 
 abbrev pub isAt : Spot → Bool
 isAt Outside = false

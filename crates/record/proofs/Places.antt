@@ -1,17 +1,18 @@
 -- Two entries share a place only if they are one entry: the same block, row and column. Assumes nothing.
-use Prim.Native.Nat.{ℕ, _+_, _*_, _/_, _%_, _≤_, _<_}
 use mathlib.Core.Path.{_≡_, refl, sym, ap, _∙_}
 use mathlib.Core.Bool.{Bool, true, false, cond}
+use Prim.Native.Nat.{ℕ, _+_, _*_, _/_, _%_, _≤_, _<_}
+use Prim.Native.Char.{code}
 use native.Mathlib.Omega.{arith}
 use borrow.Author.Tests.{lt-ltb, le-ltb, ltb-true, eqb-true}
-use lib.Dec.{eqb, ltb}
 use lib.Arith.{digits-div, digits-mod}
-use Prim.Native.Char.{code}
-use Rattle.record.specs.Input.{is, field}
+use lib.Dec.{eqb, ltb}
+use Rattle.numbers.proofs.Lists.{index-lt}
 use Rattle.record.specs.declared.Block.{Block}
 use Rattle.record.specs.declared.Spot.the-variants.{At}
+use Rattle.record.specs.Input.{is, field}
 use Rattle.record.specs.Work.{block, either, blockOf, within}
-use Rattle.record.proofs.Laws.{if-spot, cell, square}
+use Rattle.record.proofs.Blocks.{if-spot, square}
 
 -- a place in a block
 record Held (b : Block) (row col p : ℕ) : Type 0 where
@@ -28,7 +29,7 @@ held b row col p e =
     let z : b .base + (row * b .cols + col) ≡ p = cc (y .1) in
     let h = ltb-true row (b .rows) (x .0) in
     let k = ltb-true col (b .cols) (y .0) in
-    record { low = h; left = k; place = z; end = omega (arith, cell row col (b .rows) (b .cols) h k) }
+    record { low = h; left = k; place = z; end = omega (arith, index-lt (b .rows) (b .cols) row col h k) }
 
 -- the block of a place
 blockAt : ℕ → ℕ → ℕ → Block
@@ -63,9 +64,10 @@ module _ (m n row col p : ℕ) (hm : m ≤ 16) (hn : n ≤ 16) where
 
 same-cell : (b : Block) (row col row′ col′ p : ℕ) → Held b row col p → Held b row′ col′ p → (row ≡ row′) × (col ≡ col′)
 same-cell b row col row′ col′ p h k =
-    let e : row * b .cols + col ≡ row′ * b .cols + col′ = omega (arith, h .place, k .place) in
-    (sym (digits-div row (h .left)) ∙ ap (λ (x : ℕ). x / b .cols) e ∙ digits-div row′ (k .left),
-    sym (digits-mod row (h .left)) ∙ ap (λ (x : ℕ). x % b .cols) e ∙ digits-mod row′ (k .left))
+    let e : row * b .cols + col ≡ row′ * b .cols + col′ = omega (arith, h .place, k .place) in (
+      sym (digits-div row (h .left)) ∙ ap (λ (x : ℕ). x / b .cols) e ∙ digits-div row′ (k .left),
+      sym (digits-mod row (h .left)) ∙ ap (λ (x : ℕ). x % b .cols) e ∙ digits-mod row′ (k .left),
+    )
 
 -- two entries with one place are of one block, at one row and column
 pub record OneEntry (m n tag row col tag′ row′ col′ : ℕ) : Type 0 where

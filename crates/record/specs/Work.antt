@@ -1,15 +1,15 @@
 -- The two tables of 576 places in which the inner functions keep what the records gave: a mark for each place that was given, and its value.
 -- They serve contracts only: proofs/Agreement.antt shows that they tell what specs/Input.antt says. Definitions only. Assumes nothing.
-use Prim.Native.Nat.{ℕ, zero, suc, _+_, _-_, _*_, _/_, _%_}
+use mathlib.Core.Path.{_≡_}
 use mathlib.Core.Bool.{Bool, true, false, not, cond, _&&_}
 use mathlib.Core.List.{List, [], _∷_}
+use Prim.Native.Nat.{ℕ, zero, suc, _+_, _-_, _*_, _/_, _%_}
 use lib.Dec.{ltb, eqb}
 use lib.ListN.{length, getD, take, drop, set, replicate}
 use lib.Ieee.{Float, inf}
 use Rattle.numbers.specs.Numbers.{+0, one, tab}
 use Rattle.workspace.specs.Tables.{isDimension, isEqualities}
 use Rattle.subproblem.specs.Problem.{Problem}
-use Rattle.record.specs.Input.{tagOf, rowOf, columnOf, valueOf, spareZero, recordAt, is, isHead, Decoded, fault, tooLarge, problem}
 use Rattle.record.specs.declared.Block.{Block}
 use Rattle.record.specs.declared.Spot.{Spot}
 use Rattle.record.specs.declared.Spot.the-variants.{Outside, At}
@@ -17,6 +17,7 @@ use Rattle.record.specs.declared.Head.{Head}
 use Rattle.record.specs.declared.Head.the-variants.{Unsound, TooLarge, Sizes}
 use Rattle.record.specs.declared.Input.{Input}
 use Rattle.record.specs.declared.Input.the-variants.{Fault, Large, Whole}
+use Rattle.record.specs.Input.{tagOf, rowOf, columnOf, valueOf, spareZero, recordAt, is, isHead, Decoded, fault, tooLarge, problem}
 
 -- ---- the place of an entry
 
@@ -183,3 +184,9 @@ saying (filled m n marks vals) = problem (problemIn m n marks vals)
 -- what `decode` answers: the code's answer with the tables that it leaves
 abbrev pub says : Input → List ℕ → List Float → Decoded
 says r marks vals = saying (told r marks vals)
+
+-- where there is a problem, the tables have their lengths
+abbrev pub AreTables : Input → List ℕ → List Float → Type 0
+AreTables (Fault k) marks vals = Unit
+AreTables Large marks vals = Unit
+AreTables (Whole m n) marks vals = (length marks ≡ 576) × (length vals ≡ 576)

@@ -5,7 +5,7 @@ ghost use Prim.Native.Nat.{_+_, _-_, _*_, _/_, _≤_, _<_};
 ghost use lib.ListN.{length, take, drop, getD, replicate};
 ghost use lib.Ieee.{binary64, ofBits};
 ghost use Rattle.record.specs.Input.{little, spareZero, decode as Input·decode};
-ghost use Rattle.record.specs.Work.{blockOf, within as Work·within, spotOf, markOf, put as Work·put, entryOf, entered, gave, headOf, sizesOf, defaultAt, noMarks, defaults as Work·defaults, allMarked, walkTables, told, says};
+ghost use Rattle.record.specs.Work.{blockOf, within as Work·within, spotOf, markOf, put as Work·put, entryOf, entered, gave, headOf, sizesOf, defaultAt, noMarks, defaults as Work·defaults, allMarked, walkTables, told, says, AreTables};
 
 // A block of the tables: where it starts, and its shape.
 pub struct Block {
@@ -34,6 +34,7 @@ pub enum Input {
     Whole(usize, usize),
 }
 
+// A byte as a number.
 fn wide(x: u8) -> u64
     ensures { λ r. ⌜ r ≡ x ⌝ }
 {
@@ -54,6 +55,7 @@ fn number(s: &[u8]) -> u64
     v
 }
 
+// Whether the spare bytes of a record are zero.
 fn spare_zero(r: &[u8]) -> bool
     requires { ⌜ length (now r) ≡ 16 ⌝ }
     ensures { λ b. ⌜ b ≡ spareZero (now (r .entry)) ⌝ }
@@ -114,6 +116,7 @@ fn block_of(m: usize, n: usize, tag: u8) -> Block
     }
 }
 
+// The mark of a place that a record with this tag gives.
 fn mark(tag: u8) -> u8
     ensures { λ r. ⌜ r ≡ markOf tag ⌝ }
 {
@@ -149,6 +152,7 @@ fn within(b: Block, row: usize, col: usize) -> Spot
     Spot::Outside
 }
 
+// The place of (row, col) in the block of a tag: none above the factor's diagonal.
 fn spot_of(m: usize, n: usize, tag: u8, row: usize, col: usize) -> Spot
     requires { ⌜ (m ≤ 16) × (n ≤ 16) ⌝ }
     ensures { λ r. ⌜ r ≡ spotOf m n tag row col ⌝ }
@@ -241,6 +245,7 @@ fn unmark(marks: &mut [u8])
     }
 }
 
+// What a place holds that no record gives.
 fn default_at(n: usize, p: usize) -> f64
     requires { ⌜ 0 < n ⌝ }
     ensures { λ r. ⌜ r ≡ defaultAt n p ⌝ }
@@ -310,6 +315,7 @@ fn walk(bytes: &[u8], m: usize, n: usize, marks: &mut [u8], vals: &mut [f64]) ->
 // The whole input, into the two tables.
 pub fn decode(bytes: &[u8], marks: &mut [u8; 576], vals: &mut [f64; 576]) -> Input
     ensures { λ r. ⌜ says r (now (marks .exit)) (now (vals .exit)) ≡ Input·decode (now (bytes .entry)) ⌝ }
+    ensures { λ r. ⌜ AreTables r (now (marks .exit)) (now (vals .exit)) ⌝ }
 {
     if bytes.len() < 16 {
         return Input::Fault(0);

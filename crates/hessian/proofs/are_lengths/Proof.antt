@@ -1,6 +1,6 @@
 -- `are_lengths`: the tests in their order. Assumes nothing.
-use native.Mathlib.Omega.{arith}
 use native.Mathlib.Nat.{mul-le-mul}
+use native.Mathlib.Omega.{arith}
 use borrow.Author.Tests.{eq-eqb, ne-eqb}
 use Rattle.hessian.proofs.are_lengths.Statement.{statement}
 use Rattle.hessian.proofs.are_lengths.Tie as tie

@@ -1,7 +1,7 @@
 -- `are_squares`: the tests in their order. Assumes nothing.
 use native.Mathlib.Nat.{mul-le-mul}
-use borrow.Author.Tests.{eq-eqb, ne-eqb}
 use native.Mathlib.Omega.{arith}
+use borrow.Author.Tests.{eq-eqb, ne-eqb}
 use Rattle.hessian.proofs.are_squares.Statement.{statement}
 use Rattle.hessian.proofs.are_squares.Tie as tie
 

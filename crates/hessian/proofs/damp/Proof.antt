@@ -2,14 +2,14 @@
 use mathlib.Core.Path.{_∙_}
 use mathlib.Core.List.{List}
 use Prim.Native.Nat.{ℕ, _≤_, _-_}
+use native.Mathlib.Omega.{arith}
 use lib.ListN.{take}
 use lib.Seq.{getD-take}
 use lib.Ieee.{Float, ofBits, round}
 use Rattle.numbers.specs.Numbers.{at, one, _⊕_, _⊖_, _⊗_}
-use Rattle.hessian.specs.Hessian.{damped}
 use Rattle.numbers.proofs.Lists.{tab-same}
 use Rattle.numbers.proofs.Fills.{Put, put-none, put-more, put-before, put-front, put-back}
-use native.Mathlib.Omega.{arith}
+use Rattle.hessian.specs.Hessian.{damped}
 use Rattle.hessian.proofs.damp.Statement.{statement}
 use Rattle.hessian.proofs.damp.Tie as tie
 

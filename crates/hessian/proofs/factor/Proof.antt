@@ -3,8 +3,8 @@ use mathlib.Core.Path.{_≡_}
 use mathlib.Core.Bool.{true}
 use Prim.Native.Nat.{_*_, _≤_, _-_}
 use native.Mathlib.Omega.{arith}
-use lib.ListN.{length}
 use borrow.Author.Tests.{not-true, not-false}
+use lib.ListN.{length}
 use Rattle.hessian.specs.Hessian.{firstRows}
 use Rattle.hessian.specs.Work.{told}
 use Rattle.hessian.proofs.Turns.{rows-start, rows-more, rows-bad, rows-good}

@@ -1,15 +1,15 @@
 -- `identity_into`: after i turns the first i rows are written. Assumes nothing.
 use mathlib.Core.Path.{_≡_}
+use mathlib.Core.Bool.{cond}
 use Prim.Native.Nat.{ℕ, _+_, _*_, _≤_, _-_}
 use native.Mathlib.Nat.{add-sub-cancel-left}
-use lib.ListN.{length}
-use mathlib.Core.Bool.{cond}
+use native.Mathlib.Omega.{arith}
 use lib.Dec.{eqb}
+use lib.ListN.{length}
 use Rattle.numbers.specs.Numbers.{+0, one}
-use Rattle.hessian.specs.Hessian.{identity}
 use Rattle.numbers.proofs.Lists.{row-fits}
 use Rattle.numbers.proofs.Fills.{Rows, rows-none, rows-more, rows-all}
-use native.Mathlib.Omega.{arith}
+use Rattle.hessian.specs.Hessian.{identity}
 use Rattle.hessian.proofs.identity_into.Statement.{statement}
 use Rattle.hessian.proofs.identity_into.Tie as tie
 

@@ -1,10 +1,10 @@
 -- `next_row`: row i before the diagonal, then its pivot. Assumes nothing.
 use mathlib.Core.Path.{sym, _∙_}
+use native.Mathlib.Omega.{arith}
 use borrow.Author.Tests.{not-true, not-false}
+use lib.ListN.{length-set}
 use Rattle.numbers.proofs.Lists.{index-lt}
 use Rattle.hessian.proofs.Turns.{row-bad, row-good}
-use lib.ListN.{length-set}
-use native.Mathlib.Omega.{arith}
 use Rattle.hessian.proofs.next_row.Statement.{statement}
 use Rattle.hessian.proofs.next_row.Tie as tie
 

@@ -1,8 +1,8 @@
 -- `remainder_of`: the places lie in the matrices, and the sum is the definition's. Assumes nothing.
 use Prim.Native.Nat.{_<_}
+use native.Mathlib.Omega.{arith}
 use Rattle.numbers.proofs.Lists.{row-fits}
 use Rattle.hessian.proofs.Turns.{remainder-is}
-use native.Mathlib.Omega.{arith}
 use Rattle.hessian.proofs.remainder_of.Statement.{statement}
 use Rattle.hessian.proofs.remainder_of.Tie as tie
 

@@ -3,13 +3,13 @@ use mathlib.Core.Path.{_≡_, _∙_}
 use mathlib.Core.List.{List}
 use Prim.Native.Nat.{ℕ, _+_, _*_, _≤_, _-_}
 use native.Mathlib.Nat.{add-sub-cancel-left}
+use native.Mathlib.Omega.{arith}
 use lib.ListN.{length}
 use lib.Ieee.{Float}
 use Rattle.numbers.specs.Numbers.{at, _⊕_, _⊖_, _⊗_, _⊘_}
-use Rattle.hessian.specs.Hessian.{revised}
 use Rattle.numbers.proofs.Lists.{tab-same, row-fits}
 use Rattle.numbers.proofs.Fills.{Rows, rows-none, rows-part, rows-more, rows-all}
-use native.Mathlib.Omega.{arith}
+use Rattle.hessian.specs.Hessian.{revised}
 use Rattle.hessian.proofs.revise.Statement.{statement}
 use Rattle.hessian.proofs.revise.Tie as tie
 

@@ -1,10 +1,10 @@
 -- `revise_row`: after j turns the first j entries are new. Assumes nothing.
 use mathlib.Core.List.{List}
 use Prim.Native.Nat.{ℕ, _≤_, _-_}
+use native.Mathlib.Omega.{arith}
 use lib.Ieee.{Float}
 use Rattle.numbers.specs.Numbers.{at, _⊕_, _⊖_, _⊗_, _⊘_}
 use Rattle.numbers.proofs.Fills.{Fill, fill-none, fill-more, fill-all, fill-next}
-use native.Mathlib.Omega.{arith}
 use Rattle.hessian.proofs.revise_row.Statement.{statement}
 use Rattle.hessian.proofs.revise_row.Tie as tie
 

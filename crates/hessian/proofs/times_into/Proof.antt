@@ -1,12 +1,12 @@
 -- `times_into`: after i turns the first i entries are written. Assumes nothing.
 use Prim.Native.Nat.{ℕ, _+_, _*_, _≤_, _-_}
+use native.Mathlib.Omega.{arith}
 use lib.ListN.{length}
 use Rattle.numbers.specs.Numbers.{dot, row}
-use Rattle.hessian.specs.Hessian.{times}
 use Rattle.numbers.proofs.Fills.{Fill, fill-none, fill-more, fill-all}
 use Rattle.numbers.proofs.Lists.{row-fits}
+use Rattle.hessian.specs.Hessian.{times}
 use Rattle.hessian.proofs.Parts.{times-entry}
-use native.Mathlib.Omega.{arith}
 use Rattle.hessian.proofs.times_into.Statement.{statement}
 use Rattle.hessian.proofs.times_into.Tie as tie
 

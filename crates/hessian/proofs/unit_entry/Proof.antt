@@ -1,6 +1,6 @@
 -- `unit_entry`: on the diagonal, and off it. Assumes nothing.
-use lib.Ieee.{round, ofBits}
 use borrow.Author.Tests.{eq-eqb, ne-eqb}
+use lib.Ieee.{round, ofBits}
 use Rattle.hessian.proofs.unit_entry.Statement.{statement}
 use Rattle.hessian.proofs.unit_entry.Tie as tie
 

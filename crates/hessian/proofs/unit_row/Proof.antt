@@ -1,10 +1,10 @@
 -- `unit_row`: after j turns the first j entries are written. Assumes nothing.
-use Prim.Native.Nat.{_≤_, _-_}
 use mathlib.Core.Bool.{cond}
+use Prim.Native.Nat.{_≤_, _-_}
+use native.Mathlib.Omega.{arith}
 use lib.Dec.{eqb}
 use Rattle.numbers.specs.Numbers.{+0, one}
 use Rattle.numbers.proofs.Fills.{Fill, fill-none, fill-more, fill-all}
-use native.Mathlib.Omega.{arith}
 use Rattle.hessian.proofs.unit_row.Statement.{statement}
 use Rattle.hessian.proofs.unit_row.Tie as tie
 

@@ -1,11 +1,11 @@
 -- `with_row`: after j turns row i has its first j entries. Assumes nothing.
 use mathlib.Core.Path.{_≡_, ap, _∙_}
 use Prim.Native.Nat.{ℕ, _*_, _≤_, _-_}
-use lib.ListN.{length, length-set}
-use Rattle.hessian.specs.Hessian.{withRow}
-use Rattle.numbers.proofs.Lists.{index-lt}
-use Rattle.hessian.proofs.Turns.{with-none, with-more}
 use native.Mathlib.Omega.{arith}
+use lib.ListN.{length, length-set}
+use Rattle.numbers.proofs.Lists.{index-lt}
+use Rattle.hessian.specs.Hessian.{withRow}
+use Rattle.hessian.proofs.Turns.{with-none, with-more}
 use Rattle.hessian.proofs.with_row.Statement.{statement}
 use Rattle.hessian.proofs.with_row.Tie as tie
 

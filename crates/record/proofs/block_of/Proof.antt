@@ -1,3 +1,4 @@
+-- `block_of`: a block for each tag. Assumes nothing.
 use borrow.Author.Tests.{ne-eqb}
 use Rattle.record.specs.Work.{blockOf}
 use Rattle.record.proofs.block_of.Statement.{statement}

@@ -1,10 +1,10 @@
-use Rattle.record.proofs.Laws.{marked-none, marked-end, marked-stop, marked-more}
-use Rattle.record.specs.Work.{allMarked}
-use native.Mathlib.Omega.{arith}
-use lib.ListN.{take, drop}
+-- `complete`: after i turns the first i constraints have their marks. Assumes nothing.
 use mathlib.Core.Path.{_≡_, _∙_, sym}
 use Prim.Native.Nat.{_≤_, _-_, _+_}
-use borrow.Author.Needs.{needs}
+use native.Mathlib.Omega.{arith}
+use lib.ListN.{take, drop}
+use Rattle.record.specs.Work.{allMarked}
+use Rattle.record.proofs.Marks.{marked-none, marked-end, marked-stop, marked-more}
 use Rattle.record.proofs.complete.Statement.{statement}
 use Rattle.record.proofs.complete.Tie as tie
 
@@ -18,10 +18,10 @@ loop-holds : tie.Need-loop-holds Inv-loop μ-loop
 loop-holds c = (omega arith, marked-none (c .args .m) (c .args .marks .now))
 
 add-if1 : tie.Need-add-if1 Inv-loop μ-loop
-add-if1 c = search needs
+add-if1 c = omega arith
 
 shared-slice-read-if1 : tie.Need-shared-slice-read-if1 Inv-loop μ-loop
-shared-slice-read-if1 c = search needs
+shared-slice-read-if1 c = omega arith
 
 returns : tie.Need-returns Inv-loop μ-loop
 returns c =
@@ -30,10 +30,10 @@ returns c =
     marked-stop (s .args .m) (s .args .marks .now) (l .i) (omega arith) (omega arith) (c .if1 .taken) ∙ sym (l .inv .1)
 
 add-i : tie.Need-add-i Inv-loop μ-loop
-add-i c = search needs
+add-i c = omega arith
 
 loop-less : tie.Need-loop-less Inv-loop μ-loop
-loop-less c = search needs
+loop-less c = omega arith
 
 loop-again : tie.Need-loop-again Inv-loop μ-loop
 loop-again c =

@@ -1,15 +1,16 @@
+-- `default_at`: a default for each part of the tables. Assumes nothing.
+use native.Mathlib.Omega.{arith}
+use borrow.Author.Tests.{eq-eqb, ne-eqb, lt-ltb, le-ltb}
 use lib.Ieee.{ofBits, nanBits, round}
 use Rattle.record.specs.Work.{defaultAt}
-use borrow.Author.Tests.{eq-eqb, ne-eqb, lt-ltb, le-ltb}
-use borrow.Author.Needs.{needs}
 use Rattle.record.proofs.default_at.Statement.{statement}
 use Rattle.record.proofs.default_at.Tie as tie
 
 div-if2 : tie.Need-div-if2
-div-if2 c = search needs
+div-if2 c = omega arith
 
 rem-if2 : tie.Need-rem-if2
-rem-if2 c = search needs
+rem-if2 c = omega arith
 
 returns : tie.Need-returns
 unfolding defaultAt round ofBits

@@ -1,41 +1,42 @@
+-- `enter`: the place that the record names, and then its entry. Assumes nothing.
 use mathlib.Core.Path.{sym, _∙_, ap}
 use Prim.Native.Nat.{_<_}
 use native.Mathlib.Omega.{arith}
 use lib.Ieee.{ofBits, binary64}
-use Rattle.record.proofs.Laws.{enter-bad, enter-at, entry-in}
-use borrow.Author.Needs.{needs}
+use Rattle.record.proofs.Entries.{enter-bad, enter-at}
+use Rattle.record.proofs.Blocks.{entry-in}
 use Rattle.record.proofs.enter.Statement.{statement}
 use Rattle.record.proofs.enter.Tie as tie
 
 shared-slice-read-mark : tie.Need-shared-slice-read-mark
-shared-slice-read-mark c = search needs
+shared-slice-read-mark c = omega arith
 
 mark-requires : tie.Need-mark-requires
-mark-requires c κs = search needs
+mark-requires c κs = omega arith
 
 sub-number : tie.Need-sub-number
-sub-number c = search needs
+sub-number c = omega arith
 
 part-number-start : tie.Need-part-number-start
-part-number-start c = search needs
+part-number-start c = omega arith
 
 part-number-end : tie.Need-part-number-end
-part-number-end c = search needs
+part-number-end c = omega arith
 
 number-requires : tie.Need-number-requires
-number-requires c κs = search needs
+number-requires c κs = omega arith
 
 value-requires : tie.Need-value-requires
-value-requires c κs = search needs
+value-requires c κs = omega arith
 
 entry-requires : tie.Need-entry-requires
-entry-requires c κs = search needs
+entry-requires c κs = omega arith
 
 enum-known-p : tie.Need-enum-known-p
-enum-known-p c = search needs
+enum-known-p c = omega arith
 
 enum-told : tie.Need-enum-told
-enum-told c = search needs
+enum-told c = omega arith
 
 returns : tie.Need-returns
 returns c =
@@ -52,10 +53,10 @@ put-requires c κs =
     omega (arith, st .pre, h)
 
 same-length : tie.Need-same-length
-same-length c = search needs
+same-length c = omega arith
 
 same-length-2 : tie.Need-same-length-2
-same-length-2 c = search needs
+same-length-2 c = omega arith
 
 returns-2 : tie.Need-returns-2
 returns-2 c =

@@ -1,3 +1,4 @@
+-- `mark`: 2 for `I`, else 1. Assumes nothing.
 use borrow.Author.Tests.{ne-eqb}
 use Rattle.record.specs.Work.{markOf}
 use Rattle.record.proofs.mark.Statement.{statement}

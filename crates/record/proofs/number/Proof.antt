@@ -1,14 +1,13 @@
--- `record::number` meets its contract. The loop's invariant: v is what the bytes from i on stand for, and fits their bits.
--- Assumes nothing.
-use Prim.Native.Nat.{ℕ, _≤_, _<_, _*_, _-_, _+_, _^_}
+-- `number`: before turn i the bytes from i on are added up. Assumes nothing.
 use mathlib.Core.Path.{_≡_, ap, _∙_}
-use native.Mathlib.Omega.{arith}
+use Prim.Native.Nat.{ℕ, _≤_, _<_, _*_, _-_, _+_, _^_}
 use native.Mathlib.Nat.{lt-of-lt-of-le}
+use native.Mathlib.Omega.{arith}
 use lib.ListN.{length, drop}
 use lib.Pow.{pow-mono, pow-pos}
-use borrow.Author.Needs.{needs}
 use Rattle.record.specs.Input.{little}
-use Rattle.record.proofs.Laws.{little-step, little-none, grown}
+use Rattle.record.proofs.Bytes.{little-step, little-none, grown}
+use borrow.Author.Needs.{needs}
 use Rattle.record.proofs.number.Statement.{statement}
 use Rattle.record.proofs.number.Tie as tie
 
@@ -24,13 +23,13 @@ loop-holds c =
     (search needs, little-none s, pow-pos (8 * (length s - length s)))
 
 sub-i : tie.Need-sub-i Inv-loop μ-loop
-sub-i c = search needs
+sub-i c = omega arith
 
 shared-slice-read-wide : tie.Need-shared-slice-read-wide Inv-loop μ-loop
-shared-slice-read-wide c = search needs
+shared-slice-read-wide c = omega arith
 
 wide-requires : tie.Need-wide-requires Inv-loop μ-loop
-wide-requires c κs = search needs
+wide-requires c κs = omega arith
 
 mul-v : tie.Need-mul-v Inv-loop μ-loop
 mul-v c =
@@ -50,17 +49,18 @@ add-v c =
     omega arith
 
 loop-less : tie.Need-loop-less Inv-loop μ-loop
-loop-less c = search needs
+loop-less c = omega arith
 
 loop-again : tie.Need-loop-again Inv-loop μ-loop
 loop-again c =
     let s = c .before .before .before .before .before .args .s .now in
     let l = c .before .before .before .loop in
     let w : c .wide .result < 256 = omega (arith, c .before .shared-slice-known2 .given (l .i - 1), c .wide .ensures) in
-    let e : 8 * (length s - (l .i - 1)) ≡ 8 * (length s - l .i) + 8 = omega arith in
-    (search needs,
-    little-step s (l .i) (l .v) (c .wide .result) (omega arith) (l .inv .0) (l .inv .1) (c .wide .ensures),
-    rw e (grown (8 * (length s - l .i)) (c .wide .result) (l .v) w (l .inv .2)))
+    let e : 8 * (length s - (l .i - 1)) ≡ 8 * (length s - l .i) + 8 = omega arith in (
+      search needs,
+      little-step s (l .i) (l .v) (c .wide .result) (omega arith) (l .inv .0) (l .inv .1) (c .wide .ensures),
+      rw e (grown (8 * (length s - l .i)) (c .wide .result) (l .v) w (l .inv .2)),
+    )
 
 returns : tie.Need-returns Inv-loop μ-loop
 returns c =

@@ -1,7 +1,7 @@
 -- `sizes`: the tests in their order. Assumes nothing.
 use mathlib.Core.Path.{sym, _∙_}
 use borrow.Author.Tests.{not-true, not-false}
-use Rattle.record.proofs.Laws.{sizes-not, sizes-many, sizes-good}
+use Rattle.record.proofs.Heads.{sizes-not, sizes-many, sizes-good}
 use Rattle.record.proofs.sizes.Statement.{statement}
 use Rattle.record.proofs.sizes.Tie as tie
 

@@ -3,7 +3,7 @@ use mathlib.Core.Path.{_∙_}
 use Prim.Native.Nat.{_-_, _≤_}
 use native.Mathlib.Omega.{arith}
 use Rattle.workspace.proofs.Clears.{Wiped, wiped-none, wiped-more, wiped-all}
-use Rattle.record.proofs.Laws.{no-marks}
+use Rattle.record.proofs.Marks.{no-marks}
 use Rattle.record.proofs.unmark.Statement.{statement}
 use Rattle.record.proofs.unmark.Tie as tie
 

@@ -1,10 +1,10 @@
+-- `value`: a NaN pattern, or the bits' own float. Assumes nothing.
+use mathlib.Core.Path.{refl, _≡_, sym, subst, _∙_}
 use mathlib.Core.Logic.{⊎-elim}
-use Rattle.record.proofs.Laws.{nan-bits, nan-value, no-nan-field, no-nan-digits, zero-by-zero}
-use mathlib.Core.Path.{_≡_, sym, subst, _∙_}
 use mathlib.Core.Bool.{Bool, false, not}
 use lib.Dec.{T}
 use lib.Ieee.{nanBits, binary64}
-use borrow.Author.Needs.{needs}
+use Rattle.record.proofs.Bytes.{nan-bits, nan-value, no-nan-field, no-nan-digits, zero-by-zero}
 use Rattle.record.proofs.value.Statement.{statement}
 use Rattle.record.proofs.value.Tie as tie
 
@@ -20,7 +20,7 @@ float-from-bits-result c =
     subst (λ (t : Bool). T (not t)) (sym e) tt
 
 returns-2 : tie.Need-returns-2
-returns-2 c = search needs
+returns-2 c = refl
 
 pub value-spec : {M : Type 1} → statement M
 value-spec = tie.close (tie.spec returns float-from-bits-result returns-2)

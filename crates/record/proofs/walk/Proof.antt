@@ -1,11 +1,11 @@
-use Rattle.record.proofs.Turns.{part-length, walk-bad, walk-next, walk-short, walk-missing, walk-done}
-use Rattle.record.specs.Work.{walkTables}
-use borrow.Author.Tests.{not-true, not-false}
-use native.Mathlib.Omega.{arith}
-use lib.ListN.{length}
+-- `walk`: before record k, what is still to come gives the answer. Assumes nothing.
 use mathlib.Core.Path.{_≡_, refl, sym, _∙_}
 use Prim.Native.Nat.{_≤_, _-_, _/_}
-use borrow.Author.Needs.{needs}
+use native.Mathlib.Omega.{arith}
+use borrow.Author.Tests.{not-true, not-false}
+use lib.ListN.{length}
+use Rattle.record.specs.Work.{walkTables}
+use Rattle.record.proofs.Walks.{part-length, walk-bad, walk-next, walk-short, walk-missing, walk-done}
 use Rattle.record.proofs.walk.Statement.{statement}
 use Rattle.record.proofs.walk.Tie as tie
 
@@ -19,22 +19,22 @@ loop-holds : tie.Need-loop-holds Inv-loop μ-loop
 loop-holds c = (omega arith, omega arith, c .before .before .before .pre .1 .0, c .before .before .before .pre .1 .1, refl)
 
 mul-enter : tie.Need-mul-enter Inv-loop μ-loop
-mul-enter c = search needs
+mul-enter c = omega arith
 
 mul-enter-2 : tie.Need-mul-enter-2 Inv-loop μ-loop
-mul-enter-2 c = search needs
+mul-enter-2 c = omega arith
 
 add-enter : tie.Need-add-enter Inv-loop μ-loop
-add-enter c = search needs
+add-enter c = omega arith
 
 sub-enter : tie.Need-sub-enter Inv-loop μ-loop
-sub-enter c = search needs
+sub-enter c = omega arith
 
 part-enter-start : tie.Need-part-enter-start Inv-loop μ-loop
-part-enter-start c = search needs
+part-enter-start c = omega arith
 
 part-enter-end : tie.Need-part-enter-end Inv-loop μ-loop
-part-enter-end c = search needs
+part-enter-end c = omega arith
 
 enter-requires : tie.Need-enter-requires Inv-loop μ-loop
 enter-requires c κs =
@@ -58,20 +58,24 @@ returns c =
     ∙ l .inv .4
 
 add-k : tie.Need-add-k Inv-loop μ-loop
-add-k c = search needs
+add-k c = omega arith
 
 loop-less : tie.Need-loop-less Inv-loop μ-loop
-loop-less c = search needs
+loop-less c = omega arith
 
 loop-again : tie.Need-loop-again Inv-loop μ-loop
 loop-again c =
     let a = c .before .before .before .before .before .before .before .before .before .before .before .before .before .before .args in
     let l = c .before .before .before .before .before .before .before .before .before .before .loop in
-    let e = c .before .before .before .before .before .enter in
-    (omega arith, omega arith, e .kept .1 .1 .1 .0 ∙ l .inv .2, e .kept .1 .1 .1 .1 .0 ∙ l .inv .3,
-    walk-next (a .m) (a .n) (a .bytes .now) (l .marks) (e .last .1 .1 .1 .0) (l .vals) (e .last .1 .1 .1 .1 .0) (length (a .bytes .now) / 16) (l .k)
-    (e .result) (c .before .before .before .before .before .before .before .before .before .loop-test .taken) (not-false _ (c .if1 .left)) (e .ensures)
-    ∙ l .inv .4)
+    let e = c .before .before .before .before .before .enter in (
+      omega arith,
+      omega arith,
+      e .kept .1 .1 .1 .0 ∙ l .inv .2,
+      e .kept .1 .1 .1 .1 .0 ∙ l .inv .3,
+      walk-next (a .m) (a .n) (a .bytes .now) (l .marks) (e .last .1 .1 .1 .0) (l .vals) (e .last .1 .1 .1 .1 .0) (length (a .bytes .now) / 16) (l .k)
+          (e .result) (c .before .before .before .before .before .before .before .before .before .loop-test .taken) (not-false _ (c .if1 .left)) (e .ensures)
+          ∙ l .inv .4,
+    )
 
 same-length-3 : tie.Need-same-length-3 Inv-loop μ-loop
 same-length-3 c = c .before .before .loop .inv .2 ∙ sym (c .before .before .before .before .before .before .pre .1 .0)

@@ -1,7 +1,8 @@
-use borrow.Author.Tests.{lt-ltb, le-ltb}
-use native.Mathlib.Omega.{arith}
+-- `within`: below the rows and the columns. Assumes nothing.
 use Prim.Native.Nat.{_*_, _≤_}
 use native.Mathlib.Nat.{mul-le-mul}
+use native.Mathlib.Omega.{arith}
+use borrow.Author.Tests.{lt-ltb, le-ltb}
 use Rattle.record.specs.Work.{within}
 use Rattle.record.proofs.within.Statement.{statement}
 use Rattle.record.proofs.within.Tie as tie

@@ -1,9 +1,9 @@
 -- `identity`: the tests in their order, then the rows and the clearing. Assumes nothing.
 use mathlib.Core.Path.{sym, _∙_}
+use Prim.Native.Nat.{_*_}
 use native.Mathlib.Omega.{arith}
 use borrow.Author.Tests.{not-true, not-false}
 use Rattle.workspace.proofs.Tests.{dimension-le, has-length, room-ge}
-use Prim.Native.Nat.{_*_}
 use Rattle.hessian.proofs.Calls.{size-refused, length-refused, room-refused, made}
 use Rattle.hessian.proofs.Hessian.identity.Statement.{statement}
 use Rattle.hessian.proofs.Hessian.identity.Tie as tie

@@ -1,16 +1,18 @@
 -- Laws of the walkTables over the records: one record taken, and the end. Assumes nothing.
-use lib.ListN.{length-take, length-drop, length, take, drop}
-use Prim.Native.Nat.{ℕ, zero, suc, _+_, _-_, _*_, _/_, _%_, _≤_, _<_}
 use mathlib.Core.Path.{_≡_, sym, ap, _∙_}
-use mathlib.Core.List.{List}
 use mathlib.Core.Bool.{Bool, true, false}
-use native.Mathlib.Omega.{arith}
+use mathlib.Core.List.{List}
+use Prim.Native.Nat.{ℕ, zero, suc, _+_, _-_, _*_, _/_, _%_, _≤_, _<_}
 use native.Mathlib.Nat.{add-sub-cancel-left}
+use native.Mathlib.Omega.{arith}
 use borrow.Author.Tests.{eq-eqb, ne-eqb, lt-ltb, le-ltb}
+use lib.ListN.{length-take, length-drop, length, take, drop}
 use lib.Ieee.{Float}
 use Rattle.record.specs.declared.Head.the-variants.{Unsound, TooLarge, Sizes}
+use Rattle.record.specs.declared.Input.{Input}
+use Rattle.record.specs.declared.Input.the-variants.{Fault, Large, Whole}
 use Rattle.record.specs.Input.{recordAt}
-use Rattle.record.specs.Work.{Filled, bad, next, entered, gave, faultAt, outsideSizes, filled, allMarked, closing, walkTables, decodeTables, headOf, noMarks, defaults}
+use Rattle.record.specs.Work.{AreTables, Filled, bad, next, entered, gave, faultAt, outsideSizes, filled, allMarked, closing, walkTables, decodeTables, headOf, noMarks, defaults}
 
 module _ (m n : ℕ) (bs : List ℕ) where
   -- a turn's part of the input is the record
@@ -83,3 +85,8 @@ module _ (bs : List ℕ) (h : 16 ≤ length bs) where
   pub decode-from : (m n : ℕ) → headOf (take 16 bs) ≡ Sizes m n → (x : Filled) (marks : List ℕ) (vals : List Float) → marks ≡ noMarks → vals ≡ defaults n
       → x ≡ walkTables m n bs (length bs / 16 - 1) 1 marks vals → x ≡ decodeTables bs
   decode-from m n e x marks vals a b q = q ∙ rw (a, b) (decode-walk m n e)
+
+pub are-tables : (r : Input) (marks : List ℕ) (vals : List Float) → length marks ≡ 576 → length vals ≡ 576 → AreTables r marks vals
+are-tables (Fault k) marks vals a b = tt
+are-tables Large marks vals a b = tt
+are-tables (Whole m n) marks vals a b = (a, b)

@@ -1,0 +1,5 @@
+pub mod Writing
+pub mod Numerals
+pub mod Lines
+pub mod Answers
+pub mod Stand
