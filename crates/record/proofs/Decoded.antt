@@ -1,13 +1,17 @@
 -- The sizes of a problem that was decoded are in the table. Assumes nothing.
-use mathlib.Core.Path.{_≡_, refl, ap}
+use mathlib.Core.Path.{_∙_, subst, sym, _≡_, refl, ap}
 use mathlib.Core.Bool.{Bool, true, false, cond, _&&_}
 use mathlib.Core.List.{List, [], _∷_}
 use Prim.Native.Nat.{ℕ, zero, suc, _+_, _-_, _/_, _%_}
 use native.Mathlib.Omega.{arith}
 use lib.Dec.{leb, eqb}
 use lib.ListN.{length}
+use lib.Ieee.{Float}
 use Rattle.workspace.specs.Tables.{isDimension, isEqualities}
 use Rattle.subproblem.specs.Problem.{Problem}
+use Rattle.record.specs.declared.Input.{Input}
+use Rattle.record.specs.declared.Input.the-variants.{Whole}
+use Rattle.record.specs.Work.{problemIn, says, AreTables}
 use Rattle.record.specs.Input.{rowOf, columnOf, recordAt, isSound, problemOf, isComplete, fault, tooLarge, problem, walk, isHead, decode}
 use Rattle.record.proofs.Heads.{InTable, sizes-in}
 
@@ -44,3 +48,11 @@ problem-sizes bs p e = go (leb 16 (length bs) && isHead (recordAt bs 0)) (isDime
         record { few = omega (arith, w .few, s .0); some = omega (arith, w .some, s .1); most = omega (arith, w .most, s .1) }
     go true false h q = large-not p q
     go false t h q = fault-not 0 p q
+
+-- of the code's answer, where it says that there is a problem
+pub whole-sizes : (bs : List ℕ) (r : Input) (m n : ℕ) (marks : List ℕ) (vals : List Float) → r ≡ Whole m n → says r marks vals ≡ decode bs → InTable m n
+unfolding problemIn
+whole-sizes bs r m n marks vals e h = problem-sizes bs (problemIn m n marks vals) (sym h ∙ ap (λ (q : Input). says q marks vals) e)
+
+pub whole-tables : (r : Input) (m n : ℕ) (marks : List ℕ) (vals : List Float) → r ≡ Whole m n → AreTables r marks vals → (length marks ≡ 576) × (length vals ≡ 576)
+whole-tables r m n marks vals e h = subst (λ (q : Input). AreTables q marks vals) e h

@@ -1,19 +1,23 @@
 -- The step's answer, from its promise, and the problem, from the parts of the tables. Assumes nothing.
-use mathlib.Core.Path.{_≡_, refl, sym, ap, _∙_}
+use mathlib.Core.Path.{_≡_, sym, ap, _∙_}
 use mathlib.Core.List.{List}
-use mathlib.Core.Option.{Option, none, some}
-use Prim.Native.Nat.{ℕ, _+_, _-_, _*_, _≤_}
-use native.Mathlib.Nat.{add-sub-cancel-left, mul-le-mul}
+use mathlib.Core.Option.{none, some}
+use Prim.Native.Nat.{ℕ, _+_, _-_, _*_}
+use native.Mathlib.Nat.{add-sub-cancel-left}
 use native.Mathlib.Omega.{arith}
-use lib.ListN.{length, take, drop}
+use lib.ListN.{take, drop}
 use lib.Ieee.{Float}
 use Rattle.numbers.specs.Numbers.{tab}
-use Rattle.workspace.specs.Tables.{Answer, done, refused, number, value, output}
+use Rattle.workspace.specs.Tables.{Answer, done, refused}
 use Rattle.subproblem.specs.Step.{Step}
 use Rattle.subproblem.specs.Promise.{Steps}
-use Rattle.record.specs.Work.{kindAt, problemIn}
+use Rattle.record.specs.Work.{kindAt, problemIn, says}
+use Rattle.record.specs.declared.Input.{Input}
+use Rattle.record.specs.Input.{decode}
 use Rattle.report.specs.declared.Stepped.{Stepped}
 use Rattle.report.specs.declared.Stepped.the-variants.{Done, Refused}
+use Rattle.report.specs.Program.{refusedText, doneText, stepText}
+use Rattle.report.specs.StandIn.{standInText, standInOutput}
 use Rattle.report.specs.Work.{numberOf, relaxationOf, answered, stepFrom, problemFrom}
 
 none-not : {A : Type 0} {v : Float} → none ≡ some v → A
@@ -37,5 +41,16 @@ pub parts-are : (m n : ℕ) (marks : List ℕ) (vals : List Float) (ks : List �
 unfolding problemIn
 parts-are m n marks vals ks k e f = simp (e, f, add-sub-cancel-left)
 
-pub square : (m n : ℕ) → m ≤ 16 → n ≤ 16 → m * n ≤ 256
-square m n h l = mul-le-mul h l
+-- ---- its text
+
+pub done-text : (e : Stepped) (r : Float) (d l : List Float) (c : Answer Step) → e ≡ Done r → answered e d l ≡ c → doneText (stepFrom r d l) ≡ stepText c
+done-text e r d l c q h = ap stepText (sym (ap (λ (x : Stepped). answered x d l) q) ∙ h)
+
+pub refused-text : (e : Stepped) (k : ℕ) (d l : List Float) (c : Answer Step) → e ≡ Refused k → answered e d l ≡ c → refusedText k ≡ stepText c
+refused-text e k d l c q h = ap stepText (sym (ap (λ (x : Stepped). answered x d l) q) ∙ h)
+
+-- ---- the whole output, from what `decode` answers
+
+pub output-is : (bs : List ℕ) (r q : Input) (marks : List ℕ) (vals : List Float) → r ≡ q → says r marks vals ≡ decode bs → standInText (says q marks vals) ≡ standInOutput bs
+unfolding standInOutput
+output-is bs r q marks vals e h = ap standInText (sym (ap (λ (x : Input). says x marks vals) e) ∙ h)

@@ -4,7 +4,7 @@ use mathlib.Core.List.{List, append-nil}
 use mathlib.Core.Option.{some}
 use Prim.Native.Nat.{ℕ}
 use native.Mathlib.Omega.{arith}
-use lib.ListN.{length, replicate, drop-of-length-le}
+use lib.ListN.{length, drop-of-length-le}
 use lib.Ieee.{Float, neg, binary64, ofBits}
 use Rattle.numbers.specs.Numbers.{+0, at, tab}
 use Rattle.numbers.proofs.Lists.{tab-replicate}

@@ -1,5 +1,6 @@
 -- What the record program writes. Definitions only.
 pub mod Text
 pub mod Program
+pub mod Cases
 pub mod StandIn
 pub mod Work

@@ -1,9 +1,8 @@
 -- What the record program writes for what it reads (docs/RULES.md, "The record program"). Definitions only. Assumes nothing.
+use mathlib.Core.List.{List, _++_}
 use Prim.Native.Nat.{ℕ}
 use Prim.Native.Char.{code}
-use mathlib.Core.List.{List, _++_}
 use Rattle.workspace.specs.Tables.{Answer, done, refused}
-use Rattle.nnls.specs.Counted.{Counted}
 use Rattle.subproblem.specs.Step.{Step, step}
 use Rattle.record.specs.Input.{Decoded, fault, tooLarge, problem, decode}
 use Rattle.report.specs.Text.{ascii, decimalText, floatText, linesText}

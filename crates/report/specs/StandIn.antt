@@ -1,6 +1,6 @@
 -- A stand-in for the step, until its code is there: minus the gradient, and no multipliers. Definitions only. Assumes nothing.
-use Prim.Native.Nat.{ℕ}
 use mathlib.Core.List.{List}
+use Prim.Native.Nat.{ℕ}
 use lib.Ieee.{neg}
 use Rattle.numbers.specs.Numbers.{+0, at, tab}
 use Rattle.workspace.specs.Tables.{Answer, done}

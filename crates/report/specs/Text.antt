@@ -1,9 +1,9 @@
 -- Numbers and lines as bytes (docs/RULES.md, "The record program"). Definitions only. Assumes nothing.
+use mathlib.Core.Bool.{cond}
+use mathlib.Core.List.{List, [], _∷_, _++_}
 use Prim.Native.Nat.{ℕ, zero, suc, _+_, _/_, _%_}
 use Prim.Native.Char.{code}
 use Prim.Native.String.{String, len, charAt}
-use mathlib.Core.Bool.{cond}
-use mathlib.Core.List.{List, [], _∷_, _++_}
 use lib.Dec.{ltb}
 use lib.Ieee.{Float, binary64, isNan, toBits}
 use Rattle.io.specs.Digits.{glyph, digits}

@@ -1,8 +1,8 @@
 -- What the inner functions are handed and tell. Definitions only. Assumes nothing.
-use Prim.Native.Nat.{ℕ, _+_, _≤_}
 use mathlib.Core.Path.{_≡_}
 use mathlib.Core.List.{List, _++_}
 use mathlib.Core.Option.{Option, none, some}
+use Prim.Native.Nat.{ℕ, _+_}
 use lib.ListN.{length, take}
 use lib.Ieee.{Float}
 use Rattle.workspace.specs.Tables.{Answer, done, refused}

@@ -1,6 +1,6 @@
 -- `kind`: 1 where the mark is 2. Assumes nothing.
-use borrow.Author.Tests.{eq-eqb, ne-eqb}
 use native.Mathlib.Omega.{arith}
+use borrow.Author.Tests.{eq-eqb, ne-eqb}
 use Rattle.record.specs.Work.{kindAt}
 use Rattle.report.proofs.kind.Statement.{statement}
 use Rattle.report.proofs.kind.Tie as tie

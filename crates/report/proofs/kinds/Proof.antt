@@ -1,11 +1,11 @@
 -- `kinds`: after i turns i kinds are written. Assumes nothing.
-use mathlib.Core.Path.{_≡_, refl, sym, ap, _∙_}
-use Prim.Native.Nat.{ℕ, _+_, _*_, _-_, _≤_, _<_}
-use lib.ListN.{length, take, drop, length-set, length-take}
+use mathlib.Core.Path.{_≡_, refl}
+use Prim.Native.Nat.{_-_, _≤_}
 use native.Mathlib.Omega.{arith}
-use Rattle.record.specs.Work.{kindAt}
+use lib.ListN.{length, length-set}
 use Rattle.workspace.specs.Readings.{Span}
 use Rattle.workspace.proofs.Writes.{written-none, written-front, written-all}
+use Rattle.record.specs.Work.{kindAt}
 use Rattle.report.proofs.kinds.Statement.{statement}
 use Rattle.report.proofs.kinds.Tie as tie
 

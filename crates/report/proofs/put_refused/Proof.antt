@@ -1,7 +1,4 @@
 -- `put_refused`: its parts one after the other. Assumes nothing.
-use mathlib.Core.Path.{_≡_, refl, sym, ap, _∙_}
-use Prim.Native.Nat.{ℕ, _+_, _*_, _-_, _≤_, _<_}
-use lib.ListN.{length, take, drop, length-set, length-take}
 use native.Mathlib.Omega.{arith}
 use Rattle.report.proofs.Writing.{wrote-then, as-text}
 use Rattle.report.proofs.Lines.{refused-is}

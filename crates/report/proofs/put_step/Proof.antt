@@ -1,76 +1,71 @@
+-- `put_step`: the step's answer, as text. Assumes nothing.
+use mathlib.Core.Path.{sym}
+use native.Mathlib.Omega.{arith}
+use lib.Seq.{length-take-le}
+use Rattle.record.specs.Work.{problemIn}
+use Rattle.report.specs.StandIn.{standIn}
+use Rattle.report.proofs.Writing.{as-text}
+use Rattle.report.proofs.Answers.{done-text, refused-text}
 use borrow.Author.Needs.{needs}
 use Rattle.report.proofs.put_step.Statement.{statement}
 use Rattle.report.proofs.put_step.Tie as tie
-use Rattle.report.proofs.put_step.Reads as reads
-use Rattle.report.proofs.put_step.Lts as lts
-use Rattle.report.proofs.put_done.Reads as put-done-reads
-use Rattle.report.proofs.put_refused.Reads as put-refused-reads
-use Rattle.report.proofs.sixteen.Reads as sixteen-reads
-use Rattle.report.proofs.solve.Reads as solve-reads
 
--- src/lib.rt:117:17
 sixteen-requires : tie.Need-sixteen-requires
 sixteen-requires c κs = search needs
 
--- src/lib.rt:118:17
 sixteen-requires-2 : tie.Need-sixteen-requires-2
 sixteen-requires-2 c κs = search needs
 
--- src/lib.rt:119:14
 array-borrow-prefix-d : tie.Need-array-borrow-prefix-d
 array-borrow-prefix-d c = search needs
 
--- src/lib.rt:119:9
 slice-aggregate-ds : tie.Need-slice-aggregate-ds
-slice-aggregate-ds c = search needs
+slice-aggregate-ds c = let s = c .before .before .before .before .before .before in sym (length-take-le (s .args .n) _ (omega (arith, s .pre, c .before .before .sixteen .ensures)))
 
--- src/lib.rt:120:14
 array-borrow-prefix-l : tie.Need-array-borrow-prefix-l
 array-borrow-prefix-l c = search needs
 
--- src/lib.rt:120:9
 slice-aggregate-ls : tie.Need-slice-aggregate-ls
-slice-aggregate-ls c = search needs
+slice-aggregate-ls c = let s = c .before .before .before .before .before .before .before in sym (length-take-le (s .args .m) _ (omega (arith, s .pre, c .before .before .sixteen2 .ensures)))
 
--- src/lib.rt:121:11
 solve-requires : tie.Need-solve-requires
-solve-requires c κs = search needs
+solve-requires c κs = let s = c .before .before .before .before .before .before .before .before .before in
+    ((s .pre .0, s .pre .1, s .pre .2, s .pre .3), (length-take-le (s .args .n) _ (omega (arith, s .pre, c .before .before .before .before .before .sixteen .ensures)), length-take-le (s .args .m) _ (omega (arith, s .pre, c .before .before .before .before .sixteen2 .ensures))))
 
--- src/lib.rt:122:26
 enum-known-k : tie.Need-enum-known-k
 enum-known-k c = search needs
 
--- src/lib.rt:122:49
 cast-put-refused : tie.Need-cast-put-refused
 cast-put-refused c = search needs
 
--- src/lib.rt:122:32
 put-refused-requires : tie.Need-put-refused-requires
 put-refused-requires c κs = search needs
 
--- src/lib.rt:123:23
 enum-known-relaxation : tie.Need-enum-known-relaxation
 enum-known-relaxation c = search needs
 
--- src/lib.rt:123:38
 put-done-requires : tie.Need-put-done-requires
-put-done-requires c κs = search needs
+put-done-requires c κs = let s = c .before .before .before .before .before .before .before .before .before .before .before .before .before .before .before .before .before .before .before .before in
+    let k = c .before .before .before .before .before .before .before .before .before .before .solve in
+    let d = length-take-le (s .args .n) (c .before .before .before .before .before .before .before .before .before .before .before .before .before .before .before .before .sixteen .result) (omega (arith, s .pre, c .before .before .before .before .before .before .before .before .before .before .before .before .before .before .before .before .sixteen .ensures)) in
+    let l = length-take-le (s .args .m) (c .before .before .before .before .before .before .before .before .before .before .before .before .before .before .before .sixteen2 .result) (omega (arith, s .pre, c .before .before .before .before .before .before .before .before .before .before .before .before .before .before .before .sixteen2 .ensures)) in
+    (s .pre .4, omega (arith, s .pre .1, d, k .kept .1 .1 .1 .1 .0), omega (arith, s .pre .0, l, k .kept .1 .1 .1 .1 .1 .0))
 
--- src/lib.rt:113:1
 same-length : tie.Need-same-length
 same-length c = search needs
 
--- src/lib.rt:113:1
 returns : tie.Need-returns
-returns c = search needs
+returns c = let a = c .before .before .before .before .before .before .before .before .before .before .before .before .before .before .before .before .before .before .before .before .before .before .before .args in
+    let k = c .before .before .before .before .before .before .before .before .before .before .before .before .before .solve in
+    as-text (refused-text (k .result) _ (k .last .1 .1 .1 .1 .0) (k .last .1 .1 .1 .1 .1 .0) (standIn (problemIn (a .m) (a .n) (a .marks .now) (a .vals .now))) (c .before .before .before .before .before .before .before .k .given .1) (k .ensures)) (c .before .before .put-refused .ensures)
 
--- src/lib.rt:113:1
 same-length-2 : tie.Need-same-length-2
 same-length-2 c = search needs
 
--- src/lib.rt:113:1
 returns-2 : tie.Need-returns-2
-returns-2 c = search needs
+returns-2 c = let a = c .before .before .before .before .before .before .before .before .before .before .before .before .before .before .before .before .before .before .before .before .before .before .before .before .before .args in
+    let k = c .before .before .before .before .before .before .before .before .before .before .before .before .before .before .before .solve in
+    as-text (done-text (k .result) _ (k .last .1 .1 .1 .1 .0) (k .last .1 .1 .1 .1 .1 .0) (standIn (problemIn (a .m) (a .n) (a .marks .now) (a .vals .now))) (c .before .before .before .before .before .before .before .before .before .relaxation .given .1) (k .ensures)) (c .before .before .before .before .put-done .ensures)
 
 pub put-step-spec : {M : Type 1} → statement M
 put-step-spec =

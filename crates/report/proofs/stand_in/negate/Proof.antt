@@ -1,8 +1,8 @@
 -- `negate`: after i turns i numbers are written. Assumes nothing.
-use mathlib.Core.Path.{_≡_, refl, sym, ap, _∙_}
-use Prim.Native.Nat.{ℕ, _+_, _*_, _-_, _≤_, _<_}
-use lib.ListN.{length, take, drop, length-set, length-take}
+use mathlib.Core.Path.{refl}
+use Prim.Native.Nat.{_-_, _≤_}
 use native.Mathlib.Omega.{arith}
+use lib.ListN.{length}
 use lib.Ieee.{neg}
 use Rattle.numbers.specs.Numbers.{at}
 use Rattle.numbers.proofs.Fills.{Fill, fill-none, fill-more, fill-all}

@@ -1,6 +1,6 @@
 -- `put_byte`: one byte more. Assumes nothing.
-use lib.ListN.{length, take, drop, length-set, length-take}
 use native.Mathlib.Omega.{arith}
+use lib.ListN.{length-set}
 use Rattle.report.proofs.Writing.{wrote-one}
 use Rattle.report.proofs.text.put_byte.Statement.{statement}
 use Rattle.report.proofs.text.put_byte.Tie as tie

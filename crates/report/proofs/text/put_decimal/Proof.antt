@@ -1,7 +1,5 @@
 -- `put_decimal`: the digits that `io` makes. Assumes nothing.
-use mathlib.Core.Path.{_≡_, refl, sym, ap, _∙_}
-use Prim.Native.Nat.{ℕ, _+_, _*_, _-_, _≤_, _<_}
-use lib.ListN.{length, take, drop, length-set, length-take}
+use mathlib.Core.Path.{_∙_}
 use native.Mathlib.Omega.{arith}
 use Rattle.report.proofs.Writing.{as-text}
 use Rattle.report.proofs.Numerals.{decimal-is, decimal-places}

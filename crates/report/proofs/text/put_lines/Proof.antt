@@ -1,8 +1,8 @@
 -- `put_lines`: after i turns i lines are written. Assumes nothing.
-use mathlib.Core.Path.{_≡_, refl, sym, ap, _∙_}
-use Prim.Native.Nat.{ℕ, _+_, _*_, _-_, _≤_, _<_}
-use lib.ListN.{length, take, drop, length-set, length-take}
+use mathlib.Core.Path.{_≡_, refl, _∙_}
+use Prim.Native.Nat.{_+_, _*_, _-_, _≤_}
 use native.Mathlib.Omega.{arith}
+use lib.ListN.{length, drop}
 use Rattle.report.specs.Text.{linesText}
 use Rattle.report.proofs.Writing.{Writing, writing-none, writing-more, writing-end}
 use Rattle.report.proofs.Lines.{line-more, line-none}

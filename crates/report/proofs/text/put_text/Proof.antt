@@ -1,8 +1,8 @@
 -- `put_text`: after i turns i bytes of the text are written. Assumes nothing.
-use mathlib.Core.Path.{_≡_, refl, sym, ap, _∙_}
-use Prim.Native.Nat.{ℕ, _+_, _*_, _-_, _≤_, _<_}
-use lib.ListN.{length, take, drop, length-set, length-take}
+use mathlib.Core.Path.{_≡_, refl}
+use Prim.Native.Nat.{_+_, _-_, _≤_}
 use native.Mathlib.Omega.{arith}
+use lib.ListN.{length, drop, length-set}
 use Rattle.report.proofs.Writing.{Writing, text-none, text-more, text-end}
 use Rattle.report.proofs.text.put_text.Statement.{statement}
 use Rattle.report.proofs.text.put_text.Tie as tie

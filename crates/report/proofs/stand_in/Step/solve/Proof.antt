@@ -1,7 +1,4 @@
 -- `Step::solve`: what its callees left. Assumes nothing.
-use mathlib.Core.Path.{_≡_, refl, sym, ap, _∙_}
-use Prim.Native.Nat.{ℕ, _+_, _*_, _-_, _≤_, _<_}
-use lib.ListN.{length, take, drop, length-set, length-take}
 use native.Mathlib.Omega.{arith}
 use Rattle.report.specs.Work.{problemFrom}
 use Rattle.report.proofs.Stand.{stands}
