@@ -1,5 +1,5 @@
 // The record program: standard input to standard output. The first 9,248 bytes decide the answer (`FirstBytesDecide` of
-// record's specs/Claims.antt), so no more is read.
+// report's specs/Claims.antt), so no more is read.
 use libc::STDERR_FILENO;
 use libc::STDIN_FILENO;
 use libc::STDOUT_FILENO;

@@ -98,7 +98,7 @@ fn solve(
     d: &mut [f64],
     multipliers: &mut [f64],
 ) -> Stepped
-    requires { ⌜ (m ≤ 16) × (n ≤ 16) × (length (now marks) ≡ 576) × (length (now vals) ≡ 576) ⌝ }
+    requires { ⌜ (m ≤ 16) × (0 < n) × (n ≤ 16) × (length (now marks) ≡ 576) × (length (now vals) ≡ 576) ⌝ }
     requires { ⌜ (length (now d) ≡ n) × (length (now multipliers) ≡ m) ⌝ }
     ensures { λ r. ⌜ answered r (now (d .exit)) (now (multipliers .exit)) ≡ standIn (problemIn m n (now (marks .entry)) (now (vals .entry))) ⌝ }
 {
@@ -132,7 +132,7 @@ fn sixteen() -> [f64; 16]
 
 // What the step answers, as text.
 fn put_step(m: usize, n: usize, marks: &[u8], vals: &[f64], out: &mut [u8]) -> usize
-    requires { ⌜ (m ≤ 16) × (n ≤ 16) × (length (now marks) ≡ 576) × (length (now vals) ≡ 576) × (2048 ≤ length (now out)) ⌝ }
+    requires { ⌜ (m ≤ 16) × (0 < n) × (n ≤ 16) × (length (now marks) ≡ 576) × (length (now vals) ≡ 576) × (2048 ≤ length (now out)) ⌝ }
     ensures { λ r. ⌜ Wrote (now (out .entry)) 0 (stepText (standIn (problemIn m n (now (marks .entry)) (now (vals .entry))))) (now (out .exit)) r ⌝ }
 {
     let mut d = sixteen();

@@ -2,15 +2,14 @@
 use native.Mathlib.Omega.{arith}
 use Rattle.report.proofs.Writing.{wrote-then, as-text}
 use Rattle.report.proofs.Lines.{done-is}
-use borrow.Author.Needs.{needs}
 use Rattle.report.proofs.put_done.Statement.{statement}
 use Rattle.report.proofs.put_done.Tie as tie
 
 slice-aggregate-put-text : tie.Need-slice-aggregate-put-text
-slice-aggregate-put-text c = search needs
+slice-aggregate-put-text c = omega arith
 
 put-text-requires : tie.Need-put-text-requires
-put-text-requires c κs = search needs
+put-text-requires c κs = omega arith
 
 put-float-requires : tie.Need-put-float-requires
 put-float-requires c κs = omega (arith, c .before .before .before .put-text .ensures .until)
@@ -25,7 +24,7 @@ put-lines-requires-2 : tie.Need-put-lines-requires-2
 put-lines-requires-2 c κs = let s = c .before .before .before .before .before .before .before .before .before .before .before .before .before .before .before .before .before .before .before .before .before in omega (arith, s .pre, c .before .before .before .put-lines .ensures .1, c .before .before .before .before .before .before .before .put-byte .ensures .until, c .before .before .before .before .before .before .before .before .before .before .before .put-float .ensures .1, c .before .before .before .before .before .before .before .before .before .before .before .before .before .before .before .put-text .ensures .until)
 
 same-length : tie.Need-same-length
-same-length c = search needs
+same-length c = omega arith
 
 returns : tie.Need-returns
 returns c = let a = c .before .before .before .before .before .before .before .before .before .before .before .before .before .before .before .before .before .before .before .before .before .before .before .before .args in

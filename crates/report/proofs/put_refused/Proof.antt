@@ -2,15 +2,14 @@
 use native.Mathlib.Omega.{arith}
 use Rattle.report.proofs.Writing.{wrote-then, as-text}
 use Rattle.report.proofs.Lines.{refused-is}
-use borrow.Author.Needs.{needs}
 use Rattle.report.proofs.put_refused.Statement.{statement}
 use Rattle.report.proofs.put_refused.Tie as tie
 
 slice-aggregate-put-text : tie.Need-slice-aggregate-put-text
-slice-aggregate-put-text c = search needs
+slice-aggregate-put-text c = omega arith
 
 put-text-requires : tie.Need-put-text-requires
-put-text-requires c κs = search needs
+put-text-requires c κs = omega arith
 
 put-decimal-requires : tie.Need-put-decimal-requires
 put-decimal-requires c κs = omega (arith, c .before .before .before .put-text .ensures .until)
@@ -19,7 +18,7 @@ put-byte-requires : tie.Need-put-byte-requires
 put-byte-requires c κs = omega (arith, c .before .before .before .put-decimal .ensures .1, c .before .before .before .before .before .before .before .put-text .ensures .until)
 
 same-length : tie.Need-same-length
-same-length c = search needs
+same-length c = omega arith
 
 returns : tie.Need-returns
 returns c = let a = c .before .before .before .before .before .before .before .before .before .before .before .before .before .before .args in as-text (refused-is (a .k)) (wrote-then (c .before .before .before .before .before .before .before .before .before .before .put-text .ensures) (wrote-then (c .before .before .before .before .before .before .put-decimal .ensures .0) (c .before .before .put-byte .ensures)))

@@ -5,33 +5,32 @@ use Rattle.record.specs.declared.Input.the-variants.{Fault, Large, Whole}
 use Rattle.record.proofs.Decoded.{whole-sizes, whole-tables}
 use Rattle.report.proofs.Writing.{as-text, wrote-all}
 use Rattle.report.proofs.Answers.{output-is}
-use borrow.Author.Needs.{needs}
 use Rattle.report.proofs.respond.Statement.{statement}
 use Rattle.report.proofs.respond.Tie as tie
 
 no-marks-requires : tie.Need-no-marks-requires
-no-marks-requires c κs = search needs
+no-marks-requires c κs = omega arith
 
 no-values-requires : tie.Need-no-values-requires
-no-values-requires c κs = search needs
+no-values-requires c κs = omega arith
 
 decode-requires : tie.Need-decode-requires
-decode-requires c κs = search needs
+decode-requires c κs = omega arith
 
 enum-known-k : tie.Need-enum-known-k
-enum-known-k c = search needs
+enum-known-k c = omega arith
 
 put-fault-requires : tie.Need-put-fault-requires
-put-fault-requires c κs = search needs
+put-fault-requires c κs = omega arith
 
 enum-told : tie.Need-enum-told
-enum-told c = search needs
+enum-told c = omega arith
 
 put-refused-requires : tie.Need-put-refused-requires
-put-refused-requires c κs = search needs
+put-refused-requires c κs = omega arith
 
 enum-known-m : tie.Need-enum-known-m
-enum-known-m c = search needs
+enum-known-m c = omega arith
 
 slice-aggregate-put-step : tie.Need-slice-aggregate-put-step
 slice-aggregate-put-step c = let k = c .before .before .before .before .decode in sym (whole-tables (k .result) _ _ (k .last .1 .0) (k .last .1 .1 .0) (c .before .before .m .given .1) (k .ensures .1) .0)
@@ -44,7 +43,7 @@ put-step-requires c κs = let bs = c .before .before .before .before .before .be
     let k = c .before .before .before .before .before .before .decode in
     let s = whole-sizes bs (k .result) _ _ (k .last .1 .0) (k .last .1 .1 .0) (c .before .before .before .before .m .given .1) (k .ensures .0) in
     let t = whole-tables (k .result) _ _ (k .last .1 .0) (k .last .1 .1 .0) (c .before .before .before .before .m .given .1) (k .ensures .1) in
-    (s .few, s .most, t .0, t .1, omega arith)
+    (s .few, s .some, s .most, t .0, t .1, omega arith)
 
 returns : tie.Need-returns
 returns c = let bs = c .before .before .before .before .before .before .before .before .before .before .before .args .bytes .now in

@@ -3,18 +3,17 @@ use mathlib.Core.Path.{_∙_}
 use native.Mathlib.Omega.{arith}
 use Rattle.report.proofs.Writing.{as-text}
 use Rattle.report.proofs.Numerals.{decimal-is, decimal-places}
-use borrow.Author.Needs.{needs}
 use Rattle.report.proofs.text.put_decimal.Statement.{statement}
 use Rattle.report.proofs.text.put_decimal.Tie as tie
 
 decimal-requires : tie.Need-decimal-requires
-decimal-requires c κs = search needs
+decimal-requires c κs = omega arith
 
 array-share-prefix-digits : tie.Need-array-share-prefix-digits
-array-share-prefix-digits c = search needs
+array-share-prefix-digits c = omega arith
 
 slice-aggregate-put-text : tie.Need-slice-aggregate-put-text
-slice-aggregate-put-text c = search needs
+slice-aggregate-put-text c = omega arith
 
 put-text-requires : tie.Need-put-text-requires
 put-text-requires c κs = let k = c .before .before .decimal in
@@ -22,7 +21,7 @@ put-text-requires c κs = let k = c .before .before .decimal in
     omega (arith, k .ensures .0 .1)
 
 same-length : tie.Need-same-length
-same-length c = search needs
+same-length c = omega arith
 
 returns : tie.Need-returns
 returns c = let k = c .before .before .before .before .before .decimal in

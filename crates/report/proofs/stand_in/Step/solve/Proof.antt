@@ -2,30 +2,29 @@
 use native.Mathlib.Omega.{arith}
 use Rattle.report.specs.Work.{problemFrom}
 use Rattle.report.proofs.Stand.{stands}
-use borrow.Author.Needs.{needs}
 use Rattle.report.proofs.stand_in.Step.solve.Statement.{statement}
 use Rattle.report.proofs.stand_in.Step.solve.Tie as tie
 
 negate-requires : tie.Need-negate-requires
-negate-requires c κs = search needs
+negate-requires c κs = omega arith
 
 wipe-requires : tie.Need-wipe-requires
-wipe-requires c κs = search needs
+wipe-requires c κs = omega arith
 
 clear-requires : tie.Need-clear-requires
-clear-requires c κs = search needs
+clear-requires c κs = omega arith
 
 same-length : tie.Need-same-length
-same-length c = search needs
+same-length c = omega arith
 
 same-length-2 : tie.Need-same-length-2
-same-length-2 c = search needs
+same-length-2 c = omega arith
 
 same-length-3 : tie.Need-same-length-3
-same-length-3 c = search needs
+same-length-3 c = omega arith
 
 same-length-4 : tie.Need-same-length-4
-same-length-4 c = search needs
+same-length-4 c = omega arith
 
 returns : tie.Need-returns
 returns c = let a = c .before .before .before .before .before .before .before .before .before .before .before .before .before .before .before .before .before .before .before .before .before .before .before .before .before .before .args in
