@@ -5,10 +5,11 @@ use lib.Ieee.{add, sub, mul, div, neg, lt, le, eq, isNan, sum, round, size, unit
 use lib.Count.{trailingZeros}
 use Rattle.numbers.specs.Numbers.{Σ, tab, dot, gather, scatter, rows, grid, row, column, transposed}
 use Rattle.numbers.specs.Root.{floorRoot, rootOf, sqrtOf, norm}
-use Rattle.nnls.specs.Nnls.{residual, dualOf, members, solveOf, choose, ratioOf, ranksBefore, blocking, stepTo, nextX, nextMark, moveX, moveP, judge, tryNext, tries, turnNext, turns, lastly, pass, roundNext, rounds, activeSet, nnls}
+use Rattle.nnls.specs.Nnls.{residual, dualOf, choose, ratioOf, ranksBefore, blocking, stepTo, nextX, nextMark, moveX, moveP, judge, tryNext, tries, turnNext, turns, lastly, pass, roundNext, rounds, activeSet, nnls}
 use Rattle.subproblem.specs.Problem.{matrixOf, sidesOf, each, unit, boundRows, equalityRows, inequalityRows, opposedRows, loosenedRow, deltaRows, relaxedRows}
 use Rattle.subproblem.specs.Step.{target, inOrder, exactStep, exact, relaxedMatrix, paired, clamped, relaxedStep, relaxed, step}
 use Rattle.record.specs.Input.{little, spareZero, isInside, given, isSound, problemOf, areGiven, isComplete, walk, isHead, decode}
+use Rattle.passive.specs.Passive.{members, solveOf}
 use Rattle.householder.specs.Qr.{along, image, columnNorm, pivot, swapped, reflector, pinned, advance, steps, factor, forth, back, applyQt, applyQ, upward, solveR, downward, solveRt, solve}
 use Rattle.lsei.specs.Lsei.{dualMatrix, dualSide, dualResidual, primal, ldp, reducedRows, reducedSides, restored, lsiFrom, lsi, fixed, turned, tailOf, shifted, gradient, equalityMultipliers, rejoined, lseiFrom, lsei}
 use Rattle.report.specs.Text.{ascii, decimalFrom, decimalText, floatText, lineText, linesText}

@@ -1,8 +1,8 @@
 -- The first 9,248 bytes decide what the program writes. Assumes nothing.
 use mathlib.Core.Path.{ap}
-use Rattle.record.proofs.Enough as input
 use Rattle.report.specs.Program.{decodedText, output}
 use Rattle.report.specs.Claims.{FirstBytesDecide}
+use Rattle.record.proofs.Enough as input
 
 pub first-bytes : FirstBytesDecide
 unfolding output

@@ -3,6 +3,5 @@ pub mod Numerals
 pub mod Lines
 pub mod Answers
 pub mod Passes
-pub mod Stand
 pub mod Enough
 pub mod Cases

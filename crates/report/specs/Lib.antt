@@ -3,5 +3,4 @@ pub mod Text
 pub mod Program
 pub mod Claims
 pub mod Cases
-pub mod StandIn
 pub mod Work

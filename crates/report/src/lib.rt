@@ -1,27 +1,20 @@
 // The record program's answer: from the bytes read to the bytes written, on slices alone.
-mod stand_in;
 mod text;
 
 ghost use mathlib.Core.Path.{_≡_};
 ghost use Prim.Native.Nat.{_+_, _*_, _≤_, _<_};
 ghost use lib.ListN.{length, take};
 ghost use Rattle.numbers.specs.Numbers.{tab};
+ghost use Rattle.nnls.specs.Counted.{Counted};
+ghost use Rattle.subproblem.specs.Step.{step};
 ghost use Rattle.record.specs.Work.{kindAt, problemIn};
-ghost use Rattle.report.specs.Program.{faultText, refusedText, doneText, stepText};
-ghost use Rattle.report.specs.StandIn.{standIn, standInOutput};
+ghost use Rattle.report.specs.Program.{faultText, refusedText, doneText, stepText, output};
 ghost use Rattle.report.specs.Work.{Wrote, answered, stepFrom};
-use crate::stand_in::Step;
 use crate::text::put_byte;
 use crate::text::put_decimal;
 use crate::text::put_float;
 use crate::text::put_lines;
 use crate::text::put_text;
-
-// What a step answers: the relaxation beside d and the multipliers, or a refusal's number.
-pub enum Stepped {
-    Done(f64),
-    Refused(u32),
-}
 
 // ---- the text
 
@@ -77,12 +70,14 @@ fn kinds(marks: &[u8], out: &mut [u8])
     }
 }
 
+// An f64 workspace.
 fn floats() -> [f64; 8192]
     ensures { λ r. ⌜ 8192 ≡ length r ⌝ }
 {
     [0.0; 8192]
 }
 
+// A u32 workspace.
 fn words() -> [u32; 512]
     ensures { λ r. ⌜ 512 ≡ length r ⌝ }
 {
@@ -97,17 +92,17 @@ fn solve(
     vals: &[f64],
     d: &mut [f64],
     multipliers: &mut [f64],
-) -> Stepped
+) -> step::Outcome
     requires { ⌜ (m ≤ 16) × (0 < n) × (n ≤ 16) × (length (now marks) ≡ 576) × (length (now vals) ≡ 576) ⌝ }
     requires { ⌜ (length (now d) ≡ n) × (length (now multipliers) ≡ m) ⌝ }
-    ensures { λ r. ⌜ answered r (now (d .exit)) (now (multipliers .exit)) ≡ standIn (problemIn m n (now (marks .entry)) (now (vals .entry))) ⌝ }
+    ensures { λ r. ⌜ answered r (now (d .exit)) (now (multipliers .exit)) ≡ step (problemIn m n (now (marks .entry)) (now (vals .entry))) .answer ⌝ }
 {
     let mut w = floats();
     let mut iw = words();
     let mut space = [0u8; 16];
     let ks = &mut space[..m];
     kinds(marks, ks);
-    Step::solve(
+    step::Step::solve(
         n,
         m,
         &vals[..n * n],
@@ -124,6 +119,7 @@ fn solve(
     )
 }
 
+// Room for a number of each variable, or of each constraint.
 fn sixteen() -> [f64; 16]
     ensures { λ r. ⌜ 16 ≡ length r ⌝ }
 {
@@ -133,26 +129,28 @@ fn sixteen() -> [f64; 16]
 // What the step answers, as text.
 fn put_step(m: usize, n: usize, marks: &[u8], vals: &[f64], out: &mut [u8]) -> usize
     requires { ⌜ (m ≤ 16) × (0 < n) × (n ≤ 16) × (length (now marks) ≡ 576) × (length (now vals) ≡ 576) × (2048 ≤ length (now out)) ⌝ }
-    ensures { λ r. ⌜ Wrote (now (out .entry)) 0 (stepText (standIn (problemIn m n (now (marks .entry)) (now (vals .entry))))) (now (out .exit)) r ⌝ }
+    ensures { λ r. ⌜ Wrote (now (out .entry)) 0 (stepText (step (problemIn m n (now (marks .entry)) (now (vals .entry))) .answer)) (now (out .exit)) r ⌝ }
 {
     let mut d = sixteen();
     let mut l = sixteen();
     let ds = &mut d[..n];
     let ls = &mut l[..m];
     match solve(m, n, marks, vals, ds, ls) {
-        Stepped::Refused(k) => put_refused(out, k as usize),
-        Stepped::Done(relaxation) => put_done(out, relaxation, ds, ls),
+        step::Outcome::Refused(k) => put_refused(out, k as usize),
+        step::Outcome::Done(relaxation) => put_done(out, relaxation, ds, ls),
     }
 }
 
 // ---- the program
 
+// The table of marks.
 fn no_marks() -> [u8; 576]
     ensures { λ r. ⌜ 576 ≡ length r ⌝ }
 {
     [0; 576]
 }
 
+// The table of values.
 fn no_values() -> [f64; 576]
     ensures { λ r. ⌜ 576 ≡ length r ⌝ }
 {
@@ -161,7 +159,7 @@ fn no_values() -> [f64; 576]
 
 // The program's output for its input: r bytes at the start of `out`.
 pub fn respond(bytes: &[u8], out: &mut [u8; 2048]) -> usize
-    ensures { λ r. ⌜ take r (now (out .exit)) ≡ standInOutput (now (bytes .entry)) ⌝ }
+    ensures { λ r. ⌜ take r (now (out .exit)) ≡ output (now (bytes .entry)) ⌝ }
     ensures { λ r. ⌜ (r ≤ length (now (out .exit))) × (r ≡ length (take r (now (out .exit)))) ⌝ }
 {
     let mut marks = no_marks();

@@ -2,8 +2,8 @@
 use mathlib.Core.Path.{sym}
 use native.Mathlib.Omega.{arith}
 use lib.Seq.{length-take-le}
+use Rattle.subproblem.specs.Step.{step}
 use Rattle.record.specs.Work.{problemIn}
-use Rattle.report.specs.StandIn.{standIn}
 use Rattle.report.proofs.Writing.{as-text}
 use Rattle.report.proofs.Answers.{done-text, refused-text}
 use Rattle.report.proofs.put_step.Statement.{statement}
@@ -56,7 +56,7 @@ same-length c = omega arith
 returns : tie.Need-returns
 returns c = let a = c .before .before .before .before .before .before .before .before .before .before .before .before .before .before .before .before .before .before .before .before .before .before .before .args in
     let k = c .before .before .before .before .before .before .before .before .before .before .before .before .before .solve in
-    as-text (refused-text (k .result) _ (k .last .1 .1 .1 .1 .0) (k .last .1 .1 .1 .1 .1 .0) (standIn (problemIn (a .m) (a .n) (a .marks .now) (a .vals .now))) (c .before .before .before .before .before .before .before .k .given .1) (k .ensures)) (c .before .before .put-refused .ensures)
+    as-text (refused-text (k .result) _ (k .last .1 .1 .1 .1 .0) (k .last .1 .1 .1 .1 .1 .0) (step (problemIn (a .m) (a .n) (a .marks .now) (a .vals .now)) .answer) (c .before .before .before .before .before .before .before .k .given .1) (k .ensures)) (c .before .before .put-refused .ensures)
 
 same-length-2 : tie.Need-same-length-2
 same-length-2 c = omega arith
@@ -64,7 +64,7 @@ same-length-2 c = omega arith
 returns-2 : tie.Need-returns-2
 returns-2 c = let a = c .before .before .before .before .before .before .before .before .before .before .before .before .before .before .before .before .before .before .before .before .before .before .before .before .before .args in
     let k = c .before .before .before .before .before .before .before .before .before .before .before .before .before .before .before .solve in
-    as-text (done-text (k .result) _ (k .last .1 .1 .1 .1 .0) (k .last .1 .1 .1 .1 .1 .0) (standIn (problemIn (a .m) (a .n) (a .marks .now) (a .vals .now))) (c .before .before .before .before .before .before .before .before .before .relaxation .given .1) (k .ensures)) (c .before .before .before .before .put-done .ensures)
+    as-text (done-text (k .result) _ (k .last .1 .1 .1 .1 .0) (k .last .1 .1 .1 .1 .1 .0) (step (problemIn (a .m) (a .n) (a .marks .now) (a .vals .now)) .answer) (c .before .before .before .before .before .before .before .before .before .relaxation .given .1) (k .ensures)) (c .before .before .before .before .put-done .ensures)
 
 pub put-step-spec : {M : Type 1} → statement M
 put-step-spec =

@@ -3,8 +3,10 @@ use mathlib.Core.Path.{sym, ap, _∙_}
 use Prim.Native.Nat.{_*_}
 use native.Mathlib.Omega.{arith}
 use lib.Seq.{length-take-le}
+use Rattle.subproblem.specs.Problem.{Problem}
+use Rattle.subproblem.specs.Promise.{stepCall}
 use Rattle.record.proofs.Blocks.{square}
-use Rattle.report.specs.StandIn.{standIn}
+use Rattle.report.proofs.Passes.{passes}
 use Rattle.report.proofs.Answers.{answer-is, parts-are}
 use Rattle.report.proofs.solve.Statement.{statement}
 use Rattle.report.proofs.solve.Tie as tie
@@ -105,7 +107,7 @@ slice-aggregate-solve-3 : tie.Need-slice-aggregate-solve-3
 slice-aggregate-solve-3 c = omega arith
 
 solve-requires : tie.Need-solve-requires
-solve-requires c κs = omega arith
+solve-requires c κs = tt
 
 same-length : tie.Need-same-length
 same-length c = omega arith
@@ -116,8 +118,14 @@ same-length-2 c = omega arith
 returns : tie.Need-returns
 returns c = let a = c .before .before .before .before .before .before .before .before .before .before .before .before .before .before .before .before .before .before .before .before .before .before .before .before .before .before .before .before .before .before .args in
     let k = c .before .before .before .before .before .before .before .solve in
+    let s = c .before .before .before .before .before .before .before .before .before .before .before .before .before .before .before .before .before .before .before .before .before .before .before .before .before .before .before .before .before .before in
+    let w = c .before .before .before .before .before .before .before .before .before .before .before .before .before .before .before .before .before .before .before .before .before .before .before .before .before .floats .result in
+    let iw = c .before .before .before .before .before .before .before .before .before .before .before .before .before .before .before .before .before .before .before .before .before .before .before .before .words .result in
     answer-is _ (k .result) (a .d .now) _ (a .multipliers .now) _ _ _ _ _ (k .ensures)
-    ∙ ap standIn (parts-are (a .m) (a .n) (a .marks .now) (a .vals .now) _ _ (c .before .before .before .before .before .before .before .before .before .before .before .before .before .before .before .before .before .before .before .before .before .kinds .ensures) (length-take-le (a .m) _ (c .before .before .before .before .before .before .before .before .before .before .before .before .before .before .before .before .before .before .before .before .before .before .before .before .before .before .before .before .before .before .pre .0 .0)))
+    ∙ ap (λ (p : Problem). stepCall p (a .d .now) (a .multipliers .now) w iw)
+    (parts-are (a .m) (a .n) (a .marks .now) (a .vals .now) _ _ (c .before .before .before .before .before .before .before .before .before .before .before .before .before .before .before .before .before .before .before .before .before .kinds .ensures) (length-take-le (a .m) _ (s .pre .0 .0)))
+    ∙ passes (a .m) (a .n) (a .marks .now) (a .vals .now) (a .d .now) (a .multipliers .now) w iw (record { few = s .pre .0 .0; some = s .pre .0 .1; most = s .pre .0 .2 })
+    (s .pre .0 .4) (s .pre .1 .0) (s .pre .1 .1) (omega (arith, c .before .before .before .before .before .before .before .before .before .before .before .before .before .before .before .before .before .before .before .before .before .before .before .before .before .floats .ensures)) (omega (arith, c .before .before .before .before .before .before .before .before .before .before .before .before .before .before .before .before .before .before .before .before .before .before .before .before .words .ensures))
 
 pub solve-spec : {M : Type 1} → statement M
 solve-spec =
