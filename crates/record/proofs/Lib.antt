@@ -1,0 +1,11 @@
+pub mod Bytes
+pub mod Blocks
+pub mod Entries
+pub mod Marks
+pub mod Heads
+pub mod Walks
+pub mod Places
+pub mod Inside
+pub mod Agreement
+pub mod Enough
+pub mod Decoded

@@ -1,0 +1,6 @@
+-- What the record program writes. Definitions only.
+pub mod Text
+pub mod Program
+pub mod Claims
+pub mod Cases
+pub mod Work
