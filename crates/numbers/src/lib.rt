@@ -94,7 +94,7 @@ fn digits(m: u64) -> u64
 
 // A number that is most often up to four below the root of m * 2^54: a polynomial, which is within
 // 2^-13 of the root of a v from 1 to 4, and two of Newton's steps. Nothing is promised of it:
-// `left_of` and `climb` are right whatever it is.
+// `left_of` and `leap` are right whatever it is.
 fn guess(m: u64) -> u64 {
     let v = std::num::nearest_u64_to_f64(m) * 2.220446049250313e-16;
     let low = 0.34354006252410174 + 0.8706121075749577 * v;
@@ -167,6 +167,19 @@ fn climb(start: u64, left: u64) -> u64
     q
 }
 
+// The same, with up to eight of the steps taken at once: how many are due is not to be foreseen, and a
+// loop that ends at a foreseen turn is much faster.
+fn leap(start: u64, left: u64) -> u64
+    requires { ⌜ start * start + left < 2 ^ 54 * 2 ^ 54 ⌝ }
+    ensures { λ r. ⌜ r ≡ floorRoot 54 (start * start + left) ⌝ }
+{
+    let k = left / (2 * start + 8);
+    if k <= 8 {
+        return climb(start + k, left - k * (2 * start + k));
+    }
+    climb(start, left)
+}
+
 // The root of m * 2^54, rounded down.
 fn floor_root(m: u64) -> u64
     requires { ⌜ m < 2 ^ 54 ⌝ }
@@ -175,7 +188,7 @@ fn floor_root(m: u64) -> u64
     let q = guess(m);
     let t = left_of(m, q);
     match t {
-        Rest::Left(r) => climb(q, r),
+        Rest::Left(r) => leap(q, r),
         Rest::Unknown => digits(m),
     }
 }
