@@ -168,12 +168,13 @@ fn climb(start: u64, left: u64) -> u64
 }
 
 // The same, with up to eight of the steps taken at once: how many are due is not to be foreseen, and a
-// loop that ends at a foreseen turn is much faster.
+// loop that ends at a foreseen turn is much faster. The quotient is of numbers below 2^32, which some
+// machines divide faster; it is at most left / (2 * start + 8).
 fn leap(start: u64, left: u64) -> u64
     requires { ⌜ start * start + left < 2 ^ 54 * 2 ^ 54 ⌝ }
     ensures { λ r. ⌜ r ≡ floorRoot 54 (start * start + left) ⌝ }
 {
-    let k = left / (2 * start + 8);
+    let k = left / 67108864 / ((2 * start + 8) / 67108864 + 1);
     if k <= 8 {
         return climb(start + k, left - k * (2 * start + k));
     }

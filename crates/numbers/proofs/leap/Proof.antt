@@ -1,7 +1,7 @@
 -- `leap` meets its contract: k steps of one take k * (2 * start + k) off what is left, which the quotient leaves room for. Assumes nothing.
 use mathlib.Core.Path.{_≡_, refl, ap, _∙_}
 use Prim.Native.Nat.{ℕ, _+_, _-_, _*_, _/_, _^_, _≤_, _<_}
-use native.Mathlib.Nat.{mul-le-mul-left, div-mul-le-self, le-trans}
+use native.Mathlib.Nat.{mul-le-mul-left, div-mul-le-self}
 use native.Mathlib.Omega.{arith}
 use borrow.Author.Needs.{needs}
 use mir.Facts.{fits-le}
@@ -16,12 +16,19 @@ use Rattle.numbers.proofs.climb.Reads as climb-reads
 start-lt : (c : tie.Start) → c .args .start < 2 ^ 54
 start-lt c = root-lt (c .args .start) (c .args .left) _ refl (c .pre)
 
--- what k steps take off is there
-room : (s l : ℕ) → l / (2 * s + 8) ≤ 8 → l / (2 * s + 8) * (2 * s + l / (2 * s + 8)) ≤ l
-room s l h = le-trans (mul-le-mul-left (l / (2 * s + 8)) (within s (l / (2 * s + 8)) h)) (div-mul-le-self l (2 * s + 8))
+-- how many steps are taken at once
+abbrev due : (s l : ℕ) → ℕ
+due s l = l / 67108864 / ((2 * s + 8) / 67108864 + 1)
+
+-- what they take off is there
+room : (s l : ℕ) → due s l ≤ 8 → due s l * (2 * s + due s l) ≤ l
+room s l h = within (due s l) ((2 * s + 8) / 67108864 + 1) (l / 67108864) s l (div-mul-le-self (l / 67108864) ((2 * s + 8) / 67108864 + 1)) h (omega arith) (omega arith)
   where
-    within : (s k : ℕ) → k ≤ 8 → 2 * s + k ≤ 2 * s + 8
-    within s k h = omega arith
+    within : (k b a s l : ℕ) → k * b ≤ a → k ≤ 8 → 2 * s + 8 ≤ b * 67108864 → a * 67108864 ≤ l → k * (2 * s + k) ≤ l
+    within k b a s l u h v w =
+        let x : k * (2 * s + k) ≤ k * (b * 67108864) = mul-le-mul-left k (omega arith) in
+        let y : k * (b * 67108864) ≡ k * b * 67108864 = omega arith in
+        omega arith
 
 -- and they keep the sum of square and rest
 same : (s l k : ℕ) → k * (2 * s + k) ≤ l → (s + k) * (s + k) + (l - k * (2 * s + k)) ≡ s * s + l
@@ -34,6 +41,9 @@ mul-k c = omega (arith, start-lt c)
 
 add-k : tie.Need-add-k
 add-k c = omega (arith, start-lt c)
+
+add-k-2 : tie.Need-add-k-2
+add-k-2 c = omega (arith, start-lt c)
 
 div-k : tie.Need-div-k
 div-k c = search needs
@@ -66,4 +76,4 @@ returns-2 : tie.Need-returns-2
 returns-2 c = search needs
 
 pub leap-spec : {M : Type 1} → statement M
-leap-spec = tie.close (tie.spec mul-k add-k div-k add-climb mul-climb add-climb-2 mul-climb-2 sub-climb climb-requires returns climb-requires-2 returns-2)
+leap-spec = tie.close (tie.spec mul-k add-k add-k-2 div-k add-climb mul-climb add-climb-2 mul-climb-2 sub-climb climb-requires returns climb-requires-2 returns-2)
