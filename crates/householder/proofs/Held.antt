@@ -9,7 +9,7 @@ use lib.Ieee.{Float}
 use Rattle.numbers.specs.Numbers.{at, nth, gather, scatter, row}
 use Rattle.numbers.proofs.Lists.{scatter-same}
 use Rattle.workspace.specs.Readings.{vec, mat, stack, nums, Block}
-use Rattle.workspace.proofs.Readings.{at-vec, vec-is, vec-same, mat-same, stack-same, row-stack, nth-nums, nums-same}
+use Rattle.workspace.proofs.Readings.{at-vec, vec-is, vec-same, mat-same, stack-same, row-stack, nth-front, nums-same}
 use Rattle.householder.specs.Qr.{Factors, factor, image, reflect, forth}
 use Rattle.householder.specs.Claims.{Permutation}
 use Rattle.householder.specs.Work.{held, Placed}
@@ -43,14 +43,11 @@ forth-same m (suc c) f g v eu eb = rw (forth-same m c f g v eu eb, eu, eb)
 
 -- ---- the permutation as the code reads it
 
-nth-held : (n : ℕ) (iw : List ℕ) (t : ℕ) → t < n → nth (nums 0 n iw) t ≡ nth iw t
-nth-held n iw t h = nth-nums 0 n iw t h ∙ ap (λ (x : ℕ). nth iw x) (zero-add t)
-
 -- entries put into the solution are scattered by it
 pub placed-held : (m n k : ℕ) (iw : List ℕ) (w w′ : List Float) → k ≤ m → m ≤ 18 → k ≤ n → Placed n k iw w w′
     → vec 360 n w′ ≡ scatter k (nums 0 n iw) (vec 342 m w) (vec 360 n w)
 placed-held m n k iw w w′ km m18 kn h =
-    h .value m km m18 ∙ scatter-same k iw (nums 0 n iw) (vec 342 m w) (vec 342 m w) (vec 360 n w) (λ t l. sym (nth-held n iw t (omega arith))) (λ t l. refl)
+    h .value m km m18 ∙ scatter-same k iw (nums 0 n iw) (vec 342 m w) (vec 342 m w) (vec 360 n w) (λ t l. sym (nth-front n t iw (omega arith))) (λ t l. refl)
 
 -- entries picked into the solution are gathered by it
 pub picked-held : (n o c : ℕ) (iw : List ℕ) (w w′ : List Float) → ((t : ℕ) → t < n → nth iw t < c) → Block 360 n (λ t. at w (o + nth iw t)) w w′
@@ -58,7 +55,7 @@ pub picked-held : (n o c : ℕ) (iw : List ℕ) (w w′ : List Float) → ((t : 
 unfolding gather
 picked-held n o c iw w w′ h b =
     vec-is 360 n w′ _
-    (λ t l. b .inside t l ∙ sym (at-vec o c w (nth iw t) (h t l)) ∙ ap (λ (x : ℕ). at (vec o c w) x) (sym (nth-held n iw t l)))
+    (λ t l. b .inside t l ∙ sym (at-vec o c w (nth iw t) (h t l)) ∙ ap (λ (x : ℕ). at (vec o c w) x) (sym (nth-front n t iw l)))
 
 -- ---- factors that a factoring left
 
@@ -70,4 +67,4 @@ module _ (m n k : ℕ) (w : List Float) (iw : List ℕ) (a : List Float) (e : le
   held-permutation = subst (Permutation n) (ap (λ (f : Factors). f .perm) (sym h)) (factor-sound m n a e .perm)
 
   pub held-below : (t : ℕ) → t < n → nth iw t < n
-  held-below t l = subst (λ (x : ℕ). x < n) (nth-held n iw t l) (held-permutation .below t l)
+  held-below t l = subst (λ (x : ℕ). x < n) (nth-front n t iw l) (held-permutation .below t l)

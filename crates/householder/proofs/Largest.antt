@@ -4,11 +4,12 @@ use mathlib.Core.Logic.{_⊎_, inl, inr}
 use mathlib.Core.Bool.{Bool, true, false, cond, true≢false}
 use mathlib.Core.List.{List}
 use Prim.Native.Nat.{ℕ, zero, suc, _+_, _<_}
-use native.Mathlib.Nat.{not-suc-le-zero, le-of-suc-le-suc, eq-or-lt-of-le}
+use native.Mathlib.Nat.{not-suc-le-zero}
 use native.Mathlib.Omega.{arith}
 use lib.Dec.{T}
 use lib.Ieee.{Float, nan, inf, fin, lt}
 use Rattle.numbers.specs.Numbers.{at, -1}
+use Rattle.numbers.proofs.Cases.{last-or-before}
 use Rattle.numbers.proofs.Order.{lt-asym, lt-irrefl, lt-between, above-no-nan}
 use Rattle.householder.specs.Qr.{columnNorm, pivot, better}
 use Rattle.householder.specs.declared.Candidate.{Candidate}
@@ -43,9 +44,6 @@ before x v u h p = elim (nan-or-not u) [
 ]
 
 module _ (m n k : ℕ) (r : List Float) where
-  upto : (c j : ℕ) → j < suc c → (j ≡ c) ⊎ (j < c)
-  upto c j h = eq-or-lt-of-le (le-of-suc-le-suc h)
-
   pub pivot-first : (c : ℕ) → FirstLargest m n k r c (pivot m n k r c)
   unfolding pivot
   pivot-first zero = record { number = minus-one-number; one-of = inr (refl, refl); largest = λ j h. absurd (not-suc-le-zero h); first = λ j h. absurd (not-suc-le-zero h) }
@@ -63,7 +61,7 @@ module _ (m n k : ℕ) (r : List Float) where
               record {
                 number = above-no-nan (best .norm) v h;
                 one-of = inl (c, omega arith, refl, refl);
-                largest = λ j l. elim (upto c j l) [
+                largest = λ j l. elim (last-or-before c j l) [
                   | inl q ↦ subst (λ (i : ℕ). lt v (columnNorm m n k r (k + i)) ≡ false) (sym q) (lt-irrefl v)
                   | inr i ↦ not-above (best .norm) v (columnNorm m n k r (k + j)) (f .number) h (f .largest j i)
                 ];
@@ -72,11 +70,11 @@ module _ (m n k : ℕ) (r : List Float) where
           pick false e = record {
             number = f .number;
             one-of = elim (f .one-of) [ inl o ↦ inl (o .0, (let z = o .1 in omega (arith, z)), o .2, o .3) | inr o ↦ inr o ];
-            largest = λ j l. elim (upto c j l) [
+            largest = λ j l. elim (last-or-before c j l) [
               | inl q ↦ subst (λ (i : ℕ). lt (best .norm) (columnNorm m n k r (k + i)) ≡ false) (sym q) e
               | inr i ↦ f .largest j i
             ];
-            first = λ j l a. elim (upto c j l) [
+            first = λ j l a. elim (last-or-before c j l) [
               | inl q ↦ absurd (elim (f .one-of) [ inl o ↦ (let y = o .1 in let z = o .2 in let b : ⊥ = omega (arith, a, y, z, q) in b) | inr o ↦ (let z = o .0 in let b : ⊥ = omega (arith, a, z) in b) ])
               | inr i ↦ f .first j i a
             ];

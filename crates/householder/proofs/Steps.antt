@@ -15,7 +15,7 @@ use Rattle.numbers.specs.Numbers.{+0, epsilon, _⊖_, _⊗_, at, nth, tab, entr
 use Rattle.numbers.proofs.Cases.{lt-or-ge, eq-or-ne}
 use Rattle.numbers.proofs.Lists.{tab-replicate, rows-same}
 use Rattle.workspace.specs.Readings.{vec, mat, stack, nums, Block}
-use Rattle.workspace.proofs.Readings.{at-vec, vec-is, vec-same, vec-set, vec-mat, entry-mat, mat-is, mat-same, mat-stack, stack-is, stack-same, row-stack, nth-nums, nums-set}
+use Rattle.workspace.proofs.Readings.{at-vec, vec-is, vec-same, vec-set, vec-mat, entry-mat, mat-is, mat-same, mat-stack, stack-is, stack-same, row-stack, nth-front, nums-set-front}
 use Rattle.householder.specs.Qr.{Factors, image, columnNorm, better, pivot, exchange, swapped, signed, reflector, pinned, stepped, advance, tolerance, stopIf, steps, start, factor}
 use Rattle.householder.specs.Work.{held, Turned, Exchanged, Prepared, diagonalOf}
 use Rattle.householder.specs.declared.Candidate.{Candidate}
@@ -136,17 +136,14 @@ module _ (m n k : ℕ) (largest : Float) (w₁ w₂ w₃ : List Float) (m18 : m 
 
 -- ---- the permutation
 
-nums-front-set : (n i : ℕ) (l : List ℕ) (v : ℕ) → i < n → n ≤ length l → nums 0 n (set l i v) ≡ set (nums 0 n l) i v
-nums-front-set n i l v h e = ap (λ (x : ℕ). nums 0 n (set l x v)) (sym (zero-add i)) ∙ nums-set 0 n i l v h (omega arith)
-
 pub swapped-nums : (n k p : ℕ) (l l′ : List ℕ) → k < n → p < n → n ≤ length l → l′ ≡ set (set l k (nth l p)) p (nth l k)
     → nums 0 n l′ ≡ set (set (nums 0 n l) k (nth (nums 0 n l) p)) p (nth (nums 0 n l) k)
 swapped-nums n k p l l′ kn pn h e =
-    let at-p : nth l p ≡ nth (nums 0 n l) p = ap (λ (x : ℕ). nth l x) (sym (zero-add p)) ∙ sym (nth-nums 0 n l p pn) in
-    let at-k : nth l k ≡ nth (nums 0 n l) k = ap (λ (x : ℕ). nth l x) (sym (zero-add k)) ∙ sym (nth-nums 0 n l k kn) in
+    let at-p : nth l p ≡ nth (nums 0 n l) p = sym (nth-front n p l pn) in
+    let at-k : nth l k ≡ nth (nums 0 n l) k = sym (nth-front n k l kn) in
     ap (nums 0 n) e
-    ∙ nums-front-set n p (set l k (nth l p)) (nth l k) pn (rw length-set h)
-    ∙ ap₂ (λ (a : List ℕ) (b : ℕ). set a p b) (nums-front-set n k l (nth l p) kn h ∙ ap (set (nums 0 n l) k) at-p) at-k
+    ∙ nums-set-front n p (set l k (nth l p)) (nth l k) pn (rw length-set h)
+    ∙ ap₂ (λ (a : List ℕ) (b : ℕ). set a p b) (nums-set-front n k l (nth l p) kn h ∙ ap (set (nums 0 n l) k) at-p) at-k
 
 -- ---- the whole step
 

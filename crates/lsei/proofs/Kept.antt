@@ -8,7 +8,7 @@ use lib.Seq.{getD-take, getD-drop, getD-append-add}
 use lib.Ieee.{Float, nan}
 use Rattle.numbers.specs.Numbers.{at, nth}
 use Rattle.workspace.specs.Readings.{mat, nums}
-use Rattle.workspace.proofs.Readings.{mat-same, length-mat, nth-nums}
+use Rattle.workspace.proofs.Readings.{mat-same, length-mat, nth-front}
 use Rattle.householder.specs.Qr.{Factors, factor}
 use Rattle.householder.specs.Claims.{Sound}
 use Rattle.householder.specs.Work.{held}
@@ -44,7 +44,7 @@ module _ (m n b k : ℕ) (w w′ : List Float) (iw′ : List ℕ) (F : FactoredF
 
   pub perm-below : (t : ℕ) → t < n → nth iw′ t < n
   perm-below t h =
-      let e : nth iw′ t ≡ nth (nums 0 n iw′) t = sym (nth-nums 0 n iw′ t h ∙ ap (λ (x : ℕ). nth iw′ x) (let z : 0 + t ≡ t = omega arith in z)) in
+      let e : nth iw′ t ≡ nth (nums 0 n iw′) t = sym (nth-front n t iw′ h) in
       let p : nth (nums 0 n iw′) t < n = subst (λ (f : Factors). nth (f .perm) t < n) (sym (F .factors)) (sound .perm .below t h) in
       omega arith
 

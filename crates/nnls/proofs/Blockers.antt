@@ -9,10 +9,9 @@ use lib.Ieee.{Float, nan, inf, fin, lt, isNan, ne}
 use borrow.Author.Tests.{eq-eqb, ne-eqb}
 use Rattle.numbers.specs.Numbers.{+0, at, nth, _⊖_, _⊘_}
 use Rattle.workspace.specs.Readings.{vec, nums}
-use Rattle.workspace.proofs.Readings.{at-vec}
+use Rattle.workspace.proofs.Readings.{at-vec, nth-front}
 use Rattle.nnls.specs.Nnls.{above0, upTo0, ratioOf, ranksBefore, free, block, sooner, blocking}
 use Rattle.nnls.specs.Work.{nearestOf, nearerOf}
-use Rattle.nnls.proofs.States.{nth-front}
 use Rattle.nnls.specs.declared.Nearest.{Nearest}
 use Rattle.nnls.proofs.Signs.{true→T, and-false}
 use lib.Ieee.Compare.{differs-from-itself, nan-differs}

@@ -10,10 +10,9 @@ use lib.Ieee.{Float, lt}
 use borrow.Author.Tests.{eq-eqb, ne-eqb}
 use Rattle.numbers.specs.Numbers.{at, nth}
 use Rattle.workspace.specs.Readings.{vec, nums}
-use Rattle.workspace.proofs.Readings.{at-vec, nth-nums}
+use Rattle.workspace.proofs.Readings.{at-vec, nth-nums, nth-front}
 use Rattle.nnls.specs.Nnls.{above0, beats, choose}
 use Rattle.nnls.specs.Work.{candidateOf, betterOf}
-use Rattle.nnls.proofs.States.{nth-front}
 use Rattle.nnls.proofs.Signs.{and-false}
 use Rattle.nnls.specs.declared.Candidate.{Candidate}
 

@@ -3,14 +3,13 @@ use mathlib.Core.Path.{_≡_, refl, sym, ap, _∙_}
 use mathlib.Core.Bool.{Bool}
 use mathlib.Core.List.{List}
 use Prim.Native.Nat.{ℕ, _+_, _*_, _≤_, _<_}
-use native.Mathlib.Nat.{zero-add}
 use native.Mathlib.Omega.{arith}
 use lib.ListN.{length, set, replicate}
 use lib.Ieee.{Float}
 use Rattle.numbers.specs.Numbers.{+0, at, nth, tab}
 use Rattle.numbers.proofs.Lists.{tab-replicate}
 use Rattle.workspace.specs.Readings.{vec, mat, nums, Block, Span}
-use Rattle.workspace.proofs.Readings.{vec-is, vec-same, mat-same, nth-nums, nums-same, nums-set}
+use Rattle.workspace.proofs.Readings.{vec-is, vec-same, mat-same, nums-same}
 use Rattle.workspace.proofs.Writes.{block-vec, span-nums}
 use Rattle.passive.specs.Work.{Solves}
 use Rattle.nnls.specs.State.{State, read, put, solveIn}
@@ -32,14 +31,6 @@ module _ (m n : ℕ) (w w′ : List Float) (m18 : m ≤ 18) (n66 : n ≤ 66) whe
 
 pub same-marks : (n o : ℕ) (l l′ : List ℕ) → n ≤ 66 → ((x : ℕ) → o ≤ x → x < o + 66 → nth l′ x ≡ nth l x) → nums o n l′ ≡ nums o n l
 same-marks n o l l′ n66 h = nums-same o n l l′ (λ i hi. h (o + i) (omega arith) (omega arith))
-
--- ---- marks, from the front
-
-pub nums-set-front : (n i : ℕ) (l : List ℕ) (v : ℕ) → i < n → n ≤ length l → nums 0 n (set l i v) ≡ set (nums 0 n l) i v
-nums-set-front n i l v h m = ap (λ (x : ℕ). nums 0 n (set l x v)) (sym (zero-add i)) ∙ nums-set 0 n i l v h (omega arith)
-
-pub nth-front : (n i : ℕ) (l : List ℕ) → i < n → nth (nums 0 n l) i ≡ nth l i
-nth-front n i l h = nth-nums 0 n l i h ∙ ap (λ (x : ℕ). nth l x) (zero-add i)
 
 -- ---- a solve
 

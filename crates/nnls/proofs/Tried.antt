@@ -10,12 +10,12 @@ use lib.Seq.{getD-set-other, set-set, set-getD}
 use lib.Ieee.{Float}
 use Rattle.numbers.specs.Numbers.{at, nth}
 use Rattle.workspace.specs.Readings.{vec, nums}
-use Rattle.workspace.proofs.Readings.{at-vec, nums-set}
+use Rattle.workspace.proofs.Readings.{at-vec, nums-set, nums-set-front, nth-front}
 use Rattle.passive.specs.Work.{Solves}
 use Rattle.nnls.specs.Nnls.{above0, keeps}
 use Rattle.nnls.specs.State.{State, read, put, solveIn}
 use Rattle.nnls.specs.Work.{TriedColumn}
-use Rattle.nnls.proofs.States.{states, same-marks, nums-set-front, nth-front, read-solve}
+use Rattle.nnls.proofs.States.{states, same-marks, read-solve}
 
 module _ (m n t : ℕ) (full : Bool) (w w′ : List Float) (l l′ : List ℕ) (m18 : m ≤ 18) (n66 : n ≤ 66) (tn : t < n) (hl : 264 ≤ length l)
     (h : Solves m n full w w′ (set l t 1) l′) where

@@ -3,7 +3,7 @@ use mathlib.Core.Path.{_≡_, refl, sym, ap, _∙_}
 use mathlib.Core.Logic.{⊎-elim}
 use mathlib.Core.List.{List}
 use Prim.Native.Nat.{ℕ, _+_, _*_, _≤_, _<_}
-use native.Mathlib.Nat.{add-assoc}
+use native.Mathlib.Nat.{add-assoc, zero-add}
 use native.Mathlib.Omega.{arith}
 use lib.ListN.{length, getD, set, drop, length-set}
 use lib.Seq.{getD-set-same, getD-set-other, getD-drop}
@@ -152,3 +152,10 @@ nums-set o n i l v h m =
     (λ (e : j ≡ i → ⊥).
     getD-set-other (nums o n l) i j v 0 e ∙ nth-nums o n l j hj ∙ sym (getD-set-other l (o + i) (o + j) v 0 (λ a. e (omega arith))))
     (eq-or-ne j i)))
+
+-- from the front
+pub nth-front : (n i : ℕ) (l : List ℕ) → i < n → nth (nums 0 n l) i ≡ nth l i
+nth-front n i l h = nth-nums 0 n l i h ∙ ap (λ (x : ℕ). nth l x) (zero-add i)
+
+pub nums-set-front : (n i : ℕ) (l : List ℕ) (v : ℕ) → i < n → n ≤ length l → nums 0 n (set l i v) ≡ set (nums 0 n l) i v
+nums-set-front n i l v h m = ap (λ (x : ℕ). nums 0 n (set l x v)) (sym (zero-add i)) ∙ nums-set 0 n i l v h (omega arith)

@@ -7,7 +7,7 @@ use borrow.Author.Needs.{needs}
 use Rattle.workspace.specs.Readings.{vec, nums}
 use Rattle.nnls.specs.State.{read}
 use Rattle.nnls.specs.Work.{trialOf}
-use Rattle.nnls.proofs.States.{nth-front}
+use Rattle.workspace.proofs.Readings.{nth-front}
 use Rattle.nnls.proofs.Passing.{can-try, Trying, trying-none, pass-nothing, pass-out, pass-keep, pass-again}
 use Rattle.nnls.proofs.try_all.Statement.{statement}
 use Rattle.nnls.proofs.try_all.Tie as tie
