@@ -5,6 +5,8 @@ use mathlib.Core.Bool.{Bool, true, false}
 use mathlib.Core.List.{List}
 use lib.ListN.{length}
 use lib.Ieee.{Float}
+use Rattle.hessian.specs.declared.Made.{Made}
+use Rattle.hessian.specs.declared.Made.the-variants.{Whole, Broken}
 use Rattle.workspace.specs.Tables.{Answer, done, badPivot, number, output}
 
 -- what the tests show where none refuses
@@ -20,6 +22,11 @@ pub record Ready (n : ℕ) (b s y w : List Float) (iw : List ℕ) : Type 0 where
 abbrev pub told : Bool → List Float → Answer (List Float)
 told true l = done l
 told false l = badPivot
+
+-- whether a factor's pivots were all good
+abbrev pub isWhole : Made → Bool
+isWhole Whole = true
+isWhole Broken = false
 
 -- its number
 abbrev pub verdict : Bool → ℕ

@@ -10,7 +10,7 @@ ghost use Rattle.workspace.specs.Readings.{Cleared};
 ghost use Rattle.hessian.specs.Hessian.{identity, times, remainder, withRow, isPivot, nextRow, cholesky, theta, damped, revised, curved, update};
 ghost use Rattle.hessian.specs.Promise.{Writes, identityCall, timesCall, choleskyCall, updateCall};
 ghost use Rattle.hessian.specs.Outcomes.{numberOf};
-ghost use Rattle.hessian.specs.Work.{Ready, told, Factored};
+ghost use Rattle.hessian.specs.Work.{Ready, told, isWhole, Factored};
 
 // The operations on B, and the curvature fraction below which its update is damped.
 pub struct Hessian {}
@@ -155,18 +155,24 @@ fn next_row(n: usize, b: &[f64], l: &mut [f64], i: usize) -> bool
     true
 }
 
-// L in the place of `l`, or false where a pivot is not good.
-fn factor(n: usize, b: &[f64], l: &mut [f64]) -> bool
+// A factor that is whole, or one whose pivot was not good.
+enum Made {
+    Whole,
+    Broken,
+}
+
+// L in the place of `l`, whole or up to a pivot that is not good.
+fn factor(n: usize, b: &[f64], l: &mut [f64]) -> Made
     requires { ⌜ (n ≤ 16) × (length (now b) ≡ n * n) × (length (now l) ≡ n * n) ⌝ }
-    ensures { λ r. ⌜ told r (now (l .exit)) ≡ cholesky n (now (b .entry)) ⌝ }
+    ensures { λ r. ⌜ told (isWhole r) (now (l .exit)) ≡ cholesky n (now (b .entry)) ⌝ }
 {
     workspace::wipe(l, n * n);
     for i in 0..n {
         if !next_row(n, b, l, i) {
-            return false;
+            return Made::Broken;
         }
     }
-    true
+    Made::Whole
 }
 
 // L is made in `l` and copied to `out` where it is whole, so that a refusal leaves `out`.
@@ -174,9 +180,10 @@ fn factor_into(n: usize, b: &[f64], out: &mut [f64], l: &mut [f64]) -> bool
     requires { ⌜ (n ≤ 16) × (length (now b) ≡ n * n) × (length (now out) ≡ n * n) × (length (now l) ≡ n * n) ⌝ }
     ensures { λ r. ⌜ Factored (cholesky n (now (b .entry))) r (now (out .entry)) (now (out .exit)) ⌝ }
 {
-    if !factor(n, b, l) {
+    let made = factor(n, b, l);
+    let Made::Whole = made else {
         return false;
-    }
+    };
     workspace::unload(l, out, 0, n * n);
     true
 }

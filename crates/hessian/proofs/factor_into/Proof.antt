@@ -1,9 +1,10 @@
 -- `factor_into`: L is copied out where all pivots were good. Assumes nothing.
-use mathlib.Core.Path.{_∙_}
+use mathlib.Core.Path.{ap, _∙_}
 use Prim.Native.Nat.{_*_}
 use native.Mathlib.Omega.{arith}
-use borrow.Author.Tests.{not-true, not-false}
+use borrow.Author.Needs.{needs}
 use Rattle.hessian.specs.Hessian.{cholesky}
+use Rattle.hessian.specs.Work.{isWhole}
 use Rattle.hessian.proofs.Parts.{vec-whole}
 use Rattle.hessian.proofs.Turns.{made-bad, made-good}
 use Rattle.hessian.proofs.factor_into.Statement.{statement}
@@ -12,13 +13,19 @@ use Rattle.hessian.proofs.factor_into.Tie as tie
 factor-requires : tie.Need-factor-requires
 factor-requires c κs = (omega arith, omega arith, omega arith)
 
+enum-told : tie.Need-enum-told
+enum-told c = search needs
+
+enum-told-2 : tie.Need-enum-told-2
+enum-told-2 c = search needs
+
 same-length : tie.Need-same-length
 same-length c = omega arith
 
 returns : tie.Need-returns
-returns c = let a = c .before .before .before .before .before .before .before .before .args in
-    let k = c .before .before .before .factor in
-    made-bad (cholesky (a .n) (a .b .now)) (k .last .1 .1 .0) (a .out .now) (k .result) (k .ensures) (not-true _ (c .if1 .taken))
+returns c = let a = c .before .before .before .before .before .before .before .before .before .args in
+    let k = c .before .before .before .before .factor in
+    made-bad (cholesky (a .n) (a .b .now)) (k .last .1 .1 .0) (a .out .now) (isWhole (k .result)) (k .ensures) (ap isWhole (c .enum-told2 .given .1))
 
 mul-unload : tie.Need-mul-unload
 mul-unload c = omega arith
@@ -33,9 +40,9 @@ same-length-3 : tie.Need-same-length-3
 same-length-3 c = omega arith
 
 returns-2 : tie.Need-returns-2
-returns-2 c = let a = c .before .before .before .before .before .before .before .before .before .before .before .before .before .args in
-    let k = c .before .before .before .before .before .before .before .before .factor in
-    made-good (cholesky (a .n) (a .b .now)) (k .last .1 .1 .0) (a .out .now) _ (k .result) (k .ensures) (not-false _ (c .before .before .before .before .before .if1 .left))
+returns-2 c = let a = c .before .before .before .before .before .before .before .before .before .before .before .before .before .before .args in
+    let k = c .before .before .before .before .before .before .before .before .before .factor in
+    made-good (cholesky (a .n) (a .b .now)) (k .last .1 .1 .0) (a .out .now) _ (isWhole (k .result)) (k .ensures) (ap isWhole (c .before .before .before .before .before .enum-told .given .1))
     (c .before .before .unload .ensures ∙ vec-whole (a .n * a .n) (k .last .1 .1 .0) (omega arith))
 
 pub factor-into-spec : {M : Type 1} → statement M
@@ -43,6 +50,8 @@ factor-into-spec =
     tie.close
     (tie.spec
     factor-requires
+    enum-told
+    enum-told-2
     same-length
     returns
     mul-unload
