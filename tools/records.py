@@ -4,7 +4,9 @@
     records.py write PROBLEM.txt > PROBLEM.records   the record file of a problem in readable lines
     records.py read PROBLEM.records                  the readable lines of a record file
     records.py show < RESULT                         the program's output with decimals beside the hex
-    records.py test                                  a round trip of many problems
+    records.py bundle examples/cases.txt             the record files of stored cases, for `crates/cases/stdin`
+    records.py expect examples/cases.txt             what the program `cases` must write, for `crates/cases/stdout`
+    records.py test                                  a round trip of many problems, and that these two files are stored
 
 A readable line names a kind of entry, its indices and its value; '#' starts a comment:
 
@@ -18,6 +20,7 @@ A readable line names a kind of entry, its indices and its value; '#' starts a c
 A value is a decimal, inf, -inf, nan, or 16 hex digits of an f64's bits after 0x. Nothing is checked but the form: the
 program says what is wrong with a problem (docs/RULES.md).
 """
+import os
 import random
 import re
 import struct
@@ -85,6 +88,55 @@ def read(data):
     return "".join(line_of(data[at:at + 16]) + "\n" for at in range(0, len(data), 16))
 
 
+def damaged(words):
+    """Any record: tag, byte 1, row, column, bytes 6-7, value."""
+    tag, *places, value = words
+    return struct.pack("<cBHHHQ", tag.encode(), *map(int, places), bits_of(value))
+
+
+def bytes_of(line, folder):
+    """What a line of a case stands for: any record, any bytes, a file, or a record in readable words."""
+    name, *words = line.split()
+    if name == "record":
+        return damaged(words)
+    if name == "raw":
+        return bytes.fromhex("".join(words))
+    if name == "file":
+        with open(os.path.join(folder, words[0]), "rb") as records:
+            return records.read()
+    return record_of(line)
+
+
+def cases_of(path):
+    """What is written before the first case, and a name, a file and a text for each case."""
+    first, cases = "", []
+    with open(path) as source:
+        lines = source.read().split("\n")
+    for line in lines:
+        if line.startswith(">"):
+            told = line[2:] + "\n"
+            if cases:
+                cases[-1][2] += told
+            else:
+                first += told
+        elif line.startswith("case "):
+            cases.append([line[5:], b"", ""])
+        elif line and not line.startswith("#"):
+            cases[-1][1] += bytes_of(line, os.path.dirname(path))
+    return first, cases
+
+
+def bundle(path):
+    """For each case two lengths of two bytes, little-endian, then the name and the file."""
+    _, cases = cases_of(path)
+    return b"".join(struct.pack("<HH", len(name), len(data)) + name.encode() + data for name, data, _ in cases)
+
+
+def expect(path):
+    first, cases = cases_of(path)
+    return first + "".join(f"{name}:\n{text}" for name, _, text in cases)
+
+
 def show(text):
     def beside(match):
         return f"{match.group(0)}  {value_of(int(match.group(1), 16))!r}"
@@ -114,6 +166,13 @@ def test():
     if told != "ok\nrelaxation 0000000000000000  0.0\nd 0 bff0000000000000  -1.0\nm 0 nan\n":
         sys.exit("a result is shown wrong:\n" + told)
     print("2000 problems come back as they were")
+    root = os.path.join(os.path.dirname(os.path.abspath(__file__)), "..")
+    path = os.path.join(root, "examples", "cases.txt")
+    for name, data in ("stdin", bundle(path)), ("stdout", expect(path).encode()):
+        with open(os.path.join(root, "crates", "cases", name), "rb") as stored:
+            if stored.read() != data:
+                sys.exit(f"crates/cases/{name} is not what examples/cases.txt gives")
+    print(f"{len(cases_of(path)[1])} cases are stored as they are written down")
 
 
 def main():
@@ -124,6 +183,10 @@ def main():
     elif verb == "read" and len(sys.argv) == 3:
         with open(sys.argv[2], "rb") as records:
             sys.stdout.write(read(records.read()))
+    elif verb == "bundle" and len(sys.argv) == 3:
+        sys.stdout.buffer.write(bundle(sys.argv[2]))
+    elif verb == "expect" and len(sys.argv) == 3:
+        sys.stdout.write(expect(sys.argv[2]))
     elif verb == "show":
         sys.stdout.write(show(sys.stdin.read()))
     elif verb == "test":
