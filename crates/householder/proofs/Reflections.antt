@@ -1,5 +1,5 @@
 -- What `reflect` and `turn` rest on: a dot product and stores in place give the vector's image. Assumes nothing.
-use mathlib.Core.Path.{_≡_, refl, sym, ap, ap₂, _∙_}
+use mathlib.Core.Path.{_≡_, refl, sym, ap, ap₂, subst, _∙_}
 use mathlib.Core.Bool.{true, false, cond}
 use mathlib.Core.List.{List}
 use mathlib.Core.Logic.{⊎-elim}
@@ -15,6 +15,7 @@ use Rattle.numbers.proofs.Sums.{Σ-same}
 use Rattle.workspace.specs.Readings.{vec, Block}
 use Rattle.workspace.proofs.Readings.{lit-+0, at-vec, vec-is, vec-same}
 use Rattle.householder.specs.Qr.{along, image}
+use Rattle.householder.specs.Search.{product}
 use Rattle.householder.specs.Work.{Reflected, Turned}
 
 pub image-stays : (m k : ℕ) (u : List Float) (b : Float) (v : List Float) → eq (along m k u v) +0 ≡ true → image m k u b v ≡ v
@@ -26,11 +27,11 @@ pub image-moves : (m k : ℕ) (u : List Float) (b : Float) (v : List Float) → 
 unfolding image
 image-moves m k u b v h = rw h
 
--- ---- `reflect`
+-- ---- `reflect_by`
 
 module _ (m k o : ℕ) (w : List Float) (km : k < m) where
-  along-is : Σ (m - k) (λ t. at w (k * 18 + k + t) ⊗ at w (o + k + t)) ≡ along m k (vec (k * 18) m w) (vec o m w)
-  unfolding along
+  along-is : product (m - k) (k * 18 + k) (o + k) w ≡ along m k (vec (k * 18) m w) (vec o m w)
+  unfolding along product
   along-is =
       Σ-same (m - k) _ _
       (λ t h.
@@ -38,7 +39,7 @@ module _ (m k o : ℕ) (w : List Float) (km : k < m) where
       (ap (λ (x : ℕ). at w x) (omega arith) ∙ sym (at-vec (k * 18) m w (k + t) (omega arith)))
       (ap (λ (x : ℕ). at w x) (omega arith) ∙ sym (at-vec o m w (k + t) (omega arith))))
 
-  module _ (d : Float) (hd : d ≡ Σ (m - k) (λ t. at w (k * 18 + k + t) ⊗ at w (o + k + t))) where
+  module _ (d : Float) (hd : d ≡ product (m - k) (k * 18 + k) (o + k) w) where
     d-is : d ≡ along m k (vec (k * 18) m w) (vec o m w)
     d-is = hd ∙ along-is
 
@@ -91,3 +92,48 @@ module _ (m k j : ℕ) (w₀ w w′ : List Float) (m18 : m ≤ 18) (km : k < m) 
         before = λ x a. r .before x (omega arith) ∙ h .before x a;
         after = λ x a. r .after x (omega arith) ∙ h .after x (omega arith);
       }
+
+pub turned-at : (m k j j′ : ℕ) (w₀ w : List Float) → j ≡ j′ → Turned m k j w₀ w → Turned m k j′ w₀ w
+turned-at m k j j′ w₀ w e = subst (λ (x : ℕ). Turned m k x w₀ w) e
+
+-- ---- `turn_four`
+
+-- a product of numbers that stand as they were
+pub product-kept : (n p q p′ q′ : ℕ) (w w′ : List Float) → p ≡ p′ → q ≡ q′ → ((t : ℕ) → t < n → at w′ (p′ + t) ≡ at w (p′ + t))
+    → ((t : ℕ) → t < n → at w′ (q′ + t) ≡ at w (q′ + t)) → product n p q w ≡ product n p′ q′ w′
+unfolding product
+product-kept n p q p′ q′ w w′ ep eq a b =
+    ap₂ (λ (x y : ℕ). Σ n (λ t. at w (x + t) ⊗ at w (y + t))) ep eq ∙ Σ-same n _ _ (λ t h. ap₂ _⊗_ (sym (a t h)) (sym (b t h)))
+
+-- the products of u with the three columns behind o, when those before each have been reflected
+module _ (m k o : ℕ) (w w₁ : List Float) (m18 : m ≤ 18) (km : k < m) (low : 426 ≤ o) (r₁ : Reflected m k o w w₁) where
+  pub second-kept : product (m - k) (k * 18 + k + 0) (o + k + 18) w ≡ product (m - k) (k * 18 + k) (o + 18 + k) w₁
+  second-kept =
+      product-kept (m - k) _ _ (k * 18 + k) (o + 18 + k) w w₁ (omega arith) (omega arith) (λ t h. r₁ .before (k * 18 + k + t) (omega arith))
+      (λ t h. r₁ .after (o + 18 + k + t) (omega arith))
+
+  module _ (w₂ : List Float) (r₂ : Reflected m k (o + 18) w₁ w₂) where
+    pub third-kept : product (m - k) (k * 18 + k + 0) (o + k + 36) w ≡ product (m - k) (k * 18 + k) (o + 36 + k) w₂
+    third-kept =
+        product-kept (m - k) _ _ (k * 18 + k) (o + 36 + k) w w₂ (omega arith) (omega arith)
+        (λ t h. r₂ .before (k * 18 + k + t) (omega arith) ∙ r₁ .before (k * 18 + k + t) (omega arith))
+        (λ t h. r₂ .after (o + 36 + k + t) (omega arith) ∙ r₁ .after (o + 36 + k + t) (omega arith))
+
+    module _ (w₃ : List Float) (r₃ : Reflected m k (o + 36) w₂ w₃) where
+      pub fourth-kept : product (m - k) (k * 18 + k + 0) (o + k + 54) w ≡ product (m - k) (k * 18 + k) (o + 54 + k) w₃
+      fourth-kept =
+          product-kept (m - k) _ _ (k * 18 + k) (o + 54 + k) w w₃ (omega arith) (omega arith)
+          (λ t h. r₃ .before (k * 18 + k + t) (omega arith) ∙ r₂ .before (k * 18 + k + t) (omega arith) ∙ r₁ .before (k * 18 + k + t) (omega arith))
+          (λ t h. r₃ .after (o + 54 + k + t) (omega arith) ∙ r₂ .after (o + 54 + k + t) (omega arith) ∙ r₁ .after (o + 54 + k + t) (omega arith))
+
+pub turned-four : (m k j : ℕ) (w₀ w w₁ w₂ w₃ w₄ : List Float) → m ≤ 18 → k < m → k < j → Reflected m k (426 + j * 18) w w₁ → Reflected m k (426 + j * 18 + 18) w₁ w₂
+    → Reflected m k (426 + j * 18 + 36) w₂ w₃ → Reflected m k (426 + j * 18 + 54) w₃ w₄ → Turned m k j w₀ w → Turned m k (j + 4) w₀ w₄
+turned-four m k j w₀ w w₁ w₂ w₃ w₄ m18 km kj r₁ r₂ r₃ r₄ h =
+    let at-1 : 426 + j * 18 + 18 ≡ 426 + (j + 1) * 18 = omega arith in
+    let at-2 : 426 + j * 18 + 36 ≡ 426 + (j + 1 + 1) * 18 = omega arith in
+    let at-3 : 426 + j * 18 + 54 ≡ 426 + (j + 1 + 1 + 1) * 18 = omega arith in
+    let t₁ = turned-more m k j w₀ w w₁ m18 km kj r₁ h in
+    let t₂ = turned-more m k (j + 1) w₀ w₁ w₂ m18 km (omega arith) (subst (λ (o : ℕ). Reflected m k o w₁ w₂) at-1 r₂) t₁ in
+    let t₃ = turned-more m k (j + 1 + 1) w₀ w₂ w₃ m18 km (omega arith) (subst (λ (o : ℕ). Reflected m k o w₂ w₃) at-2 r₃) t₂ in
+    let t₄ = turned-more m k (j + 1 + 1 + 1) w₀ w₃ w₄ m18 km (omega arith) (subst (λ (o : ℕ). Reflected m k o w₃ w₄) at-3 r₄) t₃ in
+    turned-at m k _ (j + 4) w₀ w₄ (omega arith) t₄

@@ -20,7 +20,7 @@ use Rattle.numbers.proofs.Apart.{sets-apart, root-over, root-under, root-up}
 use Rattle.workspace.specs.Readings.{mat}
 use Rattle.workspace.proofs.Readings.{lit-+0, entry-mat}
 use Rattle.householder.specs.Qr.{columnNorm, better, pivot}
-use Rattle.householder.specs.Search.{squares, four, shown, taken, weighed, Leads}
+use Rattle.householder.specs.Search.{product, squares, four, shown, taken, weighed, Leads}
 use Rattle.householder.specs.declared.Candidate.{Candidate}
 use Rattle.householder.specs.declared.Lead.{Lead}
 use Rattle.householder.specs.declared.Four.{Four}
@@ -38,7 +38,7 @@ lit-gap = refl
 -- ---- sums of squares
 
 squares-fits : (n p : ℕ) (w : List Float) → T (fits binary64 (squares n p w))
-unfolding squares Σ fits
+unfolding product Σ fits
 squares-fits zero p w = tt
 squares-fits (suc n) p w = add-fits binary64 (Σ n (λ t. at w (p + t) ⊗ at w (p + t))) (at w (p + n) ⊗ at w (p + n))
 
@@ -52,7 +52,7 @@ module _ (m n k j : ℕ) (w : List Float) (km : k ≤ m) (jn : j < n) where
       ∙ ap (λ (x : ℕ). at w x) (let e : 426 + j * 18 + (k + t) ≡ 426 + j * 18 + k + t = omega arith in e)
 
   pub column-norm : columnNorm m n k (mat 426 m n w) j ≡ sqrtOf (squares (m - k) (426 + j * 18 + k) w)
-  unfolding columnNorm norm dot squares
+  unfolding columnNorm norm dot product
   column-norm =
       let v = drop k (column m n j (mat 426 m n w)) in
       let l : length v ≡ m - k = length-drop k (column m n j (mat 426 m n w)) ∙ ap (λ (x : ℕ). x - k) (length-column m n j (mat 426 m n w)) in
@@ -149,7 +149,7 @@ leads-more m n k t j w old new s km ej jn l es en =
 
 -- four columns, from j on
 pub leads-four : (m n k q j : ℕ) (w : List Float) (l₀ l₁ l₂ l₃ l₄ : Lead) (s : Four) → k ≤ m → j ≡ k + q * 4 → j + 3 < n
-    → Leads m n k (q * 4) w l₀ → s ≡ four (m - k) (426 + j * 18 + k) w
+    → Leads m n k (q * 4) w l₀ → s ≡ four (m - k) (426 + j * 18 + k) 18 (426 + j * 18 + k) w
     → l₁ ≡ weighed l₀ j (s .a) → l₂ ≡ weighed l₁ (j + 1) (s .b) → l₃ ≡ weighed l₂ (j + 2) (s .c) → l₄ ≡ weighed l₃ (j + 3) (s .d)
     → Leads m n k ((q + 1) * 4) w l₄
 leads-four m n k q j w l₀ l₁ l₂ l₃ l₄ s km e h b es e₁ e₂ e₃ e₄ =

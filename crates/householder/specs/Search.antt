@@ -1,9 +1,10 @@
--- What the kernel's search for the pivot carries from column to column, so that it takes one root for all of them but for near ties. No promise rests on it: the search is `pivot`.
+-- The products that the kernel sums four at a time, and what its search for the pivot carries from column to column, so that it takes one root for all of them but for near ties.
+-- No promise rests on it: the search is `pivot`.
 -- Definitions only. Assumes nothing.
 use mathlib.Core.Path.{_≡_}
 use mathlib.Core.Bool.{true, cond}
 use mathlib.Core.List.{List}
-use Prim.Native.Nat.{ℕ, _+_}
+use Prim.Native.Nat.{ℕ, _+_, _*_}
 use lib.Ieee.{Float, lt, le}
 use Rattle.numbers.specs.Numbers.{+0, -1, _⊗_, Σ, at}
 use Rattle.numbers.specs.Root.{sqrtOf}
@@ -14,13 +15,17 @@ use Rattle.householder.specs.declared.Candidate.{Candidate}
 use Rattle.householder.specs.declared.Lead.{Lead}
 use Rattle.householder.specs.declared.Four.{Four}
 
--- the sum of the squares of the n numbers from p on
-unfoldable pub squares : (n p : ℕ) → List Float → Float
-squares n p w = Σ n (λ t. at w (p + t) ⊗ at w (p + t))
+-- the sum of the products of the n numbers from p on with those from q on
+unfoldable pub product : (n p q : ℕ) → List Float → Float
+product n p q w = Σ n (λ t. at w (p + t) ⊗ at w (q + t))
 
--- and of those on the same rows of the three columns behind it
-abbrev pub four : (n p : ℕ) → List Float → Four
-four n p w = record { a = squares n p w; b = squares n (p + 18) w; c = squares n (p + 36) w; d = squares n (p + 54) w }
+-- and, for the same rows of the three columns behind q, with those s, 2 s and 3 s behind p
+abbrev pub four : (n p s q : ℕ) → List Float → Four
+four n p s q w = record { a = product n p q w; b = product n (p + s) (q + 18) w; c = product n (p + s * 2) (q + 36) w; d = product n (p + s * 3) (q + 54) w }
+
+-- the sum of the squares of the n numbers from p on
+abbrev pub squares : (n p : ℕ) → List Float → Float
+squares n p w = product n p p w
 
 -- the candidate: its norm is the root of the lead's sum of squares, and -1 while there is no lead
 abbrev pub shown : Lead → Candidate

@@ -4,13 +4,15 @@
 // column j of R at 426 + 18 j. In u32: the permutation at 0.
 ghost use mathlib.Core.Path.{_≡_};
 ghost use mathlib.Core.Bool.{cond};
+ghost use mathlib.Core.List.{List};
 ghost use Prim.Native.Nat.{ℕ, _+_, _-_, _*_, _/_, _<_, _≤_, min, max};
 ghost use lib.Dec.{eqb};
+ghost use lib.Ieee.{Float};
 ghost use lib.ListN.{length, set};
 ghost use Rattle.numbers.specs.Numbers.{Σ, at, nth, tab, _⊕_, _⊖_, _⊗_, _⊘_};
 ghost use Rattle.workspace.specs.Readings.{vec, mat, nums, Block};
 ghost use Rattle.householder.specs.Qr.{pivot, tolerance, signed, advance, factor, solve};
-ghost use Rattle.householder.specs.Search.{shown, weighed, four, Leads};
+ghost use Rattle.householder.specs.Search.{shown, weighed, product, four, Leads};
 ghost use Rattle.householder.specs.Work.{held, Reflected, Turned, Exchanged, Prepared, AppliedQt, AppliedQ, SolvedR, SolvedRt, Placed};
 
 // ---- the pivot
@@ -88,25 +90,21 @@ struct Four {
     d: f64,
 }
 
-// The sums of the squares of the n numbers from p on, and from 18, 36 and 54 behind p on, side by side:
-// each is summed in its own order.
-fn squares_four(w: &[f64], p: usize, n: usize) -> Four
-    requires { ⌜ p + 54 + n ≤ length (now w) ⌝ }
-    ensures { λ r. ⌜ r ≡ four n p (now (w .entry)) ⌝ }
+// The sums of the products of the n numbers from q on, and from 18, 36 and 54 behind q on, with those from
+// p on, and from s, 2 s and 3 s behind p on, side by side: each is summed in its own order.
+fn products_four(w: &[f64], p: usize, s: usize, q: usize, n: usize) -> Four
+    requires { ⌜ (p + s * 3 + n ≤ length (now w)) × (q + 54 + n ≤ length (now w)) ⌝ }
+    ensures { λ r. ⌜ r ≡ four n p s q (now (w .entry)) ⌝ }
 {
     let mut a = -0.0;
     let mut b = -0.0;
     let mut c = -0.0;
     let mut d = -0.0;
     for t in 0..n {
-        let x = w[p + t];
-        let y = w[p + 18 + t];
-        let z = w[p + 36 + t];
-        let v = w[p + 54 + t];
-        a = a + x * x;
-        b = b + y * y;
-        c = c + z * z;
-        d = d + v * v;
+        a = a + w[p + t] * w[q + t];
+        b = b + w[p + s + t] * w[q + 18 + t];
+        c = c + w[p + s * 2 + t] * w[q + 36 + t];
+        d = d + w[p + s * 3 + t] * w[q + 54 + t];
     }
     Four {
         a: a,
@@ -129,7 +127,8 @@ fn pivot_fours(w: &[f64], m: usize, n: usize, k: usize) -> Lead
     let c = (n - k) / 4;
     for q in 0..c {
         let j = k + q * 4;
-        let s = squares_four(w, 426 + j * 18 + k, m - k);
+        let o = 426 + j * 18 + k;
+        let s = products_four(w, o, 18, o, m - k);
         top = weigh(top, j, s.a);
         top = weigh(top, j + 1, s.b);
         top = weigh(top, j + 2, s.c);
@@ -165,20 +164,49 @@ fn lift(w: &mut [f64], p: usize, q: usize, c: usize, s: f64)
     }
 }
 
-// Algorithm H2: the vector at o under reflector k.
-fn reflect(w: &mut [f64], m: usize, k: usize, o: usize)
-    requires { ⌜ (m ≤ 18) × (k < m) × (342 ≤ o) × (o + m ≤ length (now w)) ⌝ }
+// Algorithm H2: the vector at o under reflector k, whose dot product with it is d.
+fn reflect_by(w: &mut [f64], m: usize, k: usize, o: usize, d: f64)
+    requires { ⌜ (m ≤ 18) × (k < m) × (342 ≤ o) × (o + m ≤ length (now w)) × (d ≡ product (m - k) (k * 18 + k) (o + k) (now w)) ⌝ }
     ensures { λ _. ⌜ Reflected m k o (now (w .entry)) (now (w .exit)) ⌝ }
 {
-    let p = k * 18 + k;
-    let q = o + k;
-    let c = m - k;
-    let d = numbers::dot_within(w, p, q, c);
     if d == 0.0 {
         return;
     }
     let s = d / w[324 + k];
-    lift(w, p, q, c, s);
+    lift(w, k * 18 + k, o + k, m - k, s);
+}
+
+// The vector at o under reflector k.
+fn reflect(w: &mut [f64], m: usize, k: usize, o: usize)
+    requires { ⌜ (m ≤ 18) × (k < m) × (342 ≤ o) × (o + m ≤ length (now w)) ⌝ }
+    ensures { λ _. ⌜ Reflected m k o (now (w .entry)) (now (w .exit)) ⌝ }
+{
+    let d = numbers::dot_within(w, k * 18 + k, o + k, m - k);
+    reflect_by(w, m, k, o, d);
+}
+
+// Columns j to j + 3 under reflector k; none of them changes the dot product of another.
+fn turn_four(w: &mut [f64], m: usize, k: usize, j: usize)
+    requires { ⌜ (m ≤ 18) × (k < m) × (k < j) × (426 + (j + 4) * 18 ≤ length (now w)) ⌝ }
+    ensures { λ _. ⌜ ((w₀ : List Float) → Turned m k j w₀ (now (w .entry)) → Turned m k (j + 4) w₀ (now (w .exit))) ⌝ }
+{
+    let o = 426 + j * 18;
+    let s = products_four(w, k * 18 + k, 0, o + k, m - k);
+    reflect_by(w, m, k, o, s.a);
+    reflect_by(w, m, k, o + 18, s.b);
+    reflect_by(w, m, k, o + 36, s.c);
+    reflect_by(w, m, k, o + 54, s.d);
+}
+
+// The columns past k under reflector k, by fours: up to three columns are left.
+fn turn_fours(w: &mut [f64], m: usize, n: usize, k: usize)
+    requires { ⌜ (m ≤ 18) × (k < m) × (k < n) × (426 + n * 18 ≤ length (now w)) ⌝ }
+    ensures { λ _. ⌜ Turned m k (k + 1 + (n - (k + 1)) / 4 * 4) (now (w .entry)) (now (w .exit)) ⌝ }
+{
+    let c = (n - (k + 1)) / 4;
+    for q in 0..c {
+        turn_four(w, m, k, k + 1 + q * 4);
+    }
 }
 
 // Each column past k under reflector k.
@@ -186,7 +214,8 @@ fn turn(w: &mut [f64], m: usize, n: usize, k: usize)
     requires { ⌜ (m ≤ 18) × (k < m) × (k < n) × (426 + n * 18 ≤ length (now w)) ⌝ }
     ensures { λ _. ⌜ Turned m k n (now (w .entry)) (now (w .exit)) ⌝ }
 {
-    for j in k + 1..n {
+    turn_fours(w, m, n, k);
+    for j in k + 1 + (n - (k + 1)) / 4 * 4..n {
         reflect(w, m, k, 426 + j * 18);
     }
 }

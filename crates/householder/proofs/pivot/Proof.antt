@@ -2,7 +2,7 @@
 use mathlib.Core.Path.{_≡_, refl, _∙_}
 use Prim.Native.Nat.{_+_, _*_, _-_, _/_, _≤_, _<_}
 use native.Mathlib.Omega.{arith}
-use Rattle.householder.specs.Search.{squares, Leads}
+use Rattle.householder.specs.Search.{product, Leads}
 use Rattle.householder.proofs.Search.{leads-more}
 use Rattle.householder.proofs.pivot.Statement.{statement}
 use Rattle.householder.proofs.pivot.Tie as tie
@@ -56,7 +56,7 @@ loop-less : tie.Need-loop-less Inv-loop μ-loop
 loop-less c = omega arith
 
 loop-again : tie.Need-loop-again Inv-loop μ-loop
-unfolding squares
+unfolding product
 loop-again c = let a = c .before .before .before .before .before .before .args in
     let l = c .before .before .before .loop in
     let x = c .before .dot-within in (

@@ -25,20 +25,20 @@ mul-j c = omega arith
 add-j : tie.Need-add-j Inv-loop μ-loop
 add-j c = omega arith
 
-mul-squares-four : tie.Need-mul-squares-four Inv-loop μ-loop
-mul-squares-four c = omega arith
+mul-o : tie.Need-mul-o Inv-loop μ-loop
+mul-o c = omega arith
 
-add-squares-four : tie.Need-add-squares-four Inv-loop μ-loop
-add-squares-four c = omega arith
+add-o : tie.Need-add-o Inv-loop μ-loop
+add-o c = omega arith
 
-add-squares-four-2 : tie.Need-add-squares-four-2 Inv-loop μ-loop
-add-squares-four-2 c = omega arith
+add-o-2 : tie.Need-add-o-2 Inv-loop μ-loop
+add-o-2 c = omega arith
 
-sub-squares-four : tie.Need-sub-squares-four Inv-loop μ-loop
-sub-squares-four c = omega arith
+sub-products-four : tie.Need-sub-products-four Inv-loop μ-loop
+sub-products-four c = omega arith
 
-squares-four-requires : tie.Need-squares-four-requires Inv-loop μ-loop
-squares-four-requires c κs = omega arith
+products-four-requires : tie.Need-products-four-requires Inv-loop μ-loop
+products-four-requires c κs = omega arith
 
 weigh-requires : tie.Need-weigh-requires Inv-loop μ-loop
 weigh-requires c κs = omega arith
@@ -71,7 +71,7 @@ loop-again : tie.Need-loop-again Inv-loop μ-loop
 loop-again c = let s = c .before .before .before .before .before .before .before .before in
     let a = s .args in
     let l = c .before .before .before .before .before .before .loop in
-    let x = c .before .before .before .before .squares-four in (
+    let x = c .before .before .before .before .products-four in (
       refl,
       omega arith,
       leads-four (a .m) (a .n) (a .k) (l .q) (a .k + l .q * 4) (a .w .now) (l .top) _ _ _ _ (x .result) (omega arith) refl (omega arith) (l .inv .2) (x .ensures)
@@ -94,11 +94,11 @@ pivot-fours-spec =
     loop-holds
     mul-j
     add-j
-    mul-squares-four
-    add-squares-four
-    add-squares-four-2
-    sub-squares-four
-    squares-four-requires
+    mul-o
+    add-o
+    add-o-2
+    sub-products-four
+    products-four-requires
     weigh-requires
     add-weigh
     weigh-requires-2
