@@ -47,7 +47,14 @@ pub struct Lent {
 impl Lent {
     pub fn new() -> Self {
         let room = || vec![0.0; 18 * 66];
-        Lent { w: vec![0.0; 8192], iw: vec![0; 512], first: room(), second: room(), third: room(), index: vec![0; 66] }
+        Lent {
+            w: vec![0.0; 8192],
+            iw: vec![0; 512],
+            first: room(),
+            second: room(),
+            third: room(),
+            index: vec![0; 66],
+        }
     }
 
     pub fn step(&mut self, p: &Step) -> u32 {

@@ -114,7 +114,18 @@ pub fn hard() -> Vec<Step> {
 
 /// The headers that each of 12 meters leaves and enters; 4 is the world outside.
 const METERS: [(usize, usize); 12] = [
-    (4, 0), (4, 0), (3, 0), (0, 1), (0, 2), (1, 2), (1, 3), (1, 4), (2, 3), (2, 4), (3, 4), (3, 4),
+    (4, 0),
+    (4, 0),
+    (3, 0),
+    (0, 1),
+    (0, 2),
+    (1, 2),
+    (1, 3),
+    (1, 4),
+    (2, 3),
+    (2, 4),
+    (3, 4),
+    (3, 4),
 ];
 
 /// Flows that balance at all four headers; a branch whose valve is shut carries nothing.
@@ -130,7 +141,8 @@ fn flows(drawn: &mut Drawn) -> Vec<f64> {
             let out: Vec<usize> = (0..12).filter(|&i| METERS[i].0 == header).collect();
             let whole: f64 = out.iter().map(|&i| shares[i]).sum();
             for &i in &out {
-                flow[i] = if whole > 0.0 { into * shares[i] / whole } else { into / out.len() as f64 };
+                flow[i] =
+                    if whole > 0.0 { into * shares[i] / whole } else { into / out.len() as f64 };
             }
         }
     }
@@ -224,5 +236,7 @@ pub fn matrices(count: usize, m: usize, n: usize) -> Vec<Matrix> {
 /// Numbers above zero of many magnitudes.
 pub fn numbers(count: usize) -> Vec<f64> {
     let mut drawn = Drawn(1181783497276652981);
-    (0..count).map(|_| (1.0 + drawn.share()) * 2f64.powi((drawn.bits() % 201) as i32 - 100)).collect()
+    (0..count)
+        .map(|_| (1.0 + drawn.share()) * 2f64.powi((drawn.bits() % 201) as i32 - 100))
+        .collect()
 }

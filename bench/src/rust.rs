@@ -12,8 +12,11 @@ fn matrix(p: &Matrix) -> MatRef<'_> {
 }
 
 pub fn step(p: &Step) -> Result<subproblem::Step, Failure> {
-    let kinds: Vec<ConstraintKind> =
-        p.kinds.iter().map(|&k| if k == 0 { ConstraintKind::Eq } else { ConstraintKind::Ineq }).collect();
+    let kinds: Vec<ConstraintKind> = p
+        .kinds
+        .iter()
+        .map(|&k| if k == 0 { ConstraintKind::Eq } else { ConstraintKind::Ineq })
+        .collect();
     let model = Linearization {
         gradient: &p.gradient,
         values: &p.values,

@@ -41,7 +41,9 @@ fn check_steps(problems: &[Step]) {
     for p in problems {
         let done = lent.step(p) == 0;
         match rust::step(p) {
-            Ok(found) => assert!(done && same_bits(&found.d, &lent.first), "other bits than the Rust's"),
+            Ok(found) => {
+                assert!(done && same_bits(&found.d, &lent.first), "other bits than the Rust's")
+            }
             Err(_) => assert!(!done, "the Rust refuses and the library does not"),
         }
     }
@@ -84,7 +86,11 @@ fn least_squares(problems: Vec<Matrix>) -> Set {
     set
 }
 
-fn pair(calls: usize, ours: impl FnMut() -> usize + 'static, rust: impl FnMut() -> usize + 'static) -> Set {
+fn pair(
+    calls: usize,
+    ours: impl FnMut() -> usize + 'static,
+    rust: impl FnMut() -> usize + 'static,
+) -> Set {
     let sides = vec![side("ours", ours), side("rust", rust)];
     Set { calls, factorings: None, away: None, sides }
 }
@@ -103,7 +109,10 @@ fn factors(problems: Vec<Matrix>) -> Set {
 /// at once nor leave one out.
 fn roots(numbers: Vec<f64>) -> Set {
     let theirs = numbers.clone();
-    assert!(numbers.iter().all(|x| library::root(*x).to_bits() == x.sqrt().to_bits()), "other bits than the Rust's");
+    assert!(
+        numbers.iter().all(|x| library::root(*x).to_bits() == x.sqrt().to_bits()),
+        "other bits than the Rust's"
+    );
     pair(
         numbers.len(),
         move || numbers.iter().filter(|x| black_box(library::root(black_box(**x))) > 0.0).count(),
@@ -153,7 +162,9 @@ pub fn least_squares_problems() -> Vec<Matrix> {
 
 /// Steps with 0 to 16 active rows.
 pub fn growth() -> Vec<Planned> {
-    (0..=16).map(|rows| planned(format!("{rows} active"), move || steps(problems::active(40, rows)))).collect()
+    (0..=16)
+        .map(|rows| planned(format!("{rows} active"), move || steps(problems::active(40, rows))))
+        .collect()
 }
 
 /// NLopt as a further side, and how far its answers are from ours.
@@ -178,12 +189,15 @@ mod peer {
                 set.away = Some(set.away.unwrap_or(0.0).max(away(&lent.first[..n], &room.x[..n])));
             }
         }
-        set.sides.push(side("nlopt", move || own.iter_mut().filter_map(|p| p.solve(&mut room).then_some(())).count()));
+        set.sides.push(side("nlopt", move || {
+            own.iter_mut().filter_map(|p| p.solve(&mut room).then_some(())).count()
+        }));
     }
 
     /// The norm of A x - b, which is unique where x is not.
     fn residual(p: &Matrix, x: &[f64]) -> f64 {
-        let row = |i: usize| p.a[i * p.n..(i + 1) * p.n].iter().zip(x).map(|(a, x)| a * x).sum::<f64>();
+        let row =
+            |i: usize| p.a[i * p.n..(i + 1) * p.n].iter().zip(x).map(|(a, x)| a * x).sum::<f64>();
         (0..p.m).map(|i| (row(i) - p.b[i]).powi(2)).sum::<f64>().sqrt()
     }
 
@@ -196,6 +210,7 @@ mod peer {
                 set.away = Some(set.away.unwrap_or(0.0).max(apart));
             }
         }
-        set.sides.push(side("nlopt", move || own.iter().filter(|p| nlopt::nnls(p, &mut room)).count()));
+        set.sides
+            .push(side("nlopt", move || own.iter().filter(|p| nlopt::nnls(p, &mut room)).count()));
     }
 }
