@@ -4,6 +4,7 @@ use crate::problems::{Matrix, Step};
 
 #[rustfmt::skip]
 unsafe extern "C" {
+    fn gritstrut_sqrt(x: f64) -> f64;
     fn gritstrut_norm(x: *const f64, x_len: usize) -> f64;
     fn gritstrut_qr(
         m: usize, n: usize, a: *const f64, a_len: usize, r: *mut f64, r_len: usize,
@@ -25,15 +26,19 @@ unsafe extern "C" {
     ) -> u32;
 }
 
+pub fn root(x: f64) -> f64 {
+    unsafe { gritstrut_sqrt(x) }
+}
+
 pub fn norm(x: &[f64]) -> f64 {
     unsafe { gritstrut_norm(x.as_ptr(), x.len()) }
 }
 
-/// The workspaces, and buffers for every output.
+/// The workspaces, and buffers for every output; the first holds d of a step, x of NNLS, R of QR.
 pub struct Lent {
     w: Vec<f64>,
     iw: Vec<u32>,
-    first: Vec<f64>,
+    pub first: Vec<f64>,
     second: Vec<f64>,
     third: Vec<f64>,
     index: Vec<u32>,
@@ -42,7 +47,14 @@ pub struct Lent {
 impl Lent {
     pub fn new() -> Self {
         let room = || vec![0.0; 18 * 66];
-        Lent { w: vec![0.0; 8192], iw: vec![0; 512], first: room(), second: room(), third: room(), index: vec![0; 66] }
+        Lent {
+            w: vec![0.0; 8192],
+            iw: vec![0; 512],
+            first: room(),
+            second: room(),
+            third: room(),
+            index: vec![0; 66],
+        }
     }
 
     pub fn step(&mut self, p: &Step) -> u32 {

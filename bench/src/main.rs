@@ -1,125 +1,100 @@
-//! Times the library against the Rust on the same inputs, in one process, in turn.
+//! Times the library, the Rust and NLopt on the same inputs, in one process, in turn.
 //!
-//!     bench                      every set: medians over interleaved runs, and their ratio
-//!     bench count SET WHO N      runs one set N times by `ours` or `rust`, for an instruction count
+//!     bench                      every set: medians over interleaved runs, and their ratios
+//!     bench growth               the same for steps with 0 to 16 active rows
+//!     bench names [growth]       each set, a side that does it and the number of calls
+//!     bench count SET WHO N      one side goes through one set N times, for an instruction count
+//!     bench nnls FILE            writes the NNLS problems and our answers, for SciPy
 
+mod clock;
 mod library;
+#[cfg(nlopt)]
+mod nlopt;
 mod problems;
 mod rust;
+mod sets;
 
-use std::time::Instant;
+use sets::Planned;
 
 include!(concat!(env!("OUT_DIR"), "/tree.rs"));
 
 /// Runs of each side; the sides take turns.
-const RUNS: usize = 31;
+const RUNS: usize = 101;
 
-/// One set of inputs, and how each side goes through it once. The number told is a check that
-/// both did the same: how many calls were done.
-struct Set {
-    name: &'static str,
-    calls: usize,
-    ours: Box<dyn FnMut() -> usize>,
-    rust: Box<dyn FnMut() -> usize>,
-}
-
-fn steps(name: &'static str, problems: Vec<problems::Step>) -> Set {
-    let theirs = problems.clone();
-    let mut lent = library::Lent::new();
-    Set {
-        name,
-        calls: problems.len(),
-        ours: Box::new(move || problems.iter().filter(|p| lent.step(p) == 0).count()),
-        rust: Box::new(move || theirs.iter().filter(|p| rust::step(p)).count()),
-    }
-}
-
-fn least_squares(name: &'static str, problems: Vec<problems::Matrix>) -> Set {
-    let theirs = problems.clone();
-    let mut lent = library::Lent::new();
-    Set {
-        name,
-        calls: problems.len(),
-        ours: Box::new(move || problems.iter().filter(|p| lent.nnls(p) == 0).count()),
-        rust: Box::new(move || theirs.iter().filter(|p| rust::nnls(p)).count()),
-    }
-}
-
-fn factors(name: &'static str, problems: Vec<problems::Matrix>) -> Set {
-    let theirs = problems.clone();
-    let mut lent = library::Lent::new();
-    Set {
-        name,
-        calls: problems.len(),
-        ours: Box::new(move || problems.iter().map(|p| lent.qr(p)).sum()),
-        rust: Box::new(move || theirs.iter().map(rust::qr).sum()),
-    }
-}
-
-fn norms(name: &'static str, problems: Vec<problems::Matrix>) -> Set {
-    let theirs = problems.clone();
-    Set {
-        name,
-        calls: problems.len(),
-        ours: Box::new(move || problems.iter().filter(|p| library::norm(&p.b) > 0.0).count()),
-        rust: Box::new(move || theirs.iter().filter(|p| rust::norm(&p.b) > 0.0).count()),
-    }
-}
-
-fn sets() -> Vec<Set> {
-    vec![
-        steps("step 4/3", problems::steps(200, 4, 3, problems::Bounds::None)),
-        steps("step 12/4, floors", problems::steps(100, 12, 4, problems::Bounds::Floors)),
-        steps("step 16/16, all bounds", problems::steps(40, 16, 16, problems::Bounds::All)),
-        steps("step 16/4, crossed", problems::steps(20, 16, 4, problems::Bounds::Crossed)),
-        steps("step 8/6, relaxed", problems::incompatible(100, 8, 6)),
-        least_squares("nnls 18x66", problems::matrices(40, 18, 66)),
-        factors("qr 18x66", problems::matrices(100, 18, 66)),
-        factors("qr 17x17", problems::matrices(200, 17, 17)),
-        norms("norm of 18", problems::matrices(2000, 18, 1)),
-    ]
-}
-
-fn seconds(run: &mut dyn FnMut() -> usize) -> (f64, usize) {
-    let start = Instant::now();
-    let told = run();
-    (start.elapsed().as_secs_f64(), told)
-}
-
-fn median(mut times: Vec<f64>) -> f64 {
-    times.sort_by(f64::total_cmp);
-    times[times.len() / 2]
-}
-
-fn compare(set: &mut Set) {
-    let (mut ours, mut rust) = (Vec::new(), Vec::new());
-    let (_, told) = seconds(&mut set.ours);
-    let (_, owed) = seconds(&mut set.rust);
-    assert_eq!(told, owed, "{}: the two sides differ", set.name);
-    for _ in 0..RUNS {
-        ours.push(seconds(&mut set.ours).0);
-        rust.push(seconds(&mut set.rust).0);
-    }
+/// One row: microseconds for one call of each side, and ours as a share of the others'.
+fn row(plan: &Planned) {
+    let (name, mut set) = (&plan.name, (plan.make)());
+    let told: Vec<usize> = set.sides.iter_mut().map(|side| (side.run)()).collect();
+    assert_eq!(told[0], told[1], "{name}: the library and the Rust differ");
+    let (medians, spread) = clock::medians(&mut set.sides, RUNS);
     let each = 1e6 / set.calls as f64;
-    let (ours, rust) = (median(ours) * each, median(rust) * each);
-    println!("{:<24} {:>6} {:>6} {ours:>11.2} {rust:>11.2} {:>7.2}", set.name, set.calls, told, ours / rust);
+    let shown = |value: Option<f64>, digits: usize| value.map_or("-".into(), |v| format!("{v:.digits$}"));
+    let peer = medians.get(2);
+    println!(
+        "{:<23} {:>5} {:>6} {:>7} {:>10} {:>10} {:>10} {:>9} {:>9} {:>6.1}% {:>8}",
+        name,
+        set.calls,
+        told[0],
+        set.factorings.map_or("-".into(), |(most, _)| most.to_string()),
+        shown(Some(medians[0] * each), 3),
+        shown(Some(medians[1] * each), 3),
+        shown(peer.map(|peer| peer * each), 3),
+        shown(Some(medians[0] / medians[1]), 2),
+        shown(peer.map(|peer| medians[0] / peer), 2),
+        100.0 * spread,
+        set.away.map_or("-".into(), |away| format!("{away:.0e}")),
+    );
+}
+
+fn table(sets: Vec<Planned>) {
+    println!(
+        "{:<23} {:>5} {:>6} {:>7} {:>10} {:>10} {:>10} {:>9} {:>9} {:>7} {:>8}",
+        "set", "calls", "done", "factor", "ours, us", "Rust, us", "NLopt, us", "ours/Rust", "ours/NL", "spread", "NL away"
+    );
+    sets.iter().for_each(row);
+}
+
+fn names(sets: Vec<Planned>) {
+    for plan in sets {
+        let set = (plan.make)();
+        set.sides.iter().for_each(|side| println!("{}\t{}\t{}", plan.name, side.who, set.calls));
+    }
 }
 
 fn count(name: &str, who: &str, times: usize) {
-    let mut sets = sets();
-    let set = sets.iter_mut().find(|set| set.name == name).expect("a set of that name");
-    let run = if who == "ours" { &mut set.ours } else { &mut set.rust };
-    let told: usize = (0..times).map(|_| run()).sum();
+    let plan = sets::all().into_iter().chain(sets::growth()).find(|plan| plan.name == name);
+    let set = (plan.expect("a set of that name").make)();
+    let mut side = set.sides.into_iter().find(|side| side.who == who).expect("ours, rust or nlopt");
+    let told: usize = (0..times).map(|_| (side.run)()).sum();
     println!("{name}, {who}: {times} times {} calls, {told} done", set.calls);
 }
 
-fn main() {
-    let words: Vec<String> = std::env::args().collect();
-    if words.len() == 5 && words[1] == "count" {
-        return count(&words[2], &words[3], words[4].parse().expect("a number"));
+/// Three words (count, m, n), then a, b and our x of each problem; all little-endian.
+fn write_nnls(file: &str) -> std::io::Result<()> {
+    let (problems, mut lent) = (sets::least_squares_problems(), library::Lent::new());
+    let mut bytes = Vec::new();
+    for word in [problems.len(), problems[0].m, problems[0].n] {
+        bytes.extend((word as u64).to_le_bytes());
     }
-    println!("{:<24} {:>6} {:>6} {:>11} {:>11} {:>7}", "set", "calls", "done", "ours, us", "Rust, us", "ratio");
-    for set in &mut sets() {
-        compare(set);
+    for p in &problems {
+        assert_eq!(lent.nnls(p), 0);
+        for value in p.a.iter().chain(&p.b).chain(&lent.first[..p.n]) {
+            bytes.extend(value.to_le_bytes());
+        }
+    }
+    std::fs::write(file, bytes)
+}
+
+fn main() {
+    let words: Vec<String> = std::env::args().skip(1).collect();
+    let words: Vec<&str> = words.iter().map(String::as_str).collect();
+    match words[..] {
+        [] => table(sets::all()),
+        ["growth"] => table(sets::growth()),
+        ["names"] => names(sets::all()),
+        ["names", "growth"] => names(sets::growth()),
+        ["count", name, who, times] => count(name, who, times.parse().expect("a number")),
+        ["nnls", file] => write_nnls(file).expect("the file written"),
+        _ => panic!("see the first lines of bench/src/main.rs"),
     }
 }
