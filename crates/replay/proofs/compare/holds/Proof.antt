@@ -1,0 +1,65 @@
+-- `holds`: each entry passed is the one that is due. Assumes nothing.
+use borrow.Author.Tests.{not-false}
+use mathlib.Core.Path.{_≡_, _∙_}
+use Prim.Native.Nat.{ℕ, _-_, _≤_, _<_}
+use native.Mathlib.Omega.{arith}
+use lib.ListN.{length}
+use Rattle.numbers.specs.Numbers.{at}
+use Rattle.replay.specs.Junk.{dueAt}
+use Rattle.replay.proofs.Floats.{never}
+use borrow.Author.Count.{below-more}
+use Rattle.replay.proofs.compare.holds.Statement.{statement}
+use Rattle.replay.proofs.compare.holds.Tie as tie
+
+abbrev Inv-loop : tie.InvT-loop
+Inv-loop memory n values from i₀ i-end i = (i ≤ length memory) × ((k : ℕ) → k < i → at memory k ≡ dueAt n values from k)
+
+abbrev μ-loop : tie.MeasureT-loop
+μ-loop memory n values from i₀ i-end i = length memory - i
+
+loop-holds : tie.Need-loop-holds Inv-loop μ-loop
+loop-holds c = (omega arith, λ k h. absurd (omega arith))
+
+mul-same : tie.Need-mul-same Inv-loop μ-loop
+mul-same c = omega arith
+
+shared-slice-read-same : tie.Need-shared-slice-read-same Inv-loop μ-loop
+shared-slice-read-same c = omega arith
+
+due-requires : tie.Need-due-requires Inv-loop μ-loop
+due-requires c κs = omega arith
+
+same-requires : tie.Need-same-requires Inv-loop μ-loop
+same-requires c κs = omega arith
+
+returns : tie.Need-returns Inv-loop μ-loop
+returns c = λ e. never e
+
+add-i : tie.Need-add-i Inv-loop μ-loop
+add-i c = omega arith
+
+loop-less : tie.Need-loop-less Inv-loop μ-loop
+loop-less c = omega arith
+
+loop-again : tie.Need-loop-again Inv-loop μ-loop
+loop-again c = (omega arith, below-more _ _ (c .before .before .before .before .before .loop .inv .1) (c .before .same .ensures (not-false _ (c .if1 .left)) ∙ c .before .before .due .ensures))
+
+returns-2 : tie.Need-returns-2 Inv-loop μ-loop
+returns-2 c = λ e k h. c .before .loop .inv .1 k (omega arith)
+
+pub holds-spec : {M : Type 1} → statement M
+holds-spec =
+    tie.close
+    (tie.spec
+    Inv-loop
+    μ-loop
+    loop-holds
+    mul-same
+    shared-slice-read-same
+    due-requires
+    same-requires
+    returns
+    add-i
+    loop-less
+    loop-again
+    returns-2)

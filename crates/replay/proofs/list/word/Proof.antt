@@ -1,0 +1,27 @@
+-- `word` meets its contract. Assumes nothing.
+use Rattle.replay.proofs.Due.{word-is}
+use borrow.Author.Needs.{needs}
+use Rattle.replay.proofs.list.word.Statement.{statement}
+use Rattle.replay.proofs.list.word.Tie as tie
+
+half-requires : tie.Need-half-requires
+half-requires c κs = search needs
+
+add-half : tie.Need-add-half
+add-half c = search needs
+
+half-requires-2 : tie.Need-half-requires-2
+half-requires-2 c κs = search needs
+
+mul-result : tie.Need-mul-result
+mul-result c = search needs
+
+add-result : tie.Need-add-result
+add-result c = search needs
+
+returns : tie.Need-returns
+returns c = word-is _ _ _ _ (c .before .half .ensures .0) (c .half2 .ensures .0)
+
+pub word-spec : {M : Type 1} → statement M
+word-spec =
+    tie.close (tie.spec half-requires add-half half-requires-2 mul-result add-result returns)
