@@ -1,18 +1,11 @@
-use mathlib.Core.Path.{_≡_, refl, sym, ap, _∙_, subst}
-use Prim.Native.Nat.{ℕ, _+_, _-_, _*_, _/_, _≤_, _<_}
+-- `replay_calls` meets its contract. Assumes nothing.
+use mathlib.Core.Path.{_≡_}
+use Prim.Native.Nat.{_-_, _≤_}
 use lib.ListN.{length, length-set}
 use native.Mathlib.Omega.{arith}
 use borrow.Author.Needs.{needs}
 use Rattle.replay.proofs.replay_calls.Statement.{statement}
 use Rattle.replay.proofs.replay_calls.Tie as tie
-use Rattle.replay.proofs.replay_calls.Reads as reads
-use Rattle.replay.proofs.replay_calls.Lts as lts
-use Rattle.replay.proofs.complain.Reads as complain-reads
-use Rattle.replay.proofs.is_same.Reads as is-same-reads
-use Rattle.replay.proofs.list.operation_of.Reads as operation-of-reads
-use Rattle.replay.proofs.next_word.Reads as next-word-reads
-use Rattle.replay.proofs.replay_next.Reads as replay-next-reads
-use Rattle.std.proofs.num.wrapping_add_u64.Reads as wrapping-add-u64-reads
 
 abbrev Inv-loop : tie.InvT-loop
 Inv-loop calls counts₀ index₀ counts index = (index ≤ calls) × (256 ≡ length counts)
@@ -20,75 +13,57 @@ Inv-loop calls counts₀ index₀ counts index = (index ≤ calls) × (256 ≡ l
 abbrev μ-loop : tie.MeasureT-loop
 μ-loop calls counts₀ index₀ counts index = calls - index
 
--- src/main.rt:112:5
 loop-holds : tie.Need-loop-holds Inv-loop μ-loop
 loop-holds c = (omega arith, c .before .pre)
 
--- src/main.rt:113:13
 next-word-requires : tie.Need-next-word-requires Inv-loop μ-loop
 next-word-requires c κs = search needs
 
--- src/main.rt:114:13
 operation-of-requires : tie.Need-operation-of-requires Inv-loop μ-loop
 operation-of-requires c κs = search needs
 
--- src/main.rt:115:13
 replay-next-requires : tie.Need-replay-next-requires Inv-loop μ-loop
 replay-next-requires c κs = search needs
 
--- src/main.rt:116:13
 is-same-requires : tie.Need-is-same-requires Inv-loop μ-loop
 is-same-requires c κs = search needs
 
--- src/main.rt:117:13
 complain-requires : tie.Need-complain-requires Inv-loop μ-loop
 complain-requires c κs = search needs
 
--- src/main.rt:118:13
 same-length : tie.Need-same-length Inv-loop μ-loop
 same-length c = search needs
 
--- src/main.rt:118:13
 returns : tie.Need-returns Inv-loop μ-loop
 returns c = search needs
 
--- src/main.rt:120:56
 mul-wrapping-add-u64 : tie.Need-mul-wrapping-add-u64 Inv-loop μ-loop
 mul-wrapping-add-u64 c = search needs
 
--- src/main.rt:120:56
 slice-read-wrapping-add-u64 : tie.Need-slice-read-wrapping-add-u64 Inv-loop μ-loop
 slice-read-wrapping-add-u64 c = search needs
 
--- src/main.rt:120:29
 wrapping-add-u64-requires : tie.Need-wrapping-add-u64-requires Inv-loop μ-loop
 wrapping-add-u64-requires c κs = search needs
 
--- src/main.rt:120:9
 mul-counts : tie.Need-mul-counts Inv-loop μ-loop
 mul-counts c = search needs
 
--- src/main.rt:120:9
 slice-write-counts : tie.Need-slice-write-counts Inv-loop μ-loop
 slice-write-counts c = search needs
 
--- src/main.rt:112:9
 add-index : tie.Need-add-index Inv-loop μ-loop
 add-index c = search needs
 
--- src/main.rt:112:5
 loop-less : tie.Need-loop-less Inv-loop μ-loop
 loop-less c = search needs
 
--- src/main.rt:112:5
 loop-again : tie.Need-loop-again Inv-loop μ-loop
 loop-again c = (omega arith, simp length-set (c .before .before .before .before .before .before .before .before .loop .inv .1))
 
--- src/main.rt:109:1
 same-length-2 : tie.Need-same-length-2 Inv-loop μ-loop
 same-length-2 c = search needs
 
--- src/main.rt:109:1
 returns-2 : tie.Need-returns-2 Inv-loop μ-loop
 returns-2 c = search needs
 

@@ -1,19 +1,15 @@
+-- `cleared`: each entry passed is the one that is due. Assumes nothing.
 use borrow.Author.Tests.{not-false}
-use mathlib.Core.Path.{_≡_, refl, sym, ap, _∙_, subst}
-use Prim.Native.Nat.{ℕ, _+_, _-_, _*_, _≤_, _<_}
+use mathlib.Core.Path.{_≡_, _∙_}
+use Prim.Native.Nat.{ℕ, _-_, _≤_, _<_}
 use native.Mathlib.Omega.{arith}
-use lib.ListN.{length, length-set}
-use Rattle.numbers.specs.Numbers.{at, nth}
-use Rattle.replay.specs.Junk.{junkOf, markOf, dueAt, dueMark, dueRoom, duePlace, wipedBy}
-use Rattle.replay.proofs.Floats.{number, both-nan, same-bits, never}
+use lib.ListN.{length}
+use Rattle.numbers.specs.Numbers.{at}
+use Rattle.replay.specs.Junk.{dueRoom}
+use Rattle.replay.proofs.Floats.{never}
 use borrow.Author.Count.{below-more}
-use borrow.Author.Needs.{needs}
 use Rattle.replay.proofs.compare.cleared.Statement.{statement}
 use Rattle.replay.proofs.compare.cleared.Tie as tie
-use Rattle.replay.proofs.compare.cleared.Reads as reads
-use Rattle.replay.proofs.compare.cleared.Lts as lts
-use Rattle.replay.proofs.compare.due_room.Reads as due-room-reads
-use Rattle.replay.proofs.compare.same.Reads as same-reads
 
 abbrev Inv-loop : tie.InvT-loop
 Inv-loop w n i₀ i-end i = (i ≤ length w) × ((k : ℕ) → k < i → at w k ≡ dueRoom n k)
@@ -21,43 +17,33 @@ Inv-loop w n i₀ i-end i = (i ≤ length w) × ((k : ℕ) → k < i → at w k 
 abbrev μ-loop : tie.MeasureT-loop
 μ-loop w n i₀ i-end i = length w - i
 
--- src/compare.rt:73:5
 loop-holds : tie.Need-loop-holds Inv-loop μ-loop
 loop-holds c = (omega arith, λ k h. absurd (omega arith))
 
--- src/compare.rt:74:18
 mul-same : tie.Need-mul-same Inv-loop μ-loop
 mul-same c = omega arith
 
--- src/compare.rt:74:18
 shared-slice-read-same : tie.Need-shared-slice-read-same Inv-loop μ-loop
 shared-slice-read-same c = omega arith
 
--- src/compare.rt:74:24
 due-room-requires : tie.Need-due-room-requires Inv-loop μ-loop
 due-room-requires c κs = omega arith
 
--- src/compare.rt:74:13
 same-requires : tie.Need-same-requires Inv-loop μ-loop
 same-requires c κs = omega arith
 
--- src/compare.rt:75:13
 returns : tie.Need-returns Inv-loop μ-loop
 returns c = λ e. never e
 
--- src/compare.rt:73:9
 add-i : tie.Need-add-i Inv-loop μ-loop
 add-i c = omega arith
 
--- src/compare.rt:73:5
 loop-less : tie.Need-loop-less Inv-loop μ-loop
 loop-less c = omega arith
 
--- src/compare.rt:73:5
 loop-again : tie.Need-loop-again Inv-loop μ-loop
 loop-again c = (omega arith, below-more _ _ (c .before .before .before .before .before .loop .inv .1) (c .before .same .ensures (not-false _ (c .if1 .left)) ∙ c .before .before .due-room .ensures))
 
--- src/compare.rt:72:1
 returns-2 : tie.Need-returns-2 Inv-loop μ-loop
 returns-2 c = λ e k h. c .before .loop .inv .1 k (omega arith)
 

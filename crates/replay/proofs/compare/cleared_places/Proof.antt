@@ -1,17 +1,14 @@
-use mathlib.Core.Path.{_≡_, refl, sym, ap, _∙_, subst}
-use Prim.Native.Nat.{ℕ, _+_, _-_, _*_, _≤_, _<_}
+-- `cleared_places`: each entry passed is the one that is due. Assumes nothing.
+use mathlib.Core.Path.{_≡_, _∙_}
+use Prim.Native.Nat.{ℕ, _-_, _≤_, _<_}
 use native.Mathlib.Omega.{arith}
-use lib.ListN.{length, length-set}
-use Rattle.numbers.specs.Numbers.{at, nth}
-use Rattle.replay.specs.Junk.{junkOf, markOf, dueAt, dueMark, dueRoom, duePlace, wipedBy}
-use Rattle.replay.proofs.Floats.{number, both-nan, same-bits, never}
+use lib.ListN.{length}
+use Rattle.numbers.specs.Numbers.{nth}
+use Rattle.replay.specs.Junk.{duePlace}
+use Rattle.replay.proofs.Floats.{never}
 use borrow.Author.Count.{below-more}
-use borrow.Author.Needs.{needs}
 use Rattle.replay.proofs.compare.cleared_places.Statement.{statement}
 use Rattle.replay.proofs.compare.cleared_places.Tie as tie
-use Rattle.replay.proofs.compare.cleared_places.Reads as reads
-use Rattle.replay.proofs.compare.cleared_places.Lts as lts
-use Rattle.replay.proofs.compare.due_place.Reads as due-place-reads
 
 abbrev Inv-loop : tie.InvT-loop
 Inv-loop iw n i₀ i-end i = (i ≤ length iw) × ((k : ℕ) → k < i → nth iw k ≡ duePlace n k)
@@ -19,39 +16,30 @@ Inv-loop iw n i₀ i-end i = (i ≤ length iw) × ((k : ℕ) → k < i → nth i
 abbrev μ-loop : tie.MeasureT-loop
 μ-loop iw n i₀ i-end i = length iw - i
 
--- src/compare.rt:88:5
 loop-holds : tie.Need-loop-holds Inv-loop μ-loop
 loop-holds c = (omega arith, λ k h. absurd (omega arith))
 
--- src/compare.rt:89:12
 mul-if1 : tie.Need-mul-if1 Inv-loop μ-loop
 mul-if1 c = omega arith
 
--- src/compare.rt:89:12
 shared-slice-read-if1 : tie.Need-shared-slice-read-if1 Inv-loop μ-loop
 shared-slice-read-if1 c = omega arith
 
--- src/compare.rt:89:21
 due-place-requires : tie.Need-due-place-requires Inv-loop μ-loop
 due-place-requires c κs = omega arith
 
--- src/compare.rt:90:13
 returns : tie.Need-returns Inv-loop μ-loop
 returns c = λ e. never e
 
--- src/compare.rt:88:9
 add-i : tie.Need-add-i Inv-loop μ-loop
 add-i c = omega arith
 
--- src/compare.rt:88:5
 loop-less : tie.Need-loop-less Inv-loop μ-loop
 loop-less c = omega arith
 
--- src/compare.rt:88:5
 loop-again : tie.Need-loop-again Inv-loop μ-loop
 loop-again c = (omega arith, below-more _ _ (c .before .before .before .before .loop .inv .1) (c .if1 .left ∙ c .before .due-place .ensures))
 
--- src/compare.rt:87:1
 returns-2 : tie.Need-returns-2 Inv-loop μ-loop
 returns-2 c = λ e k h. c .before .loop .inv .1 k (omega arith)
 

@@ -1,28 +1,20 @@
-use mathlib.Core.Path.{_≡_, refl, sym, ap, _∙_, subst}
+-- `same`: both NaN, or of the same bits. Assumes nothing.
 use Rattle.replay.proofs.Floats.{number, both-nan, same-bits, never}
-use borrow.Author.Needs.{needs}
 use Rattle.replay.proofs.compare.same.Statement.{statement}
 use Rattle.replay.proofs.compare.same.Tie as tie
-use Rattle.replay.proofs.compare.same.Reads as reads
-use Rattle.replay.proofs.compare.same.Lts as lts
 
--- src/compare.rt:17:9
 returns : tie.Need-returns
 returns c = λ e. both-nan _ _ (c .if1 .taken) e
 
--- src/compare.rt:20:9
 returns-2 : tie.Need-returns-2
 returns-2 c = λ e. never e
 
--- src/compare.rt:22:5
 float-to-bits-result : tie.Need-float-to-bits-result
 float-to-bits-result c = number _ (c .before .if1 .left)
 
--- src/compare.rt:22:24
 float-to-bits-result-2 : tie.Need-float-to-bits-result-2
 float-to-bits-result-2 c = number _ (c .if2 .left)
 
--- src/compare.rt:13:1
 returns-3 : tie.Need-returns-3
 returns-3 c = λ e. same-bits _ _ (c .before .before .good .0 .1) (c .before .before .good .1 .0 .1) e
 

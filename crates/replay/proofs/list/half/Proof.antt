@@ -1,81 +1,61 @@
+-- `half` meets its contract. Assumes nothing.
 use Rattle.replay.proofs.Due.{half-is}
 use native.Mathlib.Omega.{arith}
 use borrow.Author.Needs.{needs}
 use Rattle.replay.proofs.list.half.Statement.{statement}
 use Rattle.replay.proofs.list.half.Tie as tie
-use Rattle.replay.proofs.list.half.Reads as reads
-use Rattle.replay.proofs.list.half.Lts as lts
-use Rattle.replay.proofs.list.wide.Reads as wide-reads
 
--- src/list.rt:78:10
 shared-slice-read-wide : tie.Need-shared-slice-read-wide
 shared-slice-read-wide c = search needs
 
--- src/list.rt:78:5
 wide-requires : tie.Need-wide-requires
 wide-requires c κs = search needs
 
--- src/list.rt:79:28
 add-wide : tie.Need-add-wide
 add-wide c = search needs
 
--- src/list.rt:79:22
 shared-slice-read-wide-2 : tie.Need-shared-slice-read-wide-2
 shared-slice-read-wide-2 c = search needs
 
--- src/list.rt:79:17
 wide-requires-2 : tie.Need-wide-requires-2
 wide-requires-2 c κs = search needs
 
--- src/list.rt:79:11
 mul-result : tie.Need-mul-result
 mul-result c = search needs
 
--- src/list.rt:78:5
 add-result : tie.Need-add-result
 add-result c = search needs
 
--- src/list.rt:80:30
 add-wide-2 : tie.Need-add-wide-2
 add-wide-2 c = search needs
 
--- src/list.rt:80:24
 shared-slice-read-wide-3 : tie.Need-shared-slice-read-wide-3
 shared-slice-read-wide-3 c = search needs
 
--- src/list.rt:80:19
 wide-requires-3 : tie.Need-wide-requires-3
 wide-requires-3 c κs = search needs
 
--- src/list.rt:80:11
 mul-result-2 : tie.Need-mul-result-2
 mul-result-2 c = search needs
 
--- src/list.rt:78:5
 add-result-2 : tie.Need-add-result-2
 add-result-2 c = search needs
 
--- src/list.rt:81:33
 add-wide-3 : tie.Need-add-wide-3
 add-wide-3 c = search needs
 
--- src/list.rt:81:27
 shared-slice-read-wide-4 : tie.Need-shared-slice-read-wide-4
 shared-slice-read-wide-4 c = search needs
 
--- src/list.rt:81:22
 wide-requires-4 : tie.Need-wide-requires-4
 wide-requires-4 c κs = search needs
 
--- src/list.rt:81:11
 mul-result-3 : tie.Need-mul-result-3
 mul-result-3 c = search needs
 
--- src/list.rt:78:5
 add-result-3 : tie.Need-add-result-3
 add-result-3 c = search needs
 
--- src/list.rt:74:1
 returns : tie.Need-returns
 returns c = (half-is _ _ _ _ _ _ (c .before .before .before .before .before .before .wide .ensures .0) (c .before .before .before .before .wide2 .ensures .0) (c .before .before .wide3 .ensures .0) (c .wide4 .ensures .0), omega (arith, c .before .before .before .before .before .before .wide .ensures, c .before .before .before .before .wide2 .ensures, c .before .before .wide3 .ensures, c .wide4 .ensures))
 

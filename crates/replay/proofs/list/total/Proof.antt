@@ -1,11 +1,8 @@
-use Prim.Native.Nat.{ℕ, _+_, _-_, _*_, _≤_, _<_}
+-- `total` meets its contract. Assumes nothing.
+use Prim.Native.Nat.{_-_, _*_, _≤_}
 use native.Mathlib.Omega.{arith}
-use borrow.Author.Needs.{needs}
 use Rattle.replay.proofs.list.total.Statement.{statement}
 use Rattle.replay.proofs.list.total.Tie as tie
-use Rattle.replay.proofs.list.total.Reads as reads
-use Rattle.replay.proofs.list.total.Lts as lts
-use Rattle.replay.proofs.list.length_at.Reads as length-at-reads
 
 abbrev Inv-loop : tie.InvT-loop
 Inv-loop call from to sum₀ i₀ sum i = (from ≤ i) × (i ≤ to) × (sum ≤ 1200 * (i - from))
@@ -13,31 +10,24 @@ Inv-loop call from to sum₀ i₀ sum i = (from ≤ i) × (i ≤ to) × (sum ≤
 abbrev μ-loop : tie.MeasureT-loop
 μ-loop call from to sum₀ i₀ sum i = to - i
 
--- src/list.rt:179:5
 loop-holds : tie.Need-loop-holds Inv-loop μ-loop
 loop-holds c = omega arith
 
--- src/list.rt:180:16
 length-at-requires : tie.Need-length-at-requires Inv-loop μ-loop
 length-at-requires c κs = omega arith
 
--- src/list.rt:180:9
 add-sum : tie.Need-add-sum Inv-loop μ-loop
 add-sum c = omega arith
 
--- src/list.rt:181:9
 add-i : tie.Need-add-i Inv-loop μ-loop
 add-i c = omega arith
 
--- src/list.rt:179:5
 loop-less : tie.Need-loop-less Inv-loop μ-loop
 loop-less c = omega arith
 
--- src/list.rt:179:5
 loop-again : tie.Need-loop-again Inv-loop μ-loop
 loop-again c = omega arith
 
--- src/list.rt:173:1
 returns : tie.Need-returns Inv-loop μ-loop
 returns c = omega arith
 

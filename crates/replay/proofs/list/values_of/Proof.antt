@@ -1,14 +1,11 @@
-use mathlib.Core.Path.{_≡_, refl, sym, ap, _∙_, subst}
-use Prim.Native.Nat.{ℕ, _+_, _-_, _*_, _≤_, _<_}
+-- `values_of` meets its contract. Assumes nothing.
+use mathlib.Core.Path.{_≡_}
+use Prim.Native.Nat.{_-_, _≤_}
 use native.Mathlib.Omega.{arith}
 use lib.ListN.{length, length-set}
 use borrow.Author.Needs.{needs}
 use Rattle.replay.proofs.list.values_of.Statement.{statement}
 use Rattle.replay.proofs.list.values_of.Tie as tie
-use Rattle.replay.proofs.list.values_of.Reads as reads
-use Rattle.replay.proofs.list.values_of.Lts as lts
-use Rattle.replay.proofs.list.no_values.Reads as no-values-reads
-use Rattle.replay.proofs.list.value.Reads as value-reads
 
 abbrev Inv-loop : tie.InvT-loop
 Inv-loop call count values₀ i₀ values i = (i ≤ count) × (12288 ≡ length values)
@@ -16,47 +13,36 @@ Inv-loop call count values₀ i₀ values i = (i ≤ count) × (12288 ≡ length
 abbrev μ-loop : tie.MeasureT-loop
 μ-loop call count values₀ i₀ values i = count - i
 
--- src/list.rt:156:22
 no-values-requires : tie.Need-no-values-requires Inv-loop μ-loop
 no-values-requires c κs = omega arith
 
--- src/list.rt:157:5
 loop-holds : tie.Need-loop-holds Inv-loop μ-loop
 loop-holds c = omega arith
 
--- src/list.rt:158:27
 mul-value : tie.Need-mul-value Inv-loop μ-loop
 mul-value c = omega arith
 
--- src/list.rt:158:27
 shared-slice-read-value : tie.Need-shared-slice-read-value Inv-loop μ-loop
 shared-slice-read-value c = omega arith
 
--- src/list.rt:158:21
 value-requires : tie.Need-value-requires Inv-loop μ-loop
 value-requires c κs = omega arith
 
--- src/list.rt:158:9
 mul-values : tie.Need-mul-values Inv-loop μ-loop
 mul-values c = omega arith
 
--- src/list.rt:158:9
 array-write-values : tie.Need-array-write-values Inv-loop μ-loop
 array-write-values c = omega arith
 
--- src/list.rt:157:9
 add-i : tie.Need-add-i Inv-loop μ-loop
 add-i c = omega arith
 
--- src/list.rt:157:5
 loop-less : tie.Need-loop-less Inv-loop μ-loop
 loop-less c = omega arith
 
--- src/list.rt:157:5
 loop-again : tie.Need-loop-again Inv-loop μ-loop
 loop-again c = (omega arith, simp length-set (c .before .before .before .loop .inv .1))
 
--- src/list.rt:152:1
 returns : tie.Need-returns Inv-loop μ-loop
 returns c = search needs
 

@@ -1,33 +1,24 @@
+-- `word` meets its contract. Assumes nothing.
 use Rattle.replay.proofs.Due.{word-is}
-use native.Mathlib.Omega.{arith}
 use borrow.Author.Needs.{needs}
 use Rattle.replay.proofs.list.word.Statement.{statement}
 use Rattle.replay.proofs.list.word.Tie as tie
-use Rattle.replay.proofs.list.word.Reads as reads
-use Rattle.replay.proofs.list.word.Lts as lts
-use Rattle.replay.proofs.list.half.Reads as half-reads
 
--- src/list.rt:89:5
 half-requires : tie.Need-half-requires
 half-requires c κs = search needs
 
--- src/list.rt:89:48
 add-half : tie.Need-add-half
 add-half c = search needs
 
--- src/list.rt:89:36
 half-requires-2 : tie.Need-half-requires-2
 half-requires-2 c κs = search needs
 
--- src/list.rt:89:23
 mul-result : tie.Need-mul-result
 mul-result c = search needs
 
--- src/list.rt:89:5
 add-result : tie.Need-add-result
 add-result c = search needs
 
--- src/list.rt:85:1
 returns : tie.Need-returns
 returns c = word-is _ _ _ _ (c .before .half .ensures .0) (c .half2 .ensures .0)
 

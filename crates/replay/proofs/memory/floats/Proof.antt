@@ -1,14 +1,11 @@
-use mathlib.Core.Path.{_≡_, refl, sym, ap, _∙_, subst}
-use Prim.Native.Nat.{ℕ, _+_, _-_, _*_, _≤_, _<_}
+-- `floats` meets its contract. Assumes nothing.
+use mathlib.Core.Path.{_≡_}
+use Prim.Native.Nat.{_-_, _≤_}
 use native.Mathlib.Omega.{arith}
 use lib.ListN.{length, length-set}
 use borrow.Author.Needs.{needs}
 use Rattle.replay.proofs.memory.floats.Statement.{statement}
 use Rattle.replay.proofs.memory.floats.Tie as tie
-use Rattle.replay.proofs.memory.floats.Reads as reads
-use Rattle.replay.proofs.memory.floats.Lts as lts
-use Rattle.replay.proofs.memory.due.Reads as due-reads
-use Rattle.replay.proofs.memory.no_floats.Reads as no-floats-reads
 
 abbrev Inv-loop : tie.InvT-loop
 Inv-loop n values from memory₀ i₀ memory i = (i ≤ 1200) × (1200 ≡ length memory)
@@ -16,39 +13,30 @@ Inv-loop n values from memory₀ i₀ memory i = (i ≤ 1200) × (1200 ≡ lengt
 abbrev μ-loop : tie.MeasureT-loop
 μ-loop n values from memory₀ i₀ memory i = 1200 - i
 
--- src/memory.rt:49:22
 no-floats-requires : tie.Need-no-floats-requires Inv-loop μ-loop
 no-floats-requires c κs = omega arith
 
--- src/memory.rt:50:5
 loop-holds : tie.Need-loop-holds Inv-loop μ-loop
 loop-holds c = omega arith
 
--- src/memory.rt:51:21
 due-requires : tie.Need-due-requires Inv-loop μ-loop
 due-requires c κs = omega arith
 
--- src/memory.rt:51:9
 mul-memory : tie.Need-mul-memory Inv-loop μ-loop
 mul-memory c = omega arith
 
--- src/memory.rt:51:9
 array-write-memory : tie.Need-array-write-memory Inv-loop μ-loop
 array-write-memory c = omega arith
 
--- src/memory.rt:50:9
 add-i : tie.Need-add-i Inv-loop μ-loop
 add-i c = omega arith
 
--- src/memory.rt:50:5
 loop-less : tie.Need-loop-less Inv-loop μ-loop
 loop-less c = omega arith
 
--- src/memory.rt:50:5
 loop-again : tie.Need-loop-again Inv-loop μ-loop
 loop-again c = (omega arith, simp length-set (c .before .before .loop .inv .1))
 
--- src/memory.rt:45:1
 returns : tie.Need-returns Inv-loop μ-loop
 returns c = search needs
 

@@ -1,131 +1,92 @@
+-- `replay_one`: every slice that is lent or compared lies within its memory. Assumes nothing.
 use lib.Seq.{length-take-le, length-front}
 use native.Mathlib.Omega.{arith}
-use mathlib.Core.Path.{_≡_, refl, sym, ap, _∙_, subst}
+use mathlib.Core.Path.{sym, _∙_}
 use borrow.Author.Needs.{needs}
 use Rattle.replay.proofs.trial.replay_one.Statement.{statement}
 use Rattle.replay.proofs.trial.replay_one.Tie as tie
-use Rattle.replay.proofs.trial.replay_one.Reads as reads
-use Rattle.replay.proofs.trial.replay_one.Lts as lts
-use Rattle.replay.proofs.calls.call_one.Reads as call-one-reads
-use Rattle.replay.proofs.compare.answers.Reads as answers-reads
-use Rattle.replay.proofs.compare.holds.Reads as holds-reads
-use Rattle.replay.proofs.compare.written.Reads as written-reads
-use Rattle.replay.proofs.list.length_at.Reads as length-at-reads
-use Rattle.replay.proofs.list.total.Reads as total-reads
-use Rattle.replay.proofs.memory.floats.Reads as floats-reads
-use Rattle.replay.proofs.memory.places.Reads as places-reads
-use Rattle.replay.proofs.memory.room.Reads as room-reads
-use Rattle.replay.proofs.trial.closing.Reads as closing-reads
 
--- src/trial.rt:208:9
 length-at-requires : tie.Need-length-at-requires
-length-at-requires c κs = search needs
+length-at-requires c κs = omega arith
 
--- src/trial.rt:209:30
 add-length-at : tie.Need-add-length-at
-add-length-at c = search needs
+add-length-at c = omega arith
 
--- src/trial.rt:209:9
 length-at-requires-2 : tie.Need-length-at-requires-2
-length-at-requires-2 c κs = search needs
+length-at-requires-2 c κs = omega arith
 
--- src/trial.rt:210:31
 add-length-at-2 : tie.Need-add-length-at-2
-add-length-at-2 c = search needs
+add-length-at-2 c = omega arith
 
--- src/trial.rt:210:9
 length-at-requires-3 : tie.Need-length-at-requires-3
-length-at-requires-3 c κs = search needs
+length-at-requires-3 c κs = omega arith
 
--- src/trial.rt:211:19
 floats-requires : tie.Need-floats-requires
-floats-requires c κs = search needs
+floats-requires c κs = omega arith
 
--- src/trial.rt:212:17
 room-requires : tie.Need-room-requires
-room-requires c κs = search needs
+room-requires c κs = omega arith
 
--- src/trial.rt:213:18
 places-requires : tie.Need-places-requires
-places-requires c κs = search needs
+places-requires c κs = omega arith
 
--- src/trial.rt:214:51
 array-borrow-prefix-out : tie.Need-array-borrow-prefix-out
-array-borrow-prefix-out c = search needs
+array-borrow-prefix-out c = omega arith
 
--- src/trial.rt:214:51
 slice-aggregate-call-one : tie.Need-slice-aggregate-call-one
 slice-aggregate-call-one c = sym (length-take-le (c .before .before .before .before .before .before .length-at .result) (c .before .before .before .floats .result) (omega (arith, c .before .before .before .before .before .before .length-at .ensures, c .before .before .before .floats .ensures)))
 
--- src/trial.rt:214:69
 array-borrow-prefix-w : tie.Need-array-borrow-prefix-w
-array-borrow-prefix-w c = search needs
+array-borrow-prefix-w c = omega arith
 
--- src/trial.rt:214:69
 slice-aggregate-call-one-2 : tie.Need-slice-aggregate-call-one-2
 slice-aggregate-call-one-2 c = sym (length-take-le (c .before .before .before .before .before .before .length-at2 .result) (c .before .before .before .room .result) (omega (arith, c .before .before .before .before .before .before .length-at2 .ensures, c .before .before .before .room .ensures)))
 
--- src/trial.rt:214:83
 array-borrow-prefix-iw : tie.Need-array-borrow-prefix-iw
-array-borrow-prefix-iw c = search needs
+array-borrow-prefix-iw c = omega arith
 
--- src/trial.rt:214:83
 slice-aggregate-call-one-3 : tie.Need-slice-aggregate-call-one-3
 slice-aggregate-call-one-3 c = sym (length-take-le (c .before .before .before .before .before .before .length-at3 .result) (c .before .before .before .places .result) (omega (arith, c .before .before .before .before .before .before .length-at3 .ensures, c .before .before .before .places .ensures)))
 
--- src/trial.rt:214:9
 call-one-requires : tie.Need-call-one-requires
 call-one-requires c κs = search needs
 
--- src/trial.rt:215:9
 answers-requires : tie.Need-answers-requires
-answers-requires c κs = search needs
+answers-requires c κs = omega arith
 
--- src/trial.rt:216:9
 returns : tie.Need-returns
 returns c = search needs
 
--- src/trial.rt:218:18
 add-answer : tie.Need-add-answer
-add-answer c = search needs
+add-answer c = omega arith
 
--- src/trial.rt:218:32
 total-requires : tie.Need-total-requires
-total-requires c κs = search needs
+total-requires c κs = omega arith
 
--- src/trial.rt:218:18
 add-answer-2 : tie.Need-add-answer-2
-add-answer-2 c = search needs
+add-answer-2 c = omega arith
 
--- src/trial.rt:219:15
 slice-aggregate-holds : tie.Need-slice-aggregate-holds
 slice-aggregate-holds c = c .before .before .before .before .before .before .before .before .before .before .before .before .before .floats .ensures ∙ sym (length-front (c .before .before .before .before .before .before .before .before .before .before .before .before .before .floats .result) (c .before .before .before .before .before .before .before .call-one .last .1 .1 .1 .0) (c .before .before .before .before .before .before .before .before .before .before .before .before .before .before .before .before .length-at .result) (c .before .before .before .before .before .before .before .call-one .kept .1 .1 .1 .0))
 
--- src/trial.rt:219:21
 written-requires : tie.Need-written-requires
-written-requires c κs = search needs
+written-requires c κs = omega arith
 
--- src/trial.rt:219:9
 holds-requires : tie.Need-holds-requires
-holds-requires c κs = search needs
+holds-requires c κs = omega arith
 
--- src/trial.rt:220:9
 returns-2 : tie.Need-returns-2
 returns-2 c = search needs
 
--- src/trial.rt:222:21
 slice-aggregate-closing : tie.Need-slice-aggregate-closing
 slice-aggregate-closing c = c .before .before .before .before .before .before .before .before .before .before .before .before .before .before .before .before .room .ensures ∙ sym (length-front (c .before .before .before .before .before .before .before .before .before .before .before .before .before .before .before .before .room .result) (c .before .before .before .before .before .before .before .before .before .before .before .call-one .last .1 .1 .1 .1 .0) (c .before .before .before .before .before .before .before .before .before .before .before .before .before .before .before .before .before .before .before .length-at2 .result) (c .before .before .before .before .before .before .before .before .before .before .before .call-one .kept .1 .1 .1 .1 .0))
 
--- src/trial.rt:222:25
 slice-aggregate-closing-2 : tie.Need-slice-aggregate-closing-2
 slice-aggregate-closing-2 c = c .before .before .before .before .before .before .before .before .before .before .before .before .before .before .before .before .places .ensures ∙ sym (length-front (c .before .before .before .before .before .before .before .before .before .before .before .before .before .before .before .before .places .result) (c .before .before .before .before .before .before .before .before .before .before .before .before .call-one .last .1 .1 .1 .1 .1 .0) (c .before .before .before .before .before .before .before .before .before .before .before .before .before .before .before .before .before .before .before .length-at3 .result) (c .before .before .before .before .before .before .before .before .before .before .before .before .call-one .kept .1 .1 .1 .1 .1 .0))
 
--- src/trial.rt:222:5
 closing-requires : tie.Need-closing-requires
-closing-requires c κs = search needs
+closing-requires c κs = omega arith
 
--- src/trial.rt:205:1
 returns-3 : tie.Need-returns-3
 returns-3 c = search needs
 

@@ -1,171 +1,122 @@
+-- `replay_pair`: every slice that is lent or compared lies within its memory. Assumes nothing.
 use lib.Seq.{length-take-le, length-front}
 use native.Mathlib.Omega.{arith}
-use mathlib.Core.Path.{_≡_, refl, sym, ap, _∙_, subst}
+use mathlib.Core.Path.{sym, _∙_}
 use borrow.Author.Needs.{needs}
 use Rattle.replay.proofs.trial.replay_pair.Statement.{statement}
 use Rattle.replay.proofs.trial.replay_pair.Tie as tie
-use Rattle.replay.proofs.trial.replay_pair.Reads as reads
-use Rattle.replay.proofs.trial.replay_pair.Lts as lts
-use Rattle.replay.proofs.calls.call_pair.Reads as call-pair-reads
-use Rattle.replay.proofs.compare.answers.Reads as answers-reads
-use Rattle.replay.proofs.compare.holds.Reads as holds-reads
-use Rattle.replay.proofs.compare.written.Reads as written-reads
-use Rattle.replay.proofs.list.length_at.Reads as length-at-reads
-use Rattle.replay.proofs.list.total.Reads as total-reads
-use Rattle.replay.proofs.memory.floats.Reads as floats-reads
-use Rattle.replay.proofs.memory.places.Reads as places-reads
-use Rattle.replay.proofs.memory.room.Reads as room-reads
-use Rattle.replay.proofs.trial.closing.Reads as closing-reads
 
--- src/trial.rt:174:9
 length-at-requires : tie.Need-length-at-requires
-length-at-requires c κs = search needs
+length-at-requires c κs = omega arith
 
--- src/trial.rt:175:30
 add-length-at : tie.Need-add-length-at
-add-length-at c = search needs
+add-length-at c = omega arith
 
--- src/trial.rt:175:9
 length-at-requires-2 : tie.Need-length-at-requires-2
-length-at-requires-2 c κs = search needs
+length-at-requires-2 c κs = omega arith
 
--- src/trial.rt:176:30
 add-length-at-2 : tie.Need-add-length-at-2
-add-length-at-2 c = search needs
+add-length-at-2 c = omega arith
 
--- src/trial.rt:176:9
 length-at-requires-3 : tie.Need-length-at-requires-3
-length-at-requires-3 c κs = search needs
+length-at-requires-3 c κs = omega arith
 
--- src/trial.rt:177:31
 add-length-at-3 : tie.Need-add-length-at-3
-add-length-at-3 c = search needs
+add-length-at-3 c = omega arith
 
--- src/trial.rt:177:9
 length-at-requires-4 : tie.Need-length-at-requires-4
-length-at-requires-4 c κs = search needs
+length-at-requires-4 c κs = omega arith
 
--- src/trial.rt:178:17
 floats-requires : tie.Need-floats-requires
-floats-requires c κs = search needs
+floats-requires c κs = omega arith
 
--- src/trial.rt:179:27
 floats-requires-2 : tie.Need-floats-requires-2
-floats-requires-2 c κs = search needs
+floats-requires-2 c κs = omega arith
 
--- src/trial.rt:180:17
 room-requires : tie.Need-room-requires
-room-requires c κs = search needs
+room-requires c κs = omega arith
 
--- src/trial.rt:181:18
 places-requires : tie.Need-places-requires
-places-requires c κs = search needs
+places-requires c κs = omega arith
 
--- src/trial.rt:186:9
 array-borrow-prefix-x : tie.Need-array-borrow-prefix-x
-array-borrow-prefix-x c = search needs
+array-borrow-prefix-x c = omega arith
 
--- src/trial.rt:186:9
 slice-aggregate-call-pair : tie.Need-slice-aggregate-call-pair
 slice-aggregate-call-pair c = sym (length-take-le (c .before .before .before .before .before .before .before .before .length-at .result) (c .before .before .before .before .floats .result) (omega (arith, c .before .before .before .before .before .before .before .before .length-at .ensures, c .before .before .before .before .floats .ensures)))
 
--- src/trial.rt:187:9
 array-borrow-prefix-multipliers : tie.Need-array-borrow-prefix-multipliers
-array-borrow-prefix-multipliers c = search needs
+array-borrow-prefix-multipliers c = omega arith
 
--- src/trial.rt:187:9
 slice-aggregate-call-pair-2 : tie.Need-slice-aggregate-call-pair-2
 slice-aggregate-call-pair-2 c = sym (length-take-le (c .before .before .before .before .before .before .before .before .length-at2 .result) (c .before .before .before .before .floats2 .result) (omega (arith, c .before .before .before .before .before .before .before .before .length-at2 .ensures, c .before .before .before .before .floats2 .ensures)))
 
--- src/trial.rt:188:9
 array-borrow-prefix-w : tie.Need-array-borrow-prefix-w
-array-borrow-prefix-w c = search needs
+array-borrow-prefix-w c = omega arith
 
--- src/trial.rt:188:9
 slice-aggregate-call-pair-3 : tie.Need-slice-aggregate-call-pair-3
 slice-aggregate-call-pair-3 c = sym (length-take-le (c .before .before .before .before .before .before .before .before .length-at3 .result) (c .before .before .before .before .room .result) (omega (arith, c .before .before .before .before .before .before .before .before .length-at3 .ensures, c .before .before .before .before .room .ensures)))
 
--- src/trial.rt:189:9
 array-borrow-prefix-iw : tie.Need-array-borrow-prefix-iw
-array-borrow-prefix-iw c = search needs
+array-borrow-prefix-iw c = omega arith
 
--- src/trial.rt:189:9
 slice-aggregate-call-pair-4 : tie.Need-slice-aggregate-call-pair-4
 slice-aggregate-call-pair-4 c = sym (length-take-le (c .before .before .before .before .before .before .before .before .length-at4 .result) (c .before .before .before .before .places .result) (omega (arith, c .before .before .before .before .before .before .before .before .length-at4 .ensures, c .before .before .before .before .places .ensures)))
 
--- src/trial.rt:182:9
 call-pair-requires : tie.Need-call-pair-requires
 call-pair-requires c κs = search needs
 
--- src/trial.rt:191:9
 answers-requires : tie.Need-answers-requires
-answers-requires c κs = search needs
+answers-requires c κs = omega arith
 
--- src/trial.rt:192:9
 returns : tie.Need-returns
 returns c = search needs
 
--- src/trial.rt:194:18
 add-answer : tie.Need-add-answer
-add-answer c = search needs
+add-answer c = omega arith
 
--- src/trial.rt:194:32
 total-requires : tie.Need-total-requires
 total-requires c κs = omega (arith, c .before .before .before .before .before .before .before .before .before .before .before .before .before .floats2 .ensures, c .before .before .before .before .before .before .before .before .before .before .before .before .before .before .floats .ensures, c .before .before .before .before .before .before .before .before .before .before .before .before .before .before .before .length-at4 .ensures, c .before .before .before .before .before .before .before .before .before .before .before .before .before .before .before .before .length-at3 .ensures, c .before .before .before .before .before .before .before .before .before .before .before .before .before .before .before .before .before .length-at2 .ensures, c .before .before .before .before .before .before .before .before .before .before .before .before .before .before .before .before .before .before .length-at .ensures, c .before .before .before .before .before .before .before .before .before .before .before .before .before .before .before .before .before .before .before .before .before .pre)
 
--- src/trial.rt:194:18
 add-answer-2 : tie.Need-add-answer-2
 add-answer-2 c = omega (arith, c .total .ensures, c .before .before .before .before .before .before .before .before .before .before .before .before .before .before .floats2 .ensures, c .before .before .before .before .before .before .before .before .before .before .before .before .before .before .before .floats .ensures, c .before .before .before .before .before .before .before .before .before .before .before .before .before .before .before .before .length-at4 .ensures, c .before .before .before .before .before .before .before .before .before .before .before .before .before .before .before .before .before .length-at3 .ensures, c .before .before .before .before .before .before .before .before .before .before .before .before .before .before .before .before .before .before .length-at2 .ensures, c .before .before .before .before .before .before .before .before .before .before .before .before .before .before .before .before .before .before .before .length-at .ensures, c .before .before .before .before .before .before .before .before .before .before .before .before .before .before .before .before .before .before .before .before .before .before .pre)
 
--- src/trial.rt:195:15
 slice-aggregate-holds : tie.Need-slice-aggregate-holds
 slice-aggregate-holds c = c .before .before .before .before .before .before .before .before .before .before .before .before .before .before .before .before .floats .ensures ∙ sym (length-front (c .before .before .before .before .before .before .before .before .before .before .before .before .before .before .before .before .floats .result) (c .before .before .before .before .before .before .before .before .call-pair .last .1 .1 .1 .0) (c .before .before .before .before .before .before .before .before .before .before .before .before .before .before .before .before .before .before .before .before .length-at .result) (c .before .before .before .before .before .before .before .before .call-pair .kept .1 .1 .1 .0))
 
--- src/trial.rt:195:19
 written-requires : tie.Need-written-requires
-written-requires c κs = search needs
+written-requires c κs = omega arith
 
--- src/trial.rt:195:9
 holds-requires : tie.Need-holds-requires
 holds-requires c κs = omega (arith, c .written .ensures, c .before .before .total .ensures, c .before .before .before .before .before .before .before .before .before .before .before .before .before .before .before .before .floats2 .ensures, c .before .before .before .before .before .before .before .before .before .before .before .before .before .before .before .before .before .floats .ensures, c .before .before .before .before .before .before .before .before .before .before .before .before .before .before .before .before .before .before .length-at4 .ensures, c .before .before .before .before .before .before .before .before .before .before .before .before .before .before .before .before .before .before .before .length-at3 .ensures, c .before .before .before .before .before .before .before .before .before .before .before .before .before .before .before .before .before .before .before .before .length-at2 .ensures, c .before .before .before .before .before .before .before .before .before .before .before .before .before .before .before .before .before .before .before .before .before .length-at .ensures, c .before .before .before .before .before .before .before .before .before .before .before .before .before .before .before .before .before .before .before .before .before .before .before .before .pre)
 
--- src/trial.rt:196:9
 returns-2 : tie.Need-returns-2
 returns-2 c = search needs
 
--- src/trial.rt:198:15
 slice-aggregate-holds-2 : tie.Need-slice-aggregate-holds-2
 slice-aggregate-holds-2 c = c .before .before .before .before .before .before .before .before .before .before .before .before .before .before .before .before .before .before .before .floats2 .ensures ∙ sym (length-front (c .before .before .before .before .before .before .before .before .before .before .before .before .before .before .before .before .before .before .before .floats2 .result) (c .before .before .before .before .before .before .before .before .before .before .before .before .call-pair .last .1 .1 .1 .1 .0) (c .before .before .before .before .before .before .before .before .before .before .before .before .before .before .before .before .before .before .before .before .before .before .before .length-at2 .result) (c .before .before .before .before .before .before .before .before .before .before .before .before .call-pair .kept .1 .1 .1 .1 .0))
 
--- src/trial.rt:198:29
 written-requires-2 : tie.Need-written-requires-2
-written-requires-2 c κs = search needs
+written-requires-2 c κs = omega arith
 
--- src/trial.rt:198:58
 add-holds : tie.Need-add-holds
 add-holds c = omega (arith, c .written2 .ensures, c .before .before .before .before .written .ensures, c .before .before .before .before .before .before .total .ensures, c .before .before .before .before .before .before .before .before .before .before .before .before .before .before .before .before .before .before .before .before .floats2 .ensures, c .before .before .before .before .before .before .before .before .before .before .before .before .before .before .before .before .before .before .before .before .before .floats .ensures, c .before .before .before .before .before .before .before .before .before .before .before .before .before .before .before .before .before .before .before .before .before .before .length-at4 .ensures, c .before .before .before .before .before .before .before .before .before .before .before .before .before .before .before .before .before .before .before .before .before .before .before .length-at3 .ensures, c .before .before .before .before .before .before .before .before .before .before .before .before .before .before .before .before .before .before .before .before .before .before .before .before .length-at2 .ensures, c .before .before .before .before .before .before .before .before .before .before .before .before .before .before .before .before .before .before .before .before .before .before .before .before .before .length-at .ensures, c .before .before .before .before .before .before .before .before .before .before .before .before .before .before .before .before .before .before .before .before .before .before .before .before .before .before .before .before .pre)
 
--- src/trial.rt:198:9
 holds-requires-2 : tie.Need-holds-requires-2
 holds-requires-2 c κs = omega (arith, c .written2 .ensures, c .before .before .before .before .written .ensures, c .before .before .before .before .before .before .total .ensures, c .before .before .before .before .before .before .before .before .before .before .before .before .before .before .before .before .before .before .before .before .floats2 .ensures, c .before .before .before .before .before .before .before .before .before .before .before .before .before .before .before .before .before .before .before .before .before .floats .ensures, c .before .before .before .before .before .before .before .before .before .before .before .before .before .before .before .before .before .before .before .before .before .before .length-at4 .ensures, c .before .before .before .before .before .before .before .before .before .before .before .before .before .before .before .before .before .before .before .before .before .before .before .length-at3 .ensures, c .before .before .before .before .before .before .before .before .before .before .before .before .before .before .before .before .before .before .before .before .before .before .before .before .length-at2 .ensures, c .before .before .before .before .before .before .before .before .before .before .before .before .before .before .before .before .before .before .before .before .before .before .before .before .before .length-at .ensures, c .before .before .before .before .before .before .before .before .before .before .before .before .before .before .before .before .before .before .before .before .before .before .before .before .before .before .before .before .pre)
 
--- src/trial.rt:199:9
 returns-3 : tie.Need-returns-3
 returns-3 c = search needs
 
--- src/trial.rt:201:21
 slice-aggregate-closing : tie.Need-slice-aggregate-closing
 slice-aggregate-closing c = c .before .before .before .before .before .before .before .before .before .before .before .before .before .before .before .before .before .before .before .before .before .before .room .ensures ∙ sym (length-front (c .before .before .before .before .before .before .before .before .before .before .before .before .before .before .before .before .before .before .before .before .before .before .room .result) (c .before .before .before .before .before .before .before .before .before .before .before .before .before .before .before .before .call-pair .last .1 .1 .1 .1 .1 .0) (c .before .before .before .before .before .before .before .before .before .before .before .before .before .before .before .before .before .before .before .before .before .before .before .before .before .before .length-at3 .result) (c .before .before .before .before .before .before .before .before .before .before .before .before .before .before .before .before .call-pair .kept .1 .1 .1 .1 .1 .0))
 
--- src/trial.rt:201:25
 slice-aggregate-closing-2 : tie.Need-slice-aggregate-closing-2
 slice-aggregate-closing-2 c = c .before .before .before .before .before .before .before .before .before .before .before .before .before .before .before .before .before .before .before .before .before .before .places .ensures ∙ sym (length-front (c .before .before .before .before .before .before .before .before .before .before .before .before .before .before .before .before .before .before .before .before .before .before .places .result) (c .before .before .before .before .before .before .before .before .before .before .before .before .before .before .before .before .before .call-pair .last .1 .1 .1 .1 .1 .1 .0) (c .before .before .before .before .before .before .before .before .before .before .before .before .before .before .before .before .before .before .before .before .before .before .before .before .before .before .length-at4 .result) (c .before .before .before .before .before .before .before .before .before .before .before .before .before .before .before .before .before .call-pair .kept .1 .1 .1 .1 .1 .1 .0))
 
--- src/trial.rt:201:5
 closing-requires : tie.Need-closing-requires
-closing-requires c κs = search needs
+closing-requires c κs = omega arith
 
--- src/trial.rt:171:1
 returns-4 : tie.Need-returns-4
 returns-4 c = search needs
 

@@ -1,184 +1,131 @@
+-- `replay_qr`: every slice that is lent or compared lies within its memory. Assumes nothing.
 use lib.Seq.{length-take-le, length-front}
 use native.Mathlib.Omega.{arith}
-use mathlib.Core.Path.{_≡_, refl, sym, ap, _∙_, subst}
+use mathlib.Core.Path.{sym, _∙_}
 use borrow.Author.Needs.{needs}
 use Rattle.replay.proofs.trial.replay_qr.Statement.{statement}
 use Rattle.replay.proofs.trial.replay_qr.Tie as tie
-use Rattle.replay.proofs.trial.replay_qr.Reads as reads
-use Rattle.replay.proofs.trial.replay_qr.Lts as lts
-use Rattle.replay.proofs.calls.call_qr.Reads as call-qr-reads
-use Rattle.replay.proofs.compare.answers.Reads as answers-reads
-use Rattle.replay.proofs.compare.told.Reads as told-reads
-use Rattle.replay.proofs.list.length_at.Reads as length-at-reads
-use Rattle.replay.proofs.list.total.Reads as total-reads
-use Rattle.replay.proofs.memory.floats.Reads as floats-reads
-use Rattle.replay.proofs.memory.marks.Reads as marks-reads
-use Rattle.replay.proofs.memory.places.Reads as places-reads
-use Rattle.replay.proofs.memory.room.Reads as room-reads
-use Rattle.replay.proofs.trial.closing.Reads as closing-reads
-use Rattle.replay.proofs.trial.right_qr.Reads as right-qr-reads
 
--- src/trial.rt:88:9
 length-at-requires : tie.Need-length-at-requires
-length-at-requires c κs = search needs
+length-at-requires c κs = omega arith
 
--- src/trial.rt:89:9
 length-at-requires-2 : tie.Need-length-at-requires-2
-length-at-requires-2 c κs = search needs
+length-at-requires-2 c κs = omega arith
 
--- src/trial.rt:90:9
 length-at-requires-3 : tie.Need-length-at-requires-3
-length-at-requires-3 c κs = search needs
+length-at-requires-3 c κs = omega arith
 
--- src/trial.rt:91:9
 length-at-requires-4 : tie.Need-length-at-requires-4
-length-at-requires-4 c κs = search needs
+length-at-requires-4 c κs = omega arith
 
--- src/trial.rt:92:9
 length-at-requires-5 : tie.Need-length-at-requires-5
-length-at-requires-5 c κs = search needs
+length-at-requires-5 c κs = omega arith
 
--- src/trial.rt:93:9
 length-at-requires-6 : tie.Need-length-at-requires-6
-length-at-requires-6 c κs = search needs
+length-at-requires-6 c κs = omega arith
 
--- src/trial.rt:94:17
 floats-requires : tie.Need-floats-requires
-floats-requires c κs = search needs
+floats-requires c κs = omega arith
 
--- src/trial.rt:95:17
 floats-requires-2 : tie.Need-floats-requires-2
-floats-requires-2 c κs = search needs
+floats-requires-2 c κs = omega arith
 
--- src/trial.rt:96:17
 floats-requires-3 : tie.Need-floats-requires-3
-floats-requires-3 c κs = search needs
+floats-requires-3 c κs = omega arith
 
--- src/trial.rt:97:20
 marks-requires : tie.Need-marks-requires
-marks-requires c κs = search needs
+marks-requires c κs = omega arith
 
--- src/trial.rt:98:17
 room-requires : tie.Need-room-requires
-room-requires c κs = search needs
+room-requires c κs = omega arith
 
--- src/trial.rt:99:18
 places-requires : tie.Need-places-requires
-places-requires c κs = search needs
+places-requires c κs = omega arith
 
--- src/trial.rt:104:9
 array-borrow-prefix-r : tie.Need-array-borrow-prefix-r
-array-borrow-prefix-r c = search needs
+array-borrow-prefix-r c = omega arith
 
--- src/trial.rt:104:9
 slice-aggregate-call-qr : tie.Need-slice-aggregate-call-qr
 slice-aggregate-call-qr c = sym (length-take-le (c .before .before .before .before .before .before .before .before .before .before .before .before .length-at .result) (c .before .before .before .before .before .before .floats .result) (omega (arith, c .before .before .before .before .before .before .before .before .before .before .before .before .length-at .ensures, c .before .before .before .before .before .before .floats .ensures)))
 
--- src/trial.rt:105:9
 array-borrow-prefix-perm : tie.Need-array-borrow-prefix-perm
-array-borrow-prefix-perm c = search needs
+array-borrow-prefix-perm c = omega arith
 
--- src/trial.rt:105:9
 slice-aggregate-call-qr-2 : tie.Need-slice-aggregate-call-qr-2
 slice-aggregate-call-qr-2 c = sym (length-take-le (c .before .before .before .before .before .before .before .before .before .before .length-at4 .result) (c .before .before .before .before .marks .result) (omega (arith, c .before .before .before .before .before .before .before .before .before .before .length-at4 .ensures, c .before .before .before .before .marks .ensures)))
 
--- src/trial.rt:106:9
 array-borrow-prefix-u : tie.Need-array-borrow-prefix-u
-array-borrow-prefix-u c = search needs
+array-borrow-prefix-u c = omega arith
 
--- src/trial.rt:106:9
 slice-aggregate-call-qr-3 : tie.Need-slice-aggregate-call-qr-3
 slice-aggregate-call-qr-3 c = sym (length-take-le (c .before .before .before .before .before .before .before .before .before .before .before .before .before .length-at2 .result) (c .before .before .before .before .before .before .before .floats2 .result) (omega (arith, c .before .before .before .before .before .before .before .before .before .before .before .before .before .length-at2 .ensures, c .before .before .before .before .before .before .before .floats2 .ensures)))
 
--- src/trial.rt:107:9
 array-borrow-prefix-b : tie.Need-array-borrow-prefix-b
-array-borrow-prefix-b c = search needs
+array-borrow-prefix-b c = omega arith
 
--- src/trial.rt:107:9
 slice-aggregate-call-qr-4 : tie.Need-slice-aggregate-call-qr-4
 slice-aggregate-call-qr-4 c = sym (length-take-le (c .before .before .before .before .before .before .before .before .before .before .before .before .before .length-at3 .result) (c .before .before .before .before .before .before .before .floats3 .result) (omega (arith, c .before .before .before .before .before .before .before .before .before .before .before .before .before .length-at3 .ensures, c .before .before .before .before .before .before .before .floats3 .ensures)))
 
--- src/trial.rt:109:9
 array-borrow-prefix-w : tie.Need-array-borrow-prefix-w
-array-borrow-prefix-w c = search needs
+array-borrow-prefix-w c = omega arith
 
--- src/trial.rt:109:9
 slice-aggregate-call-qr-5 : tie.Need-slice-aggregate-call-qr-5
 slice-aggregate-call-qr-5 c = sym (length-take-le (c .before .before .before .before .before .before .before .before .before .before .before .before .before .length-at5 .result) (c .before .before .before .before .before .before .before .room .result) (omega (arith, c .before .before .before .before .before .before .before .before .before .before .before .before .before .length-at5 .ensures, c .before .before .before .before .before .before .before .room .ensures)))
 
--- src/trial.rt:110:9
 array-borrow-prefix-iw : tie.Need-array-borrow-prefix-iw
-array-borrow-prefix-iw c = search needs
+array-borrow-prefix-iw c = omega arith
 
--- src/trial.rt:110:9
 slice-aggregate-call-qr-6 : tie.Need-slice-aggregate-call-qr-6
 slice-aggregate-call-qr-6 c = sym (length-take-le (c .before .before .before .before .before .before .before .before .before .before .before .before .before .length-at6 .result) (c .before .before .before .before .before .before .before .places .result) (omega (arith, c .before .before .before .before .before .before .before .before .before .before .before .before .before .length-at6 .ensures, c .before .before .before .before .before .before .before .places .ensures)))
 
--- src/trial.rt:101:9
 call-qr-requires : tie.Need-call-qr-requires
 call-qr-requires c κs = c .before .before .before .before .before .before .before .before .before .before .before .before .before .before .before .before .before .before .before .before .before .pre
 
--- src/trial.rt:112:9
 answers-requires : tie.Need-answers-requires
-answers-requires c κs = search needs
+answers-requires c κs = omega arith
 
--- src/trial.rt:113:9
 returns : tie.Need-returns
 returns c = search needs
 
--- src/trial.rt:115:40
 slice-aggregate-right-qr : tie.Need-slice-aggregate-right-qr
 slice-aggregate-right-qr c = c .before .before .before .before .before .before .before .before .before .before .before .before .before .before .before .before .before .before .before .before .before .before .floats .ensures ∙ sym (length-front (c .before .before .before .before .before .before .before .before .before .before .before .before .before .before .before .before .before .before .before .before .before .before .floats .result) (c .before .before .before .before .before .before .before .before .before .call-qr .last .1 .1 .0) (c .before .before .before .before .before .before .before .before .before .before .before .before .before .before .before .before .before .before .before .before .before .before .before .before .before .before .before .before .length-at .result) (c .before .before .before .before .before .before .before .before .before .call-qr .kept .1 .1 .0))
 
--- src/trial.rt:115:44
 slice-aggregate-right-qr-2 : tie.Need-slice-aggregate-right-qr-2
 slice-aggregate-right-qr-2 c = c .before .before .before .before .before .before .before .before .before .before .before .before .before .before .before .before .before .before .before .before .before .before .floats2 .ensures ∙ sym (length-front (c .before .before .before .before .before .before .before .before .before .before .before .before .before .before .before .before .before .before .before .before .before .before .floats2 .result) (c .before .before .before .before .before .before .before .before .before .before .call-qr .last .1 .1 .1 .1 .0) (c .before .before .before .before .before .before .before .before .before .before .before .before .before .before .before .before .before .before .before .before .before .before .before .before .before .before .before .before .length-at2 .result) (c .before .before .before .before .before .before .before .before .before .before .call-qr .kept .1 .1 .1 .1 .0))
 
--- src/trial.rt:115:48
 slice-aggregate-right-qr-3 : tie.Need-slice-aggregate-right-qr-3
 slice-aggregate-right-qr-3 c = c .before .before .before .before .before .before .before .before .before .before .before .before .before .before .before .before .before .before .before .before .before .before .floats3 .ensures ∙ sym (length-front (c .before .before .before .before .before .before .before .before .before .before .before .before .before .before .before .before .before .before .before .before .before .before .floats3 .result) (c .before .before .before .before .before .before .before .before .before .before .before .call-qr .last .1 .1 .1 .1 .1 .0) (c .before .before .before .before .before .before .before .before .before .before .before .before .before .before .before .before .before .before .before .before .before .before .before .before .before .before .before .before .length-at3 .result) (c .before .before .before .before .before .before .before .before .before .before .before .call-qr .kept .1 .1 .1 .1 .1 .0))
 
--- src/trial.rt:115:52
 slice-aggregate-right-qr-4 : tie.Need-slice-aggregate-right-qr-4
 slice-aggregate-right-qr-4 c = c .before .before .before .before .before .before .before .before .before .before .before .before .before .before .before .before .before .before .before .before .before .before .marks .ensures ∙ sym (length-front (c .before .before .before .before .before .before .before .before .before .before .before .before .before .before .before .before .before .before .before .before .before .before .marks .result) (c .before .before .before .before .before .before .before .before .before .before .before .before .call-qr .last .1 .1 .1 .0) (c .before .before .before .before .before .before .before .before .before .before .before .before .before .before .before .before .before .before .before .before .before .before .before .before .before .before .before .before .length-at4 .result) (c .before .before .before .before .before .before .before .before .before .before .before .before .call-qr .kept .1 .1 .1 .0))
 
--- src/trial.rt:115:9
 right-qr-requires : tie.Need-right-qr-requires
 right-qr-requires c κs = c .before .before .before .before .before .before .before .before .before .before .before .before .before .before .before .before .before .before .before .before .before .before .before .before .before .before .before .before .before .before .before .before .before .before .pre
 
--- src/trial.rt:116:9
 returns-2 : tie.Need-returns-2
 returns-2 c = search needs
 
--- src/trial.rt:118:23
 total-requires : tie.Need-total-requires
 total-requires c κs = omega (arith, c .before .before .before .before .before .before .before .before .before .before .before .before .before .before .before .before .before .before .before .before .before .before .before .before .before .floats3 .ensures, c .before .before .before .before .before .before .before .before .before .before .before .before .before .before .before .before .before .before .before .before .before .before .before .before .before .before .floats2 .ensures, c .before .before .before .before .before .before .before .before .before .before .before .before .before .before .before .before .before .before .before .before .before .before .before .before .before .before .before .floats .ensures, c .before .before .before .before .before .before .before .before .before .before .before .before .before .before .before .before .before .before .before .before .before .before .before .before .before .before .before .before .length-at6 .ensures, c .before .before .before .before .before .before .before .before .before .before .before .before .before .before .before .before .before .before .before .before .before .before .before .before .before .before .before .before .before .length-at5 .ensures, c .before .before .before .before .before .before .before .before .before .before .before .before .before .before .before .before .before .before .before .before .before .before .before .before .before .before .before .before .before .before .length-at4 .ensures, c .before .before .before .before .before .before .before .before .before .before .before .before .before .before .before .before .before .before .before .before .before .before .before .before .before .before .before .before .before .before .before .length-at3 .ensures, c .before .before .before .before .before .before .before .before .before .before .before .before .before .before .before .before .before .before .before .before .before .before .before .before .before .before .before .before .before .before .before .before .length-at2 .ensures, c .before .before .before .before .before .before .before .before .before .before .before .before .before .before .before .before .before .before .before .before .before .before .before .before .before .before .before .before .before .before .before .before .before .length-at .ensures, c .before .before .before .before .before .before .before .before .before .before .before .before .before .before .before .before .before .before .before .before .before .before .before .before .before .before .before .before .before .before .before .before .before .before .before .before .pre)
 
--- src/trial.rt:118:18
 add-single : tie.Need-add-single
-add-single c = search needs
+add-single c = omega arith
 
--- src/trial.rt:119:9
 told-requires : tie.Need-told-requires
 told-requires c κs = omega (arith, c .total .ensures, c .before .before .before .before .before .before .before .before .before .before .before .before .before .before .before .before .before .before .before .before .before .before .before .before .before .before .floats3 .ensures, c .before .before .before .before .before .before .before .before .before .before .before .before .before .before .before .before .before .before .before .before .before .before .before .before .before .before .before .floats2 .ensures, c .before .before .before .before .before .before .before .before .before .before .before .before .before .before .before .before .before .before .before .before .before .before .before .before .before .before .before .before .floats .ensures, c .before .before .before .before .before .before .before .before .before .before .before .before .before .before .before .before .before .before .before .before .before .before .before .before .before .before .before .before .before .length-at6 .ensures, c .before .before .before .before .before .before .before .before .before .before .before .before .before .before .before .before .before .before .before .before .before .before .before .before .before .before .before .before .before .before .length-at5 .ensures, c .before .before .before .before .before .before .before .before .before .before .before .before .before .before .before .before .before .before .before .before .before .before .before .before .before .before .before .before .before .before .before .length-at4 .ensures, c .before .before .before .before .before .before .before .before .before .before .before .before .before .before .before .before .before .before .before .before .before .before .before .before .before .before .before .before .before .before .before .before .length-at3 .ensures, c .before .before .before .before .before .before .before .before .before .before .before .before .before .before .before .before .before .before .before .before .before .before .before .before .before .before .before .before .before .before .before .before .before .length-at2 .ensures, c .before .before .before .before .before .before .before .before .before .before .before .before .before .before .before .before .before .before .before .before .before .before .before .before .before .before .before .before .before .before .before .before .before .before .length-at .ensures, c .before .before .before .before .before .before .before .before .before .before .before .before .before .before .before .before .before .before .before .before .before .before .before .before .before .before .before .before .before .before .before .before .before .before .before .before .before .pre)
 
--- src/trial.rt:120:9
 returns-3 : tie.Need-returns-3
 returns-3 c = search needs
 
--- src/trial.rt:122:21
 slice-aggregate-closing : tie.Need-slice-aggregate-closing
 slice-aggregate-closing c = c .before .before .before .before .before .before .before .before .before .before .before .before .before .before .before .before .before .before .before .before .before .before .before .before .before .before .before .room .ensures ∙ sym (length-front (c .before .before .before .before .before .before .before .before .before .before .before .before .before .before .before .before .before .before .before .before .before .before .before .before .before .before .before .room .result) (c .before .before .before .before .before .before .before .before .before .before .before .before .before .before .before .before .before .before .call-qr .last .1 .1 .1 .1 .1 .1 .1 .0) (c .before .before .before .before .before .before .before .before .before .before .before .before .before .before .before .before .before .before .before .before .before .before .before .before .before .before .before .before .before .before .before .before .before .length-at5 .result) (c .before .before .before .before .before .before .before .before .before .before .before .before .before .before .before .before .before .before .call-qr .kept .1 .1 .1 .1 .1 .1 .1 .0))
 
--- src/trial.rt:122:25
 slice-aggregate-closing-2 : tie.Need-slice-aggregate-closing-2
 slice-aggregate-closing-2 c = c .before .before .before .before .before .before .before .before .before .before .before .before .before .before .before .before .before .before .before .before .before .before .before .before .before .before .before .places .ensures ∙ sym (length-front (c .before .before .before .before .before .before .before .before .before .before .before .before .before .before .before .before .before .before .before .before .before .before .before .before .before .before .before .places .result) (c .before .before .before .before .before .before .before .before .before .before .before .before .before .before .before .before .before .before .before .call-qr .last .1 .1 .1 .1 .1 .1 .1 .1 .0) (c .before .before .before .before .before .before .before .before .before .before .before .before .before .before .before .before .before .before .before .before .before .before .before .before .before .before .before .before .before .before .before .before .before .length-at6 .result) (c .before .before .before .before .before .before .before .before .before .before .before .before .before .before .before .before .before .before .before .call-qr .kept .1 .1 .1 .1 .1 .1 .1 .1 .0))
 
--- src/trial.rt:122:5
 closing-requires : tie.Need-closing-requires
-closing-requires c κs = search needs
+closing-requires c κs = omega arith
 
--- src/trial.rt:85:1
 returns-4 : tie.Need-returns-4
 returns-4 c = search needs
 

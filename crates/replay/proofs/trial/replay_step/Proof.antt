@@ -1,173 +1,122 @@
+-- `replay_step`: every slice that is lent or compared lies within its memory. Assumes nothing.
 use lib.Seq.{length-take-le, length-front}
 use native.Mathlib.Omega.{arith}
-use mathlib.Core.Path.{_≡_, refl, sym, ap, _∙_, subst}
+use mathlib.Core.Path.{sym, _∙_}
 use borrow.Author.Needs.{needs}
 use Rattle.replay.proofs.trial.replay_step.Statement.{statement}
 use Rattle.replay.proofs.trial.replay_step.Tie as tie
-use Rattle.replay.proofs.trial.replay_step.Reads as reads
-use Rattle.replay.proofs.trial.replay_step.Lts as lts
-use Rattle.replay.proofs.calls.call_step.Reads as call-step-reads
-use Rattle.replay.proofs.compare.answers.Reads as answers-reads
-use Rattle.replay.proofs.compare.kept_kinds.Reads as kept-kinds-reads
-use Rattle.replay.proofs.list.length_at.Reads as length-at-reads
-use Rattle.replay.proofs.list.total.Reads as total-reads
-use Rattle.replay.proofs.memory.floats.Reads as floats-reads
-use Rattle.replay.proofs.memory.junk.Reads as junk-reads
-use Rattle.replay.proofs.memory.kinds.Reads as kinds-reads
-use Rattle.replay.proofs.memory.places.Reads as places-reads
-use Rattle.replay.proofs.memory.room.Reads as room-reads
-use Rattle.replay.proofs.trial.closing.Reads as closing-reads
-use Rattle.replay.proofs.trial.right_step.Reads as right-step-reads
 
--- src/trial.rt:276:9
 length-at-requires : tie.Need-length-at-requires
-length-at-requires c κs = search needs
+length-at-requires c κs = omega arith
 
--- src/trial.rt:277:9
 length-at-requires-2 : tie.Need-length-at-requires-2
-length-at-requires-2 c κs = search needs
+length-at-requires-2 c κs = omega arith
 
--- src/trial.rt:278:9
 length-at-requires-3 : tie.Need-length-at-requires-3
-length-at-requires-3 c κs = search needs
+length-at-requires-3 c κs = omega arith
 
--- src/trial.rt:279:9
 length-at-requires-4 : tie.Need-length-at-requires-4
-length-at-requires-4 c κs = search needs
+length-at-requires-4 c κs = omega arith
 
--- src/trial.rt:280:9
 length-at-requires-5 : tie.Need-length-at-requires-5
-length-at-requires-5 c κs = search needs
+length-at-requires-5 c κs = omega arith
 
--- src/trial.rt:281:25
 total-requires : tie.Need-total-requires
-total-requires c κs = search needs
+total-requires c κs = omega arith
 
--- src/trial.rt:281:20
 add-kinds-at : tie.Need-add-kinds-at
-add-kinds-at c = search needs
+add-kinds-at c = omega arith
 
--- src/trial.rt:282:16
 kinds-requires : tie.Need-kinds-requires
-kinds-requires c κs = search needs
+kinds-requires c κs = omega arith
 
--- src/trial.rt:283:17
 floats-requires : tie.Need-floats-requires
-floats-requires c κs = search needs
+floats-requires c κs = omega arith
 
--- src/trial.rt:284:27
 floats-requires-2 : tie.Need-floats-requires-2
-floats-requires-2 c κs = search needs
+floats-requires-2 c κs = omega arith
 
--- src/trial.rt:285:26
 junk-requires : tie.Need-junk-requires
 junk-requires c κs = search needs
 
--- src/trial.rt:286:17
 room-requires : tie.Need-room-requires
-room-requires c κs = search needs
+room-requires c κs = omega arith
 
--- src/trial.rt:287:18
 places-requires : tie.Need-places-requires
-places-requires c κs = search needs
+places-requires c κs = omega arith
 
--- src/trial.rt:291:9
 array-share-prefix-kind : tie.Need-array-share-prefix-kind
-array-share-prefix-kind c = search needs
+array-share-prefix-kind c = omega arith
 
--- src/trial.rt:291:9
 slice-aggregate-call-step : tie.Need-slice-aggregate-call-step
 slice-aggregate-call-step c = sym (length-take-le (c .before .before .before .before .before .before .before .before .before .before .before .before .length-at .result) (c .before .before .before .before .before .before .kinds .result) (omega (arith, c .before .before .before .before .before .before .before .before .before .before .before .before .length-at .ensures, c .before .before .before .before .before .before .kinds .ensures)))
 
--- src/trial.rt:292:9
 array-borrow-prefix-d : tie.Need-array-borrow-prefix-d
-array-borrow-prefix-d c = search needs
+array-borrow-prefix-d c = omega arith
 
--- src/trial.rt:292:9
 slice-aggregate-call-step-2 : tie.Need-slice-aggregate-call-step-2
 slice-aggregate-call-step-2 c = sym (length-take-le (c .before .before .before .before .before .before .before .before .before .before .before .before .length-at2 .result) (c .before .before .before .before .before .before .floats .result) (omega (arith, c .before .before .before .before .before .before .before .before .before .before .before .before .length-at2 .ensures, c .before .before .before .before .before .before .floats .ensures)))
 
--- src/trial.rt:293:9
 array-borrow-prefix-multipliers : tie.Need-array-borrow-prefix-multipliers
-array-borrow-prefix-multipliers c = search needs
+array-borrow-prefix-multipliers c = omega arith
 
--- src/trial.rt:293:9
 slice-aggregate-call-step-3 : tie.Need-slice-aggregate-call-step-3
 slice-aggregate-call-step-3 c = sym (length-take-le (c .before .before .before .before .before .before .before .before .before .before .before .before .length-at3 .result) (c .before .before .before .before .before .before .floats2 .result) (omega (arith, c .before .before .before .before .before .before .before .before .before .before .before .before .length-at3 .ensures, c .before .before .before .before .before .before .floats2 .ensures)))
 
--- src/trial.rt:295:9
 array-borrow-prefix-w : tie.Need-array-borrow-prefix-w
-array-borrow-prefix-w c = search needs
+array-borrow-prefix-w c = omega arith
 
--- src/trial.rt:295:9
 slice-aggregate-call-step-4 : tie.Need-slice-aggregate-call-step-4
 slice-aggregate-call-step-4 c = sym (length-take-le (c .before .before .before .before .before .before .before .before .before .before .before .before .before .length-at4 .result) (c .before .before .before .before .before .before .room .result) (omega (arith, c .before .before .before .before .before .before .before .before .before .before .before .before .before .length-at4 .ensures, c .before .before .before .before .before .before .room .ensures)))
 
--- src/trial.rt:296:9
 array-borrow-prefix-iw : tie.Need-array-borrow-prefix-iw
-array-borrow-prefix-iw c = search needs
+array-borrow-prefix-iw c = omega arith
 
--- src/trial.rt:296:9
 slice-aggregate-call-step-5 : tie.Need-slice-aggregate-call-step-5
 slice-aggregate-call-step-5 c = sym (length-take-le (c .before .before .before .before .before .before .before .before .before .before .before .before .before .length-at5 .result) (c .before .before .before .before .before .before .places .result) (omega (arith, c .before .before .before .before .before .before .before .before .before .before .before .before .before .length-at5 .ensures, c .before .before .before .before .before .before .places .ensures)))
 
--- src/trial.rt:288:9
 call-step-requires : tie.Need-call-step-requires
 call-step-requires c κs = search needs
 
--- src/trial.rt:298:9
 answers-requires : tie.Need-answers-requires
-answers-requires c κs = search needs
+answers-requires c κs = omega arith
 
--- src/trial.rt:299:9
 returns : tie.Need-returns
 returns c = search needs
 
--- src/trial.rt:301:42
 slice-aggregate-right-step : tie.Need-slice-aggregate-right-step
 slice-aggregate-right-step c = c .before .before .before .before .before .before .before .before .before .before .before .before .before .before .before .before .before .before .floats .ensures ∙ sym (length-front (c .before .before .before .before .before .before .before .before .before .before .before .before .before .before .before .before .before .before .floats .result) (c .before .before .before .before .before .before .before .call-step .last .1 .1 .1 .0) (c .before .before .before .before .before .before .before .before .before .before .before .before .before .before .before .before .before .before .before .before .before .before .before .before .length-at2 .result) (c .before .before .before .before .before .before .before .call-step .kept .1 .1 .1 .0))
 
--- src/trial.rt:301:46
 slice-aggregate-right-step-2 : tie.Need-slice-aggregate-right-step-2
 slice-aggregate-right-step-2 c = c .before .before .before .before .before .before .before .before .before .before .before .before .before .before .before .before .before .before .floats2 .ensures ∙ sym (length-front (c .before .before .before .before .before .before .before .before .before .before .before .before .before .before .before .before .before .before .floats2 .result) (c .before .before .before .before .before .before .before .before .call-step .last .1 .1 .1 .1 .0) (c .before .before .before .before .before .before .before .before .before .before .before .before .before .before .before .before .before .before .before .before .before .before .before .before .length-at3 .result) (c .before .before .before .before .before .before .before .before .call-step .kept .1 .1 .1 .1 .0))
 
--- src/trial.rt:301:9
 right-step-requires : tie.Need-right-step-requires
 right-step-requires c κs = c .before .before .before .before .before .before .before .before .before .before .before .before .before .before .before .before .before .before .before .before .before .before .before .before .before .before .before .before .before .pre
 
--- src/trial.rt:302:9
 returns-2 : tie.Need-returns-2
 returns-2 c = search needs
 
--- src/trial.rt:304:20
 array-share-prefix-kind-2 : tie.Need-array-share-prefix-kind-2
 array-share-prefix-kind-2 c = omega (arith, c .before .before .before .before .before .before .before .before .before .before .before .before .before .before .before .before .before .before .before .before .floats2 .ensures, c .before .before .before .before .before .before .before .before .before .before .before .before .before .before .before .before .before .before .before .before .before .floats .ensures, c .before .before .before .before .before .before .before .before .before .before .before .before .before .before .before .before .before .before .before .before .before .before .kinds .ensures, c .before .before .before .before .before .before .before .before .before .before .before .before .before .before .before .before .before .before .before .before .before .before .before .total .ensures, c .before .before .before .before .before .before .before .before .before .before .before .before .before .before .before .before .before .before .before .before .before .before .before .before .length-at5 .ensures, c .before .before .before .before .before .before .before .before .before .before .before .before .before .before .before .before .before .before .before .before .before .before .before .before .before .length-at4 .ensures, c .before .before .before .before .before .before .before .before .before .before .before .before .before .before .before .before .before .before .before .before .before .before .before .before .before .before .length-at3 .ensures, c .before .before .before .before .before .before .before .before .before .before .before .before .before .before .before .before .before .before .before .before .before .before .before .before .before .before .before .length-at2 .ensures, c .before .before .before .before .before .before .before .before .before .before .before .before .before .before .before .before .before .before .before .before .before .before .before .before .before .before .before .before .length-at .ensures, c .before .before .before .before .before .before .before .before .before .before .before .before .before .before .before .before .before .before .before .before .before .before .before .before .before .before .before .before .before .before .before .pre)
 
--- src/trial.rt:304:20
 slice-aggregate-kept-kinds : tie.Need-slice-aggregate-kept-kinds
 slice-aggregate-kept-kinds c = sym (length-take-le (c .before .before .before .before .before .before .before .before .before .before .before .before .before .before .before .before .before .before .before .before .before .before .before .before .before .before .before .before .before .length-at .result) (c .before .before .before .before .before .before .before .before .before .before .before .before .before .before .before .before .before .before .before .before .before .before .before .kinds .result) (omega (arith, c .before .before .before .before .before .before .before .before .before .before .before .before .before .before .before .before .before .before .before .before .before .before .before .before .before .before .before .before .before .length-at .ensures, c .before .before .before .before .before .before .before .before .before .before .before .before .before .before .before .before .before .before .before .before .before .before .before .kinds .ensures)))
 
--- src/trial.rt:304:9
 kept-kinds-requires : tie.Need-kept-kinds-requires
 kept-kinds-requires c κs = omega (arith, length-take-le (c .before .before .before .before .before .before .before .before .before .before .before .before .before .before .before .before .before .before .before .before .before .before .before .before .before .before .before .before .before .length-at .result) (c .before .before .before .before .before .before .before .before .before .before .before .before .before .before .before .before .before .before .before .before .before .before .before .kinds .result) (omega (arith, c .before .before .before .before .before .before .before .before .before .before .before .before .before .before .before .before .before .before .before .before .before .before .before .before .before .before .before .before .before .length-at .ensures, c .before .before .before .before .before .before .before .before .before .before .before .before .before .before .before .before .before .before .before .before .before .before .before .kinds .ensures)), c .before .before .before .before .before .before .before .before .before .before .before .before .before .before .before .before .before .before .before .before .before .floats2 .ensures, c .before .before .before .before .before .before .before .before .before .before .before .before .before .before .before .before .before .before .before .before .before .before .floats .ensures, c .before .before .before .before .before .before .before .before .before .before .before .before .before .before .before .before .before .before .before .before .before .before .before .kinds .ensures, c .before .before .before .before .before .before .before .before .before .before .before .before .before .before .before .before .before .before .before .before .before .before .before .before .total .ensures, c .before .before .before .before .before .before .before .before .before .before .before .before .before .before .before .before .before .before .before .before .before .before .before .before .before .length-at5 .ensures, c .before .before .before .before .before .before .before .before .before .before .before .before .before .before .before .before .before .before .before .before .before .before .before .before .before .before .length-at4 .ensures, c .before .before .before .before .before .before .before .before .before .before .before .before .before .before .before .before .before .before .before .before .before .before .before .before .before .before .before .length-at3 .ensures, c .before .before .before .before .before .before .before .before .before .before .before .before .before .before .before .before .before .before .before .before .before .before .before .before .before .before .before .before .length-at2 .ensures, c .before .before .before .before .before .before .before .before .before .before .before .before .before .before .before .before .before .before .before .before .before .before .before .before .before .before .before .before .before .length-at .ensures, c .before .before .before .before .before .before .before .before .before .before .before .before .before .before .before .before .before .before .before .before .before .before .before .before .before .before .before .before .before .before .before .before .pre)
 
--- src/trial.rt:305:9
 returns-3 : tie.Need-returns-3
 returns-3 c = search needs
 
--- src/trial.rt:307:21
 slice-aggregate-closing : tie.Need-slice-aggregate-closing
 slice-aggregate-closing c = c .before .before .before .before .before .before .before .before .before .before .before .before .before .before .before .before .before .before .before .before .before .before .room .ensures ∙ sym (length-front (c .before .before .before .before .before .before .before .before .before .before .before .before .before .before .before .before .before .before .before .before .before .before .room .result) (c .before .before .before .before .before .before .before .before .before .before .before .before .before .before .call-step .last .1 .1 .1 .1 .1 .1 .0) (c .before .before .before .before .before .before .before .before .before .before .before .before .before .before .before .before .before .before .before .before .before .before .before .before .before .before .before .before .before .length-at4 .result) (c .before .before .before .before .before .before .before .before .before .before .before .before .before .before .call-step .kept .1 .1 .1 .1 .1 .1 .0))
 
--- src/trial.rt:307:25
 slice-aggregate-closing-2 : tie.Need-slice-aggregate-closing-2
 slice-aggregate-closing-2 c = c .before .before .before .before .before .before .before .before .before .before .before .before .before .before .before .before .before .before .before .before .before .before .places .ensures ∙ sym (length-front (c .before .before .before .before .before .before .before .before .before .before .before .before .before .before .before .before .before .before .before .before .before .before .places .result) (c .before .before .before .before .before .before .before .before .before .before .before .before .before .before .before .call-step .last .1 .1 .1 .1 .1 .1 .1 .0) (c .before .before .before .before .before .before .before .before .before .before .before .before .before .before .before .before .before .before .before .before .before .before .before .before .before .before .before .before .before .length-at5 .result) (c .before .before .before .before .before .before .before .before .before .before .before .before .before .before .before .call-step .kept .1 .1 .1 .1 .1 .1 .1 .0))
 
--- src/trial.rt:307:5
 closing-requires : tie.Need-closing-requires
-closing-requires c κs = search needs
+closing-requires c κs = omega arith
 
--- src/trial.rt:273:1
 returns-4 : tie.Need-returns-4
 returns-4 c = search needs
 

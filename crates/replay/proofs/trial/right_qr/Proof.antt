@@ -1,109 +1,78 @@
-use lib.Seq.{length-take-le, length-front}
+-- `right_qr`: every slice that is lent or compared lies within its memory. Assumes nothing.
 use native.Mathlib.Omega.{arith}
-use mathlib.Core.Path.{_≡_, refl, sym, ap, _∙_, subst}
 use borrow.Author.Needs.{needs}
 use Rattle.replay.proofs.trial.right_qr.Statement.{statement}
 use Rattle.replay.proofs.trial.right_qr.Tie as tie
-use Rattle.replay.proofs.trial.right_qr.Reads as reads
-use Rattle.replay.proofs.trial.right_qr.Lts as lts
-use Rattle.replay.proofs.compare.holds.Reads as holds-reads
-use Rattle.replay.proofs.compare.holds_marks.Reads as holds-marks-reads
-use Rattle.replay.proofs.compare.written.Reads as written-reads
-use Rattle.replay.proofs.list.length_at.Reads as length-at-reads
 
--- src/trial.rt:67:9
 length-at-requires : tie.Need-length-at-requires
 length-at-requires c κs = search needs
 
--- src/trial.rt:68:9
 length-at-requires-2 : tie.Need-length-at-requires-2
 length-at-requires-2 c κs = search needs
 
--- src/trial.rt:69:9
 length-at-requires-3 : tie.Need-length-at-requires-3
 length-at-requires-3 c κs = search needs
 
--- src/trial.rt:70:9
 length-at-requires-4 : tie.Need-length-at-requires-4
 length-at-requires-4 c κs = search needs
 
--- src/trial.rt:71:23
 length-at-requires-5 : tie.Need-length-at-requires-5
 length-at-requires-5 c κs = search needs
 
--- src/trial.rt:71:18
 add-answer : tie.Need-add-answer
 add-answer c = search needs
 
--- src/trial.rt:72:18
 written-requires : tie.Need-written-requires
 written-requires c κs = search needs
 
--- src/trial.rt:72:9
 holds-requires : tie.Need-holds-requires
 holds-requires c κs = search needs
 
--- src/trial.rt:73:9
 returns : tie.Need-returns
 returns c = search needs
 
--- src/trial.rt:75:18
 written-requires-2 : tie.Need-written-requires-2
 written-requires-2 c κs = search needs
 
--- src/trial.rt:75:47
 add-holds : tie.Need-add-holds
 add-holds c = search needs
 
--- src/trial.rt:75:9
 holds-requires-2 : tie.Need-holds-requires-2
 holds-requires-2 c κs = search needs
 
--- src/trial.rt:76:9
 returns-2 : tie.Need-returns-2
 returns-2 c = search needs
 
--- src/trial.rt:78:18
 written-requires-3 : tie.Need-written-requires-3
 written-requires-3 c κs = search needs
 
--- src/trial.rt:78:47
 add-holds-2 : tie.Need-add-holds-2
 add-holds-2 c = search needs
 
--- src/trial.rt:78:47
 add-holds-3 : tie.Need-add-holds-3
 add-holds-3 c = search needs
 
--- src/trial.rt:78:9
 holds-requires-3 : tie.Need-holds-requires-3
 holds-requires-3 c κs = search needs
 
--- src/trial.rt:79:9
 returns-3 : tie.Need-returns-3
 returns-3 c = search needs
 
--- src/trial.rt:81:23
 written-requires-4 : tie.Need-written-requires-4
 written-requires-4 c κs = search needs
 
--- src/trial.rt:81:53
 add-holds-marks : tie.Need-add-holds-marks
 add-holds-marks c = search needs
 
--- src/trial.rt:81:53
 add-holds-marks-2 : tie.Need-add-holds-marks-2
 add-holds-marks-2 c = search needs
 
--- src/trial.rt:81:53
 add-holds-marks-3 : tie.Need-add-holds-marks-3
 add-holds-marks-3 c = search needs
 
--- src/trial.rt:81:5
 holds-marks-requires : tie.Need-holds-marks-requires
 holds-marks-requires c κs = omega (arith, c .before .before .before .before .before .before .before .before .before .before .length-at5 .ensures, c .before .before .before .before .before .before .before .before .before .before .before .before .before .before .length-at .ensures, c .before .before .before .before .before .before .before .before .before .before .before .before .before .length-at2 .ensures, c .before .before .before .before .before .before .before .before .before .before .before .before .length-at3 .ensures, c .written4 .ensures, c .before .before .before .before .before .before .before .before .before .before .before .before .before .before .before .before .before .before .before .before .before .pre)
 
--- src/trial.rt:64:1
 returns-4 : tie.Need-returns-4
 returns-4 c = search needs
 
