@@ -7,37 +7,37 @@ use Rattle.replay.proofs.trial.replay_nnls.Statement.{statement}
 use Rattle.replay.proofs.trial.replay_nnls.Tie as tie
 
 length-at-requires : tie.Need-length-at-requires
-length-at-requires c κs = search needs
+length-at-requires c κs = omega arith
 
 length-at-requires-2 : tie.Need-length-at-requires-2
-length-at-requires-2 c κs = search needs
+length-at-requires-2 c κs = omega arith
 
 length-at-requires-3 : tie.Need-length-at-requires-3
-length-at-requires-3 c κs = search needs
+length-at-requires-3 c κs = omega arith
 
 floats-requires : tie.Need-floats-requires
-floats-requires c κs = search needs
+floats-requires c κs = omega arith
 
 room-requires : tie.Need-room-requires
-room-requires c κs = search needs
+room-requires c κs = omega arith
 
 places-requires : tie.Need-places-requires
-places-requires c κs = search needs
+places-requires c κs = omega arith
 
 array-borrow-prefix-x : tie.Need-array-borrow-prefix-x
-array-borrow-prefix-x c = search needs
+array-borrow-prefix-x c = omega arith
 
 slice-aggregate-call-nnls : tie.Need-slice-aggregate-call-nnls
 slice-aggregate-call-nnls c = sym (length-take-le (c .before .before .before .before .before .before .length-at .result) (c .before .before .before .floats .result) (omega (arith, c .before .before .before .before .before .before .length-at .ensures, c .before .before .before .floats .ensures)))
 
 array-borrow-prefix-w : tie.Need-array-borrow-prefix-w
-array-borrow-prefix-w c = search needs
+array-borrow-prefix-w c = omega arith
 
 slice-aggregate-call-nnls-2 : tie.Need-slice-aggregate-call-nnls-2
 slice-aggregate-call-nnls-2 c = sym (length-take-le (c .before .before .before .before .before .before .before .before .length-at2 .result) (c .before .before .before .before .before .room .result) (omega (arith, c .before .before .before .before .before .before .before .before .length-at2 .ensures, c .before .before .before .before .before .room .ensures)))
 
 array-borrow-prefix-iw : tie.Need-array-borrow-prefix-iw
-array-borrow-prefix-iw c = search needs
+array-borrow-prefix-iw c = omega arith
 
 slice-aggregate-call-nnls-3 : tie.Need-slice-aggregate-call-nnls-3
 slice-aggregate-call-nnls-3 c = sym (length-take-le (c .before .before .before .before .before .before .before .before .length-at3 .result) (c .before .before .before .before .before .places .result) (omega (arith, c .before .before .before .before .before .before .before .before .length-at3 .ensures, c .before .before .before .before .before .places .ensures)))
@@ -46,22 +46,22 @@ call-nnls-requires : tie.Need-call-nnls-requires
 call-nnls-requires c κs = search needs
 
 answers-requires : tie.Need-answers-requires
-answers-requires c κs = search needs
+answers-requires c κs = omega arith
 
 returns : tie.Need-returns
 returns c = search needs
 
 total-requires : tie.Need-total-requires
-total-requires c κs = search needs
+total-requires c κs = omega arith
 
 add-answer : tie.Need-add-answer
-add-answer c = search needs
+add-answer c = omega arith
 
 slice-aggregate-holds : tie.Need-slice-aggregate-holds
 slice-aggregate-holds c = c .before .before .before .before .before .before .before .before .before .before .before .before .before .before .before .floats .ensures ∙ sym (length-front (c .before .before .before .before .before .before .before .before .before .before .before .before .before .before .before .floats .result) (c .before .before .before .before .before .before .before .call-nnls .last .1 .1 .0) (c .before .before .before .before .before .before .before .before .before .before .before .before .before .before .before .before .before .before .length-at .result) (c .before .before .before .before .before .before .before .call-nnls .kept .1 .1 .0))
 
 written-requires : tie.Need-written-requires
-written-requires c κs = search needs
+written-requires c κs = omega arith
 
 holds-requires : tie.Need-holds-requires
 holds-requires c κs = omega (arith, c .written .ensures, c .before .before .total .ensures, c .before .before .before .before .before .before .before .before .before .before .before .before .before .before .before .before .floats .ensures, c .before .before .before .before .before .before .before .before .before .before .before .before .before .before .before .before .before .length-at3 .ensures, c .before .before .before .before .before .before .before .before .before .before .before .before .before .before .before .before .before .before .length-at2 .ensures, c .before .before .before .before .before .before .before .before .before .before .before .before .before .before .before .before .before .before .before .length-at .ensures, c .before .before .before .before .before .before .before .before .before .before .before .before .before .before .before .before .before .before .before .before .before .before .pre)
@@ -70,7 +70,7 @@ returns-2 : tie.Need-returns-2
 returns-2 c = search needs
 
 add-told : tie.Need-add-told
-add-told c = search needs
+add-told c = omega arith
 
 told-requires : tie.Need-told-requires
 told-requires c κs = omega (arith, c .before .before .written .ensures, c .before .before .before .before .total .ensures, c .before .before .before .before .before .before .before .before .before .before .before .before .before .before .before .before .before .before .floats .ensures, c .before .before .before .before .before .before .before .before .before .before .before .before .before .before .before .before .before .before .before .length-at3 .ensures, c .before .before .before .before .before .before .before .before .before .before .before .before .before .before .before .before .before .before .before .before .length-at2 .ensures, c .before .before .before .before .before .before .before .before .before .before .before .before .before .before .before .before .before .before .before .before .before .length-at .ensures, c .before .before .before .before .before .before .before .before .before .before .before .before .before .before .before .before .before .before .before .before .before .before .before .before .pre)
@@ -79,10 +79,10 @@ returns-3 : tie.Need-returns-3
 returns-3 c = search needs
 
 add-told-2 : tie.Need-add-told-2
-add-told-2 c = search needs
+add-told-2 c = omega arith
 
 add-told-3 : tie.Need-add-told-3
-add-told-3 c = search needs
+add-told-3 c = omega arith
 
 told-requires-2 : tie.Need-told-requires-2
 told-requires-2 c κs = omega (arith, c .before .before .before .before .written .ensures, c .before .before .before .before .before .before .total .ensures, c .before .before .before .before .before .before .before .before .before .before .before .before .before .before .before .before .before .before .before .before .floats .ensures, c .before .before .before .before .before .before .before .before .before .before .before .before .before .before .before .before .before .before .before .before .before .length-at3 .ensures, c .before .before .before .before .before .before .before .before .before .before .before .before .before .before .before .before .before .before .before .before .before .before .length-at2 .ensures, c .before .before .before .before .before .before .before .before .before .before .before .before .before .before .before .before .before .before .before .before .before .before .before .length-at .ensures, c .before .before .before .before .before .before .before .before .before .before .before .before .before .before .before .before .before .before .before .before .before .before .before .before .before .before .pre)
@@ -97,7 +97,7 @@ slice-aggregate-closing-2 : tie.Need-slice-aggregate-closing-2
 slice-aggregate-closing-2 c = c .before .before .before .before .before .before .before .before .before .before .before .before .before .before .before .before .before .before .before .before .before .before .places .ensures ∙ sym (length-front (c .before .before .before .before .before .before .before .before .before .before .before .before .before .before .before .before .before .before .before .before .before .before .places .result) (c .before .before .before .before .before .before .before .before .before .before .before .before .before .before .before .before .call-nnls .last .1 .1 .1 .1 .1 .1 .0) (c .before .before .before .before .before .before .before .before .before .before .before .before .before .before .before .before .before .before .before .before .before .before .before .before .before .length-at3 .result) (c .before .before .before .before .before .before .before .before .before .before .before .before .before .before .before .before .call-nnls .kept .1 .1 .1 .1 .1 .1 .0))
 
 closing-requires : tie.Need-closing-requires
-closing-requires c κs = search needs
+closing-requires c κs = omega arith
 
 returns-5 : tie.Need-returns-5
 returns-5 c = search needs

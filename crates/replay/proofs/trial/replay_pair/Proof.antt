@@ -7,58 +7,58 @@ use Rattle.replay.proofs.trial.replay_pair.Statement.{statement}
 use Rattle.replay.proofs.trial.replay_pair.Tie as tie
 
 length-at-requires : tie.Need-length-at-requires
-length-at-requires c κs = search needs
+length-at-requires c κs = omega arith
 
 add-length-at : tie.Need-add-length-at
-add-length-at c = search needs
+add-length-at c = omega arith
 
 length-at-requires-2 : tie.Need-length-at-requires-2
-length-at-requires-2 c κs = search needs
+length-at-requires-2 c κs = omega arith
 
 add-length-at-2 : tie.Need-add-length-at-2
-add-length-at-2 c = search needs
+add-length-at-2 c = omega arith
 
 length-at-requires-3 : tie.Need-length-at-requires-3
-length-at-requires-3 c κs = search needs
+length-at-requires-3 c κs = omega arith
 
 add-length-at-3 : tie.Need-add-length-at-3
-add-length-at-3 c = search needs
+add-length-at-3 c = omega arith
 
 length-at-requires-4 : tie.Need-length-at-requires-4
-length-at-requires-4 c κs = search needs
+length-at-requires-4 c κs = omega arith
 
 floats-requires : tie.Need-floats-requires
-floats-requires c κs = search needs
+floats-requires c κs = omega arith
 
 floats-requires-2 : tie.Need-floats-requires-2
-floats-requires-2 c κs = search needs
+floats-requires-2 c κs = omega arith
 
 room-requires : tie.Need-room-requires
-room-requires c κs = search needs
+room-requires c κs = omega arith
 
 places-requires : tie.Need-places-requires
-places-requires c κs = search needs
+places-requires c κs = omega arith
 
 array-borrow-prefix-x : tie.Need-array-borrow-prefix-x
-array-borrow-prefix-x c = search needs
+array-borrow-prefix-x c = omega arith
 
 slice-aggregate-call-pair : tie.Need-slice-aggregate-call-pair
 slice-aggregate-call-pair c = sym (length-take-le (c .before .before .before .before .before .before .before .before .length-at .result) (c .before .before .before .before .floats .result) (omega (arith, c .before .before .before .before .before .before .before .before .length-at .ensures, c .before .before .before .before .floats .ensures)))
 
 array-borrow-prefix-multipliers : tie.Need-array-borrow-prefix-multipliers
-array-borrow-prefix-multipliers c = search needs
+array-borrow-prefix-multipliers c = omega arith
 
 slice-aggregate-call-pair-2 : tie.Need-slice-aggregate-call-pair-2
 slice-aggregate-call-pair-2 c = sym (length-take-le (c .before .before .before .before .before .before .before .before .length-at2 .result) (c .before .before .before .before .floats2 .result) (omega (arith, c .before .before .before .before .before .before .before .before .length-at2 .ensures, c .before .before .before .before .floats2 .ensures)))
 
 array-borrow-prefix-w : tie.Need-array-borrow-prefix-w
-array-borrow-prefix-w c = search needs
+array-borrow-prefix-w c = omega arith
 
 slice-aggregate-call-pair-3 : tie.Need-slice-aggregate-call-pair-3
 slice-aggregate-call-pair-3 c = sym (length-take-le (c .before .before .before .before .before .before .before .before .length-at3 .result) (c .before .before .before .before .room .result) (omega (arith, c .before .before .before .before .before .before .before .before .length-at3 .ensures, c .before .before .before .before .room .ensures)))
 
 array-borrow-prefix-iw : tie.Need-array-borrow-prefix-iw
-array-borrow-prefix-iw c = search needs
+array-borrow-prefix-iw c = omega arith
 
 slice-aggregate-call-pair-4 : tie.Need-slice-aggregate-call-pair-4
 slice-aggregate-call-pair-4 c = sym (length-take-le (c .before .before .before .before .before .before .before .before .length-at4 .result) (c .before .before .before .before .places .result) (omega (arith, c .before .before .before .before .before .before .before .before .length-at4 .ensures, c .before .before .before .before .places .ensures)))
@@ -67,13 +67,13 @@ call-pair-requires : tie.Need-call-pair-requires
 call-pair-requires c κs = search needs
 
 answers-requires : tie.Need-answers-requires
-answers-requires c κs = search needs
+answers-requires c κs = omega arith
 
 returns : tie.Need-returns
 returns c = search needs
 
 add-answer : tie.Need-add-answer
-add-answer c = search needs
+add-answer c = omega arith
 
 total-requires : tie.Need-total-requires
 total-requires c κs = omega (arith, c .before .before .before .before .before .before .before .before .before .before .before .before .before .floats2 .ensures, c .before .before .before .before .before .before .before .before .before .before .before .before .before .before .floats .ensures, c .before .before .before .before .before .before .before .before .before .before .before .before .before .before .before .length-at4 .ensures, c .before .before .before .before .before .before .before .before .before .before .before .before .before .before .before .before .length-at3 .ensures, c .before .before .before .before .before .before .before .before .before .before .before .before .before .before .before .before .before .length-at2 .ensures, c .before .before .before .before .before .before .before .before .before .before .before .before .before .before .before .before .before .before .length-at .ensures, c .before .before .before .before .before .before .before .before .before .before .before .before .before .before .before .before .before .before .before .before .before .pre)
@@ -85,7 +85,7 @@ slice-aggregate-holds : tie.Need-slice-aggregate-holds
 slice-aggregate-holds c = c .before .before .before .before .before .before .before .before .before .before .before .before .before .before .before .before .floats .ensures ∙ sym (length-front (c .before .before .before .before .before .before .before .before .before .before .before .before .before .before .before .before .floats .result) (c .before .before .before .before .before .before .before .before .call-pair .last .1 .1 .1 .0) (c .before .before .before .before .before .before .before .before .before .before .before .before .before .before .before .before .before .before .before .before .length-at .result) (c .before .before .before .before .before .before .before .before .call-pair .kept .1 .1 .1 .0))
 
 written-requires : tie.Need-written-requires
-written-requires c κs = search needs
+written-requires c κs = omega arith
 
 holds-requires : tie.Need-holds-requires
 holds-requires c κs = omega (arith, c .written .ensures, c .before .before .total .ensures, c .before .before .before .before .before .before .before .before .before .before .before .before .before .before .before .before .floats2 .ensures, c .before .before .before .before .before .before .before .before .before .before .before .before .before .before .before .before .before .floats .ensures, c .before .before .before .before .before .before .before .before .before .before .before .before .before .before .before .before .before .before .length-at4 .ensures, c .before .before .before .before .before .before .before .before .before .before .before .before .before .before .before .before .before .before .before .length-at3 .ensures, c .before .before .before .before .before .before .before .before .before .before .before .before .before .before .before .before .before .before .before .before .length-at2 .ensures, c .before .before .before .before .before .before .before .before .before .before .before .before .before .before .before .before .before .before .before .before .before .length-at .ensures, c .before .before .before .before .before .before .before .before .before .before .before .before .before .before .before .before .before .before .before .before .before .before .before .before .pre)
@@ -97,7 +97,7 @@ slice-aggregate-holds-2 : tie.Need-slice-aggregate-holds-2
 slice-aggregate-holds-2 c = c .before .before .before .before .before .before .before .before .before .before .before .before .before .before .before .before .before .before .before .floats2 .ensures ∙ sym (length-front (c .before .before .before .before .before .before .before .before .before .before .before .before .before .before .before .before .before .before .before .floats2 .result) (c .before .before .before .before .before .before .before .before .before .before .before .before .call-pair .last .1 .1 .1 .1 .0) (c .before .before .before .before .before .before .before .before .before .before .before .before .before .before .before .before .before .before .before .before .before .before .before .length-at2 .result) (c .before .before .before .before .before .before .before .before .before .before .before .before .call-pair .kept .1 .1 .1 .1 .0))
 
 written-requires-2 : tie.Need-written-requires-2
-written-requires-2 c κs = search needs
+written-requires-2 c κs = omega arith
 
 add-holds : tie.Need-add-holds
 add-holds c = omega (arith, c .written2 .ensures, c .before .before .before .before .written .ensures, c .before .before .before .before .before .before .total .ensures, c .before .before .before .before .before .before .before .before .before .before .before .before .before .before .before .before .before .before .before .before .floats2 .ensures, c .before .before .before .before .before .before .before .before .before .before .before .before .before .before .before .before .before .before .before .before .before .floats .ensures, c .before .before .before .before .before .before .before .before .before .before .before .before .before .before .before .before .before .before .before .before .before .before .length-at4 .ensures, c .before .before .before .before .before .before .before .before .before .before .before .before .before .before .before .before .before .before .before .before .before .before .before .length-at3 .ensures, c .before .before .before .before .before .before .before .before .before .before .before .before .before .before .before .before .before .before .before .before .before .before .before .before .length-at2 .ensures, c .before .before .before .before .before .before .before .before .before .before .before .before .before .before .before .before .before .before .before .before .before .before .before .before .before .length-at .ensures, c .before .before .before .before .before .before .before .before .before .before .before .before .before .before .before .before .before .before .before .before .before .before .before .before .before .before .before .before .pre)
@@ -115,7 +115,7 @@ slice-aggregate-closing-2 : tie.Need-slice-aggregate-closing-2
 slice-aggregate-closing-2 c = c .before .before .before .before .before .before .before .before .before .before .before .before .before .before .before .before .before .before .before .before .before .before .places .ensures ∙ sym (length-front (c .before .before .before .before .before .before .before .before .before .before .before .before .before .before .before .before .before .before .before .before .before .before .places .result) (c .before .before .before .before .before .before .before .before .before .before .before .before .before .before .before .before .before .call-pair .last .1 .1 .1 .1 .1 .1 .0) (c .before .before .before .before .before .before .before .before .before .before .before .before .before .before .before .before .before .before .before .before .before .before .before .before .before .before .length-at4 .result) (c .before .before .before .before .before .before .before .before .before .before .before .before .before .before .before .before .before .call-pair .kept .1 .1 .1 .1 .1 .1 .0))
 
 closing-requires : tie.Need-closing-requires
-closing-requires c κs = search needs
+closing-requires c κs = omega arith
 
 returns-4 : tie.Need-returns-4
 returns-4 c = search needs

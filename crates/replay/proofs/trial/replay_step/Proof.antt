@@ -7,70 +7,70 @@ use Rattle.replay.proofs.trial.replay_step.Statement.{statement}
 use Rattle.replay.proofs.trial.replay_step.Tie as tie
 
 length-at-requires : tie.Need-length-at-requires
-length-at-requires c κs = search needs
+length-at-requires c κs = omega arith
 
 length-at-requires-2 : tie.Need-length-at-requires-2
-length-at-requires-2 c κs = search needs
+length-at-requires-2 c κs = omega arith
 
 length-at-requires-3 : tie.Need-length-at-requires-3
-length-at-requires-3 c κs = search needs
+length-at-requires-3 c κs = omega arith
 
 length-at-requires-4 : tie.Need-length-at-requires-4
-length-at-requires-4 c κs = search needs
+length-at-requires-4 c κs = omega arith
 
 length-at-requires-5 : tie.Need-length-at-requires-5
-length-at-requires-5 c κs = search needs
+length-at-requires-5 c κs = omega arith
 
 total-requires : tie.Need-total-requires
-total-requires c κs = search needs
+total-requires c κs = omega arith
 
 add-kinds-at : tie.Need-add-kinds-at
-add-kinds-at c = search needs
+add-kinds-at c = omega arith
 
 kinds-requires : tie.Need-kinds-requires
-kinds-requires c κs = search needs
+kinds-requires c κs = omega arith
 
 floats-requires : tie.Need-floats-requires
-floats-requires c κs = search needs
+floats-requires c κs = omega arith
 
 floats-requires-2 : tie.Need-floats-requires-2
-floats-requires-2 c κs = search needs
+floats-requires-2 c κs = omega arith
 
 junk-requires : tie.Need-junk-requires
 junk-requires c κs = search needs
 
 room-requires : tie.Need-room-requires
-room-requires c κs = search needs
+room-requires c κs = omega arith
 
 places-requires : tie.Need-places-requires
-places-requires c κs = search needs
+places-requires c κs = omega arith
 
 array-share-prefix-kind : tie.Need-array-share-prefix-kind
-array-share-prefix-kind c = search needs
+array-share-prefix-kind c = omega arith
 
 slice-aggregate-call-step : tie.Need-slice-aggregate-call-step
 slice-aggregate-call-step c = sym (length-take-le (c .before .before .before .before .before .before .before .before .before .before .before .before .length-at .result) (c .before .before .before .before .before .before .kinds .result) (omega (arith, c .before .before .before .before .before .before .before .before .before .before .before .before .length-at .ensures, c .before .before .before .before .before .before .kinds .ensures)))
 
 array-borrow-prefix-d : tie.Need-array-borrow-prefix-d
-array-borrow-prefix-d c = search needs
+array-borrow-prefix-d c = omega arith
 
 slice-aggregate-call-step-2 : tie.Need-slice-aggregate-call-step-2
 slice-aggregate-call-step-2 c = sym (length-take-le (c .before .before .before .before .before .before .before .before .before .before .before .before .length-at2 .result) (c .before .before .before .before .before .before .floats .result) (omega (arith, c .before .before .before .before .before .before .before .before .before .before .before .before .length-at2 .ensures, c .before .before .before .before .before .before .floats .ensures)))
 
 array-borrow-prefix-multipliers : tie.Need-array-borrow-prefix-multipliers
-array-borrow-prefix-multipliers c = search needs
+array-borrow-prefix-multipliers c = omega arith
 
 slice-aggregate-call-step-3 : tie.Need-slice-aggregate-call-step-3
 slice-aggregate-call-step-3 c = sym (length-take-le (c .before .before .before .before .before .before .before .before .before .before .before .before .length-at3 .result) (c .before .before .before .before .before .before .floats2 .result) (omega (arith, c .before .before .before .before .before .before .before .before .before .before .before .before .length-at3 .ensures, c .before .before .before .before .before .before .floats2 .ensures)))
 
 array-borrow-prefix-w : tie.Need-array-borrow-prefix-w
-array-borrow-prefix-w c = search needs
+array-borrow-prefix-w c = omega arith
 
 slice-aggregate-call-step-4 : tie.Need-slice-aggregate-call-step-4
 slice-aggregate-call-step-4 c = sym (length-take-le (c .before .before .before .before .before .before .before .before .before .before .before .before .before .length-at4 .result) (c .before .before .before .before .before .before .room .result) (omega (arith, c .before .before .before .before .before .before .before .before .before .before .before .before .before .length-at4 .ensures, c .before .before .before .before .before .before .room .ensures)))
 
 array-borrow-prefix-iw : tie.Need-array-borrow-prefix-iw
-array-borrow-prefix-iw c = search needs
+array-borrow-prefix-iw c = omega arith
 
 slice-aggregate-call-step-5 : tie.Need-slice-aggregate-call-step-5
 slice-aggregate-call-step-5 c = sym (length-take-le (c .before .before .before .before .before .before .before .before .before .before .before .before .before .length-at5 .result) (c .before .before .before .before .before .before .places .result) (omega (arith, c .before .before .before .before .before .before .before .before .before .before .before .before .before .length-at5 .ensures, c .before .before .before .before .before .before .places .ensures)))
@@ -79,7 +79,7 @@ call-step-requires : tie.Need-call-step-requires
 call-step-requires c κs = search needs
 
 answers-requires : tie.Need-answers-requires
-answers-requires c κs = search needs
+answers-requires c κs = omega arith
 
 returns : tie.Need-returns
 returns c = search needs
@@ -115,7 +115,7 @@ slice-aggregate-closing-2 : tie.Need-slice-aggregate-closing-2
 slice-aggregate-closing-2 c = c .before .before .before .before .before .before .before .before .before .before .before .before .before .before .before .before .before .before .before .before .before .before .places .ensures ∙ sym (length-front (c .before .before .before .before .before .before .before .before .before .before .before .before .before .before .before .before .before .before .before .before .before .before .places .result) (c .before .before .before .before .before .before .before .before .before .before .before .before .before .before .before .call-step .last .1 .1 .1 .1 .1 .1 .1 .0) (c .before .before .before .before .before .before .before .before .before .before .before .before .before .before .before .before .before .before .before .before .before .before .before .before .before .before .before .before .before .length-at5 .result) (c .before .before .before .before .before .before .before .before .before .before .before .before .before .before .before .call-step .kept .1 .1 .1 .1 .1 .1 .1 .0))
 
 closing-requires : tie.Need-closing-requires
-closing-requires c κs = search needs
+closing-requires c κs = omega arith
 
 returns-4 : tie.Need-returns-4
 returns-4 c = search needs
