@@ -5,7 +5,8 @@
  * For all functions:
  *
  * - No heap, no globals, no locks: they are re-entrant, and two threads may call them at once
- *   with buffers of their own. They need the two workspaces and stack, which has not been measured yet.
+ *   with buffers of their own. They need the two workspaces, stack (under 2 KiB was measured for
+ *   a step) and, of the C library, memset and memmove alone.
  * - A slice is a pointer and then its length in entries. A length of 0 goes with any pointer
  *   that is not null and is aligned for its type. Slices that are written must not overlap any
  *   other slice of the call.
