@@ -1,10 +1,10 @@
 #!/usr/bin/env python3
 """Writes the figures of a folder into docs/SPEED.md, between its marks, and draws docs/speed.svg.
 
-    bench/page.py FOLDER [final]
+    bench/page.py FOLDER
 
 FOLDER holds what bench/refresh keeps. A mark `<!-- NAME -->` stands before the block that holds
-NAME.txt. `final` takes out the line that calls the figures preliminary.
+NAME.txt.
 """
 import pathlib
 import re
@@ -24,8 +24,6 @@ def main():
         return f"<!-- {found[1]} -->\n```\n{figures}\n```"
 
     text = re.sub(r"<!-- ([a-z-]+) -->\n```\n.*?```", block, text, flags=re.S)
-    if sys.argv[2:] == ["final"]:
-        text = re.sub(r"^PRELIMINARY.*\n\n?", "", text, flags=re.M)
     page.write_text(text)
     drawn = subprocess.run(
         [sys.executable, ROOT / "bench/plot.py", folder / "growth.txt", folder / "instructions-growth.txt"],

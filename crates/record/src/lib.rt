@@ -124,7 +124,7 @@ fn mark(tag: u8) -> u8
 }
 
 // A float by its bits. Every NaN pattern gives the one NaN.
-fn value(bits: u64) -> f64
+pub fn value(bits: u64) -> f64
     ensures { λ r. ⌜ r ≡ ofBits binary64 bits ⌝ }
 {
     let e = bits % 9223372036854775808 / 4503599627370496;

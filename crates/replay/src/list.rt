@@ -2,7 +2,6 @@
 ghost use mathlib.Core.Path.{_≡_};
 ghost use Prim.Native.Nat.{_+_, _*_, _-_, _≤_, _<_};
 ghost use lib.ListN.{length, getD};
-ghost use lib.Ieee.{binary64, ofBits};
 ghost use Rattle.replay.specs.Places.{Placed, halfAt, wordAt};
 use libc::STDIN_FILENO;
 
@@ -113,20 +112,6 @@ pub fn count_of(head: u64) -> usize {
     whole(head / 65536)
 }
 
-// A float by its bits; every NaN pattern gives the one NaN.
-fn value(bits: u64) -> f64
-    ensures { λ r. ⌜ r ≡ ofBits binary64 bits ⌝ }
-{
-    let e = bits % 9223372036854775808 / 4503599627370496;
-    let t = bits % 4503599627370496;
-    if e == 2047 {
-        if t != 0 {
-            return 0.0 / 0.0;
-        }
-    }
-    f64::from_bits(bits)
-}
-
 // Room for the words of a call, more than any lengths can ask for.
 fn no_words() -> [u64; 12288]
     ensures { λ r. ⌜ 12288 ≡ length r ⌝ }
@@ -161,7 +146,7 @@ pub fn values_of(call: &[u64], count: usize) -> [f64; 12288]
 {
     let mut values = no_values();
     for i in 0..count {
-        values[i] = value(call[i]);
+        values[i] = record::value(call[i]);
     }
     values
 }

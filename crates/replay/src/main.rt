@@ -143,6 +143,12 @@ fn no_counts() -> [u64; 256]
     [0; 256]
 }
 
+// Whether the list has no byte left.
+fn ended() -> bool {
+    let mut bytes = [0u8; 1];
+    !read(&mut bytes)
+}
+
 fn main() {
     if next_word() != 0x5453494c54495247 {
         io::write_all(STDOUT_FILENO, b"malformed: the list has no head\n");
@@ -161,10 +167,4 @@ fn main() {
     io::write_all(STDOUT_FILENO, b"total ");
     io::print_decimal(STDOUT_FILENO, calls);
     io::write_all(STDOUT_FILENO, b"\n");
-}
-
-// Whether the list has no byte left.
-fn ended() -> bool {
-    let mut bytes = [0u8; 1];
-    !read(&mut bytes)
 }
