@@ -14,7 +14,7 @@ use Rattle.workspace.specs.Readings.{vec, Block}
 use Rattle.workspace.proofs.Readings.{at-vec, vec-set}
 use Rattle.workspace.proofs.Writes.{block-vec}
 use Rattle.householder.specs.Qr.{downward}
-use Rattle.subproblem.proofs.Coefficients.{map-tab}
+use Rattle.step_rows.proofs.Coefficients.{map-tab}
 
 pub forward-none : (n : ℕ) (r y : List Float) → y ≡ downward n r 0 y
 unfolding downward

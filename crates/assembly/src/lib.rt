@@ -11,8 +11,8 @@ ghost use lib.Ieee.{neg};
 ghost use Rattle.numbers.specs.Numbers.{+0, Σ, at, transposed, _⊖_, _⊗_, _⊘_};
 ghost use Rattle.workspace.specs.Readings.{vec, Block, Loaded};
 ghost use Rattle.householder.specs.Qr.{downward};
-ghost use Rattle.subproblem.specs.Step.{inOrder, paired, clamped};
-ghost use Rattle.subproblem.specs.Work.{equalitiesAmong, inequalitiesAmong, relaxedAmong};
+ghost use Rattle.step_rows.specs.Step.{inOrder, paired, clamped};
+ghost use Rattle.step_rows.specs.Work.{equalitiesAmong, inequalitiesAmong, relaxedAmong};
 ghost use Rattle.assembly.specs.Work.{triangle, cornered};
 
 // ---- f = -L^-1 g
@@ -106,7 +106,7 @@ pub fn write_matrix(factor: &[f64], w: &mut [f64], n: usize, root: f64)
     ensures { λ _. ⌜ Loaded 444 (n + 1) (n + 1) (cornered n root (now (factor .entry))) (now (w .entry)) (now (w .exit)) ⌝ }
 {
     write_columns(factor, w, n);
-    subproblem::write_unit(w, 444 + n * 18, n + 1, n, root);
+    step_rows::write_unit(w, 444 + n * 18, n + 1, n, root);
 }
 
 // ---- the multipliers, one per constraint in constraint order, to 36

@@ -22,7 +22,7 @@ fn number(low: u8, high: u8) -> usize
 // The name of a case, and what the record program writes for its file.
 fn answer(name: &[u8], file: &[u8]) {
     let mut out = [0u8; 2048];
-    let n = report::respond(file, &mut out);
+    let n = record_answer::respond(file, &mut out);
     io::write_all(STDOUT_FILENO, name);
     io::write_all(STDOUT_FILENO, b":\n");
     io::write_all(STDOUT_FILENO, &out[..n]);

@@ -37,7 +37,7 @@ fn tell_nnls(name: &[u8], k: usize, a: &[f64], b: &[f64], x: &mut [f64]) {
     let mut iw = words();
     let mut rounds: u32 = 0;
     let mut factorings: u32 = 0;
-    let number = cabinet::gritstrut_nnls(
+    let number = gritstrut::gritstrut_nnls(
         b.len(),
         x.len(),
         k,
@@ -101,7 +101,7 @@ fn tell_distance() {
     let mut multipliers = [0.0];
     let mut w = floats();
     let mut iw = words();
-    let number = cabinet::gritstrut_ldp(1, 1, &g, &h, &mut x, &mut multipliers, &mut w, &mut iw);
+    let number = gritstrut::gritstrut_ldp(1, 1, &g, &h, &mut x, &mut multipliers, &mut w, &mut iw);
     tell_number(b"ldp, G = [0], h = [1]", number);
     end_line();
 }
@@ -112,7 +112,7 @@ fn tell_distance() {
 fn tell_cholesky(name: &[u8], n: usize, b: &[f64], l: &mut [f64]) {
     let mut w = floats();
     let mut iw = words();
-    let number = cabinet::gritstrut_cholesky(n, b, l, &mut w, &mut iw);
+    let number = gritstrut::gritstrut_cholesky(n, b, l, &mut w, &mut iw);
     tell_number(name, number);
     if number == 0 {
         tell_floats(b"L", l);
@@ -186,10 +186,10 @@ fn tell_identity() {
     let mut l = full();
     let mut w = floats();
     let mut iw = words();
-    let made = cabinet::gritstrut_identity(16, &mut b, &mut w, &mut iw);
+    let made = gritstrut::gritstrut_identity(16, &mut b, &mut w, &mut iw);
     tell_number(b"identity, dimension 16", made);
     end_line();
-    let number = cabinet::gritstrut_cholesky(16, &b, &mut l, &mut w, &mut iw);
+    let number = gritstrut::gritstrut_cholesky(16, &b, &mut l, &mut w, &mut iw);
     tell_number(b"cholesky, identity of dimension 16", number);
     tell_count(b"entries as in B", count_same(&b, &l));
     end_line();
@@ -202,7 +202,7 @@ fn tell_update(name: &[u8], s: f64) {
     let y = [4.0];
     let mut w = floats();
     let mut iw = words();
-    let number = cabinet::gritstrut_update(1, &mut b, &step, &y, &mut w, &mut iw);
+    let number = gritstrut::gritstrut_update(1, &mut b, &step, &y, &mut w, &mut iw);
     tell_number(name, number);
     tell_floats(b"B", &b);
     end_line();
@@ -232,7 +232,7 @@ fn tell_step(
     let mut d = [0.0];
     let mut relaxation = [0.0];
     let mut iw = words();
-    let number = cabinet::gritstrut_step(
+    let number = gritstrut::gritstrut_step(
         1,
         values.len(),
         &one,

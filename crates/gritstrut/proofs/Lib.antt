@@ -1,1 +1,4 @@
-pub mod Counted
+pub mod Interface
+pub mod Factors
+pub mod Counts
+pub mod Relaxations

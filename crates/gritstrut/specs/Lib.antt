@@ -1,2 +1,2 @@
--- The record program. Definitions only.
-pub mod Reading
+-- What the C functions leave behind the pointers of single results. Definitions only.
+pub mod Interface

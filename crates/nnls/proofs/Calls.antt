@@ -8,7 +8,7 @@ use native.Mathlib.Omega.{arith}
 use lib.Dec.{leb}
 use lib.Ieee.{Float}
 use Rattle.workspace.specs.Tables.{Answer, done, refused, call, isDual, isRoom, has}
-use Rattle.passive.specs.Passive.{solveOf}
+use Rattle.nnls_passive.specs.Passive.{solveOf}
 use Rattle.nnls.specs.Nnls.{Accepted, dualOf, nnls}
 use Rattle.nnls.specs.Claims.{Sound, SoundCounted, SoundCall}
 use Rattle.nnls.specs.Promise.{tell, nnlsCall, Nnls}

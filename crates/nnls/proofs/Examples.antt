@@ -12,7 +12,7 @@ use borrow.Author.Tests.{ne-eqb}
 use Rattle.numbers.specs.Numbers.{+0, near, Σ, tab, dot, scatter, rows, grid, row, column, transposed}
 use Rattle.numbers.specs.Root.{floorRoot, rootOf, sqrtOf, norm}
 use Rattle.householder.specs.Qr.{along, image, columnNorm, pivot, swapped, reflector, pinned, advance, steps, factor, forth, applyQt, upward, solveR, solve}
-use Rattle.passive.specs.Passive.{Solved, members, solveOf}
+use Rattle.nnls_passive.specs.Passive.{Solved, members, solveOf}
 use Rattle.nnls.specs.Claims.{Sound, SoundCall}
 use Rattle.nnls.specs.Nnls.{residual, dualOf, choose, ratioOf, ranksBefore, blocking, stepTo, nextX, nextMark, moveX, moveP, keeps, judge, tryNext, tries, turnNext, turns, accept, lastly, pass, roundNext, rounds, activeSet, nnls}
 

@@ -10,7 +10,7 @@ use lib.ListN.{set}
 use lib.Ieee.{Float}
 use borrow.Author.Tests.{eqb-true}
 use Rattle.numbers.specs.Numbers.{at, nth}
-use Rattle.passive.specs.Passive.{isIn}
+use Rattle.nnls_passive.specs.Passive.{isIn}
 use Rattle.nnls.specs.Nnls.{above0, choose, Tried, kept, ended, tries}
 use Rattle.nnls.specs.State.{State, put, solveIn}
 use Rattle.nnls.specs.Work.{TriedColumn, Passed}

@@ -11,7 +11,7 @@ use Rattle.numbers.proofs.Lists.{tab-replicate}
 use Rattle.workspace.specs.Readings.{vec, mat, nums, Block, Span}
 use Rattle.workspace.proofs.Readings.{vec-is, vec-same, mat-same, nums-same}
 use Rattle.workspace.proofs.Writes.{block-vec, span-nums}
-use Rattle.passive.specs.Work.{Solves}
+use Rattle.nnls_passive.specs.Work.{Solves}
 use Rattle.nnls.specs.State.{State, read, put, solveIn}
 
 pub states : {a a′ b b′ x x′ z z′ d d′ : List Float} {p p′ r r′ : List ℕ} → a ≡ a′ → b ≡ b′ → x ≡ x′ → z ≡ z′ → d ≡ d′ → p ≡ p′ → r ≡ r′

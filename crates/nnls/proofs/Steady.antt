@@ -11,7 +11,7 @@ use lib.Ieee.{Float, nan, inf, fin, lt, eq, isNan}
 use Rattle.numbers.specs.Numbers.{+0, _⊖_, _⊘_, at, nth}
 use Rattle.numbers.proofs.Lists.{length-tab, getD-tab}
 use Rattle.workspace.specs.Tables.{Answer, done}
-use Rattle.passive.specs.Passive.{isIn, Solved}
+use Rattle.nnls_passive.specs.Passive.{isIn, Solved}
 use Rattle.nnls.specs.Nnls.{above0, upTo0, Block, free, block, blocking, ratioOf, ranksBefore, stepTo, nextX, moveX, moveP, Tried, kept, ended, Accepted, turnNext, turns, pass, lastly, roundNext, rounds, activeSet}
 use Rattle.nnls.specs.Claims.{ZeroOrAbove, Solver, Place, round, turn, Passes, begins, enters, moves, settles, totalBefore, Steady}
 use Rattle.nnls.proofs.Signs.{negative, not-upTo0, above-sign, div-sign, clear-sign}

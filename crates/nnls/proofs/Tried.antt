@@ -11,7 +11,7 @@ use lib.Ieee.{Float}
 use Rattle.numbers.specs.Numbers.{at, nth}
 use Rattle.workspace.specs.Readings.{vec, nums}
 use Rattle.workspace.proofs.Readings.{at-vec, nums-set, nums-set-front, nth-front}
-use Rattle.passive.specs.Work.{Solves}
+use Rattle.nnls_passive.specs.Work.{Solves}
 use Rattle.nnls.specs.Nnls.{above0, keeps}
 use Rattle.nnls.specs.State.{State, read, put, solveIn}
 use Rattle.nnls.specs.Work.{TriedColumn}

@@ -9,7 +9,7 @@ use native.Mathlib.Omega.{arith}
 use lib.ListN.{set}
 use lib.Ieee.{Float}
 use Rattle.workspace.specs.Tables.{iterationCap}
-use Rattle.passive.specs.Passive.{Solved}
+use Rattle.nnls_passive.specs.Passive.{Solved}
 use Rattle.nnls.specs.Nnls.{choose, Block, free, block, blocking, moveX, moveP, Tried, kept, ended, accept, keeps, judge, tryNext, tries, turnNext, turns, pass, lastly, roundNext, rounds}
 
 module _ (n : ℕ) (solve : List ℕ → Solved) where

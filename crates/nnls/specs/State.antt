@@ -8,7 +8,7 @@ use Prim.Native.Nat.{ℕ}
 use lib.Ieee.{Float}
 use Rattle.workspace.specs.Tables.{done, iterationCap}
 use Rattle.workspace.specs.Readings.{vec, mat, nums}
-use Rattle.passive.specs.Passive.{Solved, solveOf}
+use Rattle.nnls_passive.specs.Passive.{Solved, solveOf}
 use Rattle.nnls.specs.Counted.{Counted}
 use Rattle.nnls.specs.Nnls.{dualOf, Accepted}
 use Rattle.nnls.specs.declared.Ended.{Ended}

@@ -230,7 +230,7 @@ fn try_column(w: &mut [f64], iw: &mut [u32], m: usize, n: usize, t: usize) -> bo
     ensures { λ r. ⌜ TriedColumn m n t r (read m n (now (w .entry)) (now (iw .entry))) (read m n (now (w .exit)) (now (iw .exit))) ⌝ }
 {
     iw[t] = 1;
-    let full = passive::solve_passive(w, iw, m, n);
+    let full = nnls_passive::solve_passive(w, iw, m, n);
     if full {
         if w[1272 + t] > 0.0 {
             return true;
@@ -304,7 +304,7 @@ fn turn_all(w: &mut [f64], iw: &mut [u32], m: usize, n: usize, f: usize) -> usiz
             return f + count;
         };
         move_all(w, iw, n, q, ratio);
-        let full = passive::solve_passive(w, iw, m, n);
+        let full = nnls_passive::solve_passive(w, iw, m, n);
         count += 1;
     }
     f + count

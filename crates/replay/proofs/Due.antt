@@ -6,7 +6,7 @@ use lib.Ieee.{Float, binary64, ofBits, div, neg}
 use borrow.Author.Tests.{lt-ltb, le-ltb, eq-eqb, ne-eqb, le-leb, lt-leb}
 use lib.ListN.{getD}
 use Rattle.numbers.specs.Numbers.{at, nth}
-use Rattle.record.proofs.Bytes.{zero-by-zero, and-false}
+use Rattle.record_read.proofs.Bytes.{zero-by-zero, and-false}
 use Rattle.replay.specs.Places.{halfAt, wordAt}
 use Rattle.replay.specs.Junk.{junkOf, markOf, dueAt, dueMark, dueRoom, duePlace, wipedBy}
 

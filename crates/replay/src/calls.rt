@@ -11,12 +11,12 @@ pub fn call_real(operation: usize, call: &[u64], values: &[f64]) -> f64
 {
     let end = 2 + length_at(call, 1, 1200);
     if operation == 0 {
-        return cabinet::gritstrut_sqrt(values[2]);
+        return gritstrut::gritstrut_sqrt(values[2]);
     }
     if operation == 1 {
-        return cabinet::gritstrut_sum(&values[2..end]);
+        return gritstrut::gritstrut_sum(&values[2..end]);
     }
-    cabinet::gritstrut_norm(&values[2..end])
+    gritstrut::gritstrut_norm(&values[2..end])
 }
 
 // The approximation B: the identity, a product or a factor.
@@ -32,15 +32,15 @@ pub fn call_one(
 {
     let n = whole(call[1]);
     if operation == 8 {
-        return cabinet::gritstrut_identity(n, out, w, iw);
+        return gritstrut::gritstrut_identity(n, out, w, iw);
     }
     if operation == 9 {
         let v = 7 + length_at(call, 2, 1200);
         let end = v + length_at(call, 3, 1200);
-        return cabinet::gritstrut_times(n, &values[7..v], &values[v..end], out, w, iw);
+        return gritstrut::gritstrut_times(n, &values[7..v], &values[v..end], out, w, iw);
     }
     let end = 6 + length_at(call, 2, 1200);
-    cabinet::gritstrut_cholesky(n, &values[6..end], out, w, iw)
+    gritstrut::gritstrut_cholesky(n, &values[6..end], out, w, iw)
 }
 
 // The damped update of B, which is changed where it stands.
@@ -57,7 +57,7 @@ pub fn call_update(
     let s = 7 + length_at(call, 2, 1200);
     let y = s + length_at(call, 3, 1200);
     let end = y + length_at(call, 4, 1200);
-    cabinet::gritstrut_update(n, b, &values[s..y], &values[y..end], w, iw)
+    gritstrut::gritstrut_update(n, b, &values[s..y], &values[y..end], w, iw)
 }
 
 // Least distance programming.
@@ -75,7 +75,7 @@ fn call_ldp(
     let n = whole(call[2]);
     let h = 9 + length_at(call, 3, 1200);
     let end = h + length_at(call, 4, 1200);
-    cabinet::gritstrut_ldp(m, n, &values[9..h], &values[h..end], x, multipliers, w, iw)
+    gritstrut::gritstrut_ldp(m, n, &values[9..h], &values[h..end], x, multipliers, w, iw)
 }
 
 // Least squares with inequalities.
@@ -96,7 +96,7 @@ fn call_lsi(
     let g = f + length_at(call, 5, 1200);
     let h = g + length_at(call, 6, 1200);
     let end = h + length_at(call, 7, 1200);
-    cabinet::gritstrut_lsi(
+    gritstrut::gritstrut_lsi(
         n,
         me,
         mg,
@@ -132,7 +132,7 @@ fn call_lsei(
     let g = f + length_at(call, 8, 1200);
     let h = g + length_at(call, 9, 1200);
     let end = h + length_at(call, 10, 1200);
-    cabinet::gritstrut_lsei(
+    gritstrut::gritstrut_lsei(
         n,
         mc,
         me,
@@ -188,7 +188,7 @@ pub fn call_nnls(
     let k = whole(call[3]);
     let b = 9 + length_at(call, 4, 1200);
     let end = b + length_at(call, 5, 1200);
-    cabinet::gritstrut_nnls(
+    gritstrut::gritstrut_nnls(
         m,
         n,
         k,
@@ -219,7 +219,7 @@ pub fn call_qr(
     let m = whole(call[1]);
     let n = whole(call[2]);
     let end = 10 + length_at(call, 3, 1200);
-    cabinet::gritstrut_qr(m, n, &values[10..end], r, perm, u, b, rank, w, iw)
+    gritstrut::gritstrut_qr(m, n, &values[10..end], r, perm, u, b, rank, w, iw)
 }
 
 // The step of one SQP iteration.
@@ -243,7 +243,7 @@ pub fn call_step(
     let lower = jacobian + length_at(call, 6, 1200);
     let upper = lower + length_at(call, 7, 1200);
     let end = upper + length_at(call, 8, 1200);
-    cabinet::gritstrut_step(
+    gritstrut::gritstrut_step(
         n,
         m,
         &values[14..gradient],

@@ -146,7 +146,7 @@ pub fn values_of(call: &[u64], count: usize) -> [f64; 12288]
 {
     let mut values = no_values();
     for i in 0..count {
-        values[i] = record::value(call[i]);
+        values[i] = record_read::value(call[i]);
     }
     values
 }

@@ -11,7 +11,7 @@ use lib.Ieee.{Float}
 use Rattle.workspace.specs.Tables.{Answer, done, refused}
 use Rattle.nnls.specs.Counted.{Counted, then, andThen}
 use Rattle.lsei.specs.Lsei.{Solution}
-use Rattle.subproblem.specs.Step.{Step}
+use Rattle.step_rows.specs.Step.{Step}
 use Rattle.lsei.specs.Work.{answered, told}
 use Rattle.lsei.specs.declared.Ending.{Ending}
 use Rattle.lsei.specs.declared.Ending.the-variants as Ending

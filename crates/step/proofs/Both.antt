@@ -8,10 +8,10 @@ use Rattle.numbers.specs.Numbers.{transposed}
 use Rattle.workspace.specs.Readings.{vec}
 use Rattle.householder.specs.Qr.{downward}
 use Rattle.nnls.specs.Counted.{Counted, after}
-use Rattle.subproblem.specs.Problem.{Problem, boundRows, equalityRows, inequalityRows, relaxedRows}
-use Rattle.subproblem.specs.Step.{Step, target, exactStep, exact, relaxedMatrix, relaxedStep, relaxed, orRelaxed, step}
-use Rattle.subproblem.specs.Claims.{withFactor}
-use Rattle.subproblem.specs.Work.{bare}
+use Rattle.step_rows.specs.Problem.{Problem, boundRows, equalityRows, inequalityRows, relaxedRows}
+use Rattle.step_rows.specs.Step.{Step, target, exactStep, exact, relaxedMatrix, relaxedStep, relaxed, orRelaxed, step}
+use Rattle.step_rows.specs.Claims.{withFactor}
+use Rattle.step_rows.specs.Work.{bare}
 use Rattle.step.specs.declared.Tried.{Tried}
 use Rattle.step.specs.declared.Tried.the-variants.{Done, Refused}
 use Rattle.step.specs.Work.{problemOf, taken, later, IsLate, Tries}

@@ -17,8 +17,8 @@ use Rattle.workspace.specs.Readings.{vec}
 use Rattle.workspace.proofs.Parts.{vec-front, front-cleared}
 use Rattle.workspace.proofs.Tests.{and-true, dimension-le, equalities-le}
 use Rattle.nnls.specs.Counted.{Counted}
-use Rattle.subproblem.specs.Step.{Step}
-use Rattle.subproblem.specs.Promise.{areKinds, Steps}
+use Rattle.step_rows.specs.Step.{Step}
+use Rattle.step_rows.specs.Promise.{areKinds, Steps}
 use Rattle.step.specs.Outcomes.{numberOf, relaxationOf}
 use Rattle.step.specs.Work.{takenIn, IsLate, Given}
 use Rattle.step.specs.declared.Outcome.{Outcome}

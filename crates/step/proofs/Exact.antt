@@ -20,14 +20,14 @@ use Rattle.nnls.specs.Counted.{Counted}
 use Rattle.lsei.specs.Lsei.{Solution, lsei}
 use Rattle.lsei.proofs.Costs.{lsei-most}
 use Rattle.lsei.proofs.Together.{sides-part}
-use Rattle.subproblem.specs.Problem.{Problem, rowOf, matrixOf, sidesOf, each, boundRows, equalityRows, inequalityRows}
-use Rattle.subproblem.specs.Step.{Step, inOrder, exactStep, exact}
-use Rattle.subproblem.specs.Claims.{withFactor}
-use Rattle.subproblem.specs.Work.{Pushed, picked, bare, equalitiesAmong, inequalitiesAmong}
-use Rattle.subproblem.proofs.Pushing.{pushed-count, pushed-matrix, pushed-sides}
-use Rattle.subproblem.proofs.Among.{all-equal, enough-exact}
+use Rattle.step_rows.specs.Problem.{Problem, rowOf, matrixOf, sidesOf, each, boundRows, equalityRows, inequalityRows}
+use Rattle.step_rows.specs.Step.{Step, inOrder, exactStep, exact}
+use Rattle.step_rows.specs.Claims.{withFactor}
+use Rattle.step_rows.specs.Work.{Pushed, picked, bare, equalitiesAmong, inequalitiesAmong}
+use Rattle.step_rows.proofs.Pushing.{pushed-count, pushed-matrix, pushed-sides}
+use Rattle.step_rows.proofs.Among.{all-equal, enough-exact}
 use Rattle.lsei.specs.Work.{told, sides}
-use Rattle.nullspace.specs.Work.{solutionIn}
+use Rattle.lsei_nullspace.specs.Work.{solutionIn}
 use Rattle.lsei.specs.declared.Ending.the-variants as Ending
 use Rattle.lsei.specs.declared.Ended.{Ended}
 use Rattle.step.specs.declared.Sizes.{Sizes}

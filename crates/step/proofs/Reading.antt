@@ -11,7 +11,7 @@ use Rattle.numbers.proofs.Lists.{by-entries, tab-of}
 use Rattle.workspace.specs.Readings.{vec, Block}
 use Rattle.workspace.proofs.Readings.{length-vec, at-vec, vec-same, vec-is}
 use Rattle.workspace.proofs.Writes.{block-vec}
-use Rattle.subproblem.specs.Step.{inOrder, paired}
+use Rattle.step_rows.specs.Step.{inOrder, paired}
 use Rattle.step.specs.Work.{Left}
 
 pub length-inOrder : (ks : List ℕ) (e i : ℕ) (l : List Float) → length (inOrder ks e i l) ≡ length ks

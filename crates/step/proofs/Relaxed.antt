@@ -20,12 +20,12 @@ use Rattle.nnls.specs.Counted.{Counted}
 use Rattle.lsei.specs.Lsei.{Solution, lsi}
 use Rattle.lsei.proofs.Costs.{lsi-most}
 use Rattle.lsei.proofs.Together.{sides-part}
-use Rattle.subproblem.specs.Problem.{Problem, matrixOf, sidesOf, boundRows, relaxedRows}
-use Rattle.subproblem.specs.Step.{Step, rootWeight, relaxedMatrix, paired, clamped, relaxedStep, relaxed}
-use Rattle.subproblem.specs.Claims.{withFactor}
-use Rattle.subproblem.specs.Work.{Pushed, bare, relaxedAmong}
-use Rattle.subproblem.proofs.Pushing.{pushed-count, pushed-matrix, pushed-sides}
-use Rattle.subproblem.proofs.Among.{enough-relaxed}
+use Rattle.step_rows.specs.Problem.{Problem, matrixOf, sidesOf, boundRows, relaxedRows}
+use Rattle.step_rows.specs.Step.{Step, rootWeight, relaxedMatrix, paired, clamped, relaxedStep, relaxed}
+use Rattle.step_rows.specs.Claims.{withFactor}
+use Rattle.step_rows.specs.Work.{Pushed, bare, relaxedAmong}
+use Rattle.step_rows.proofs.Pushing.{pushed-count, pushed-matrix, pushed-sides}
+use Rattle.step_rows.proofs.Among.{enough-relaxed}
 use Rattle.assembly.specs.Work.{cornered}
 use Rattle.lsei.specs.Work.{told, sides, squaresIn}
 use Rattle.lsei.specs.declared.Ending.the-variants as Ending

@@ -9,9 +9,9 @@ use Rattle.numbers.specs.Numbers.{+0, transposed}
 use Rattle.workspace.specs.Tables.{done, refused}
 use Rattle.workspace.specs.Readings.{vec, mat, stack, Cleared}
 use Rattle.nnls.specs.Counted.{Counted}
-use Rattle.subproblem.specs.Problem.{Problem, matrixOf, sidesOf, equalityRows, inequalityRows, relaxedRows}
-use Rattle.subproblem.specs.Step.{Step, relaxedMatrix}
-use Rattle.subproblem.specs.Work.{Lengths}
+use Rattle.step_rows.specs.Problem.{Problem, matrixOf, sidesOf, equalityRows, inequalityRows, relaxedRows}
+use Rattle.step_rows.specs.Step.{Step, relaxedMatrix}
+use Rattle.step_rows.specs.Work.{Lengths}
 use Rattle.lsei.specs.Work.{sides}
 use Rattle.lsei.specs.declared.Ending.{Ending}
 use Rattle.lsei.specs.declared.Ending.the-variants as Ending

@@ -11,10 +11,10 @@ ghost use Rattle.numbers.specs.Numbers.{at};
 ghost use Rattle.workspace.specs.Tables.{isDimension, isEqualities, has};
 ghost use Rattle.workspace.specs.Readings.{vec};
 ghost use Rattle.nnls.specs.Counted.{Counted};
-ghost use Rattle.subproblem.specs.Claims.{withFactor};
-ghost use Rattle.subproblem.specs.Promise.{areKinds, stepCall, Steps};
-ghost use Rattle.subproblem.specs.Step.{inOrder, paired, clamped, exact, relaxed, step};
-ghost use Rattle.subproblem.specs.Work.{bare, equalitiesAmong, inequalitiesAmong, relaxedAmong};
+ghost use Rattle.step_rows.specs.Claims.{withFactor};
+ghost use Rattle.step_rows.specs.Promise.{areKinds, stepCall, Steps};
+ghost use Rattle.step_rows.specs.Step.{inOrder, paired, clamped, exact, relaxed, step};
+ghost use Rattle.step_rows.specs.Work.{bare, equalitiesAmong, inequalitiesAmong, relaxedAmong};
 ghost use Rattle.step.specs.Outcomes.{numberOf, relaxationOf};
 ghost use Rattle.step.specs.Work.{problemOf, Ready, ExactIn, RelaxedIn, Readable, Left, refusalOf, takenIn, Tries, roundsOf, factoringsOf, later, IsLate, Lent, Given};
 
@@ -61,11 +61,11 @@ fn write_exact(
     requires { ⌜ Ready n m (now factor) (now kinds) (now values) (now jacobian) (now lower) (now upper) (now w) ⌝ }
     ensures { λ r. ⌜ ExactIn (withFactor (bare n m (now (kinds .entry)) (now (values .entry)) (now (jacobian .entry)) (now (lower .entry)) (now (upper .entry))) (now (factor .entry))) (vec 0 n (now (w .entry))) r (now (w .exit)) ⌝ }
 {
-    let c = subproblem::push_constraints(kinds, values, jacobian, w, 444, n, m, true);
+    let c = step_rows::push_constraints(kinds, values, jacobian, w, 444, n, m, true);
     assembly::gather_sides(w, c, n);
     workspace::load_matrix(factor, w, 750, n, n);
     workspace::copy_up(w, 0, 1056, n);
-    let g = subproblem::push_inequalities(kinds, values, jacobian, lower, upper, w, 1074, n, m);
+    let g = step_rows::push_inequalities(kinds, values, jacobian, lower, upper, w, 1074, n, m);
     Sizes {
         equalities: c,
         inequalities: g,
@@ -112,7 +112,7 @@ fn try_exact(
     let s = write_exact(factor, kinds, values, jacobian, lower, upper, w, n, m);
     let c = s.equalities;
     let g = s.inequalities;
-    let e = nullspace::solve_lsei(&mut w[18..], iw, n, c, n, g);
+    let e = lsei_nullspace::solve_lsei(&mut w[18..], iw, n, c, n, g);
     let ending = e.ending;
     let lsei::Ending::Done = ending else {
         return Tried::Refused(refusal_of(ending), e.rounds, e.factorings);
@@ -141,7 +141,7 @@ fn write_relaxed(
     let root = numbers::sqrt(Step::RELAXATION_WEIGHT);
     assembly::write_matrix(factor, w, n, root);
     assembly::write_side(w, n);
-    subproblem::push_relaxed_rows(kinds, values, jacobian, lower, upper, w, 768, n, m)
+    step_rows::push_relaxed_rows(kinds, values, jacobian, lower, upper, w, 768, n, m)
 }
 
 // From LSI's answer: the multipliers, to 36, the step, to 18, and the relaxation.

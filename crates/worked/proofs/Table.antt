@@ -6,13 +6,13 @@ use lib.Ieee.{add, sub, mul, div, neg, lt, le, eq, isNan, sum, round, size, unit
 use Rattle.numbers.specs.Numbers.{Σ, tab, dot, gather, scatter, rows, grid, row, column, transposed}
 use Rattle.numbers.specs.Root.{floorRoot, rootOf, sqrtOf, norm}
 use Rattle.householder.specs.Qr.{along, image, columnNorm, pivot, swapped, reflector, pinned, advance, steps, factor, forth, back, applyQt, applyQ, upward, solveR, downward, solveRt, solve}
-use Rattle.passive.specs.Passive.{members, solveOf}
+use Rattle.nnls_passive.specs.Passive.{members, solveOf}
 use Rattle.nnls.specs.Nnls.{residual, dualOf, choose, ratioOf, ranksBefore, blocking, stepTo, nextX, nextMark, moveX, moveP, judge, tryNext, tries, turnNext, turns, lastly, pass, roundNext, rounds, activeSet, nnls}
 use Rattle.lsei.specs.Lsei.{dualMatrix, dualSide, dualResidual, primal, ldp, reducedRows, reducedSides, restored, lsiFrom, lsi, fixed, turned, tailOf, shifted, gradient, equalityMultipliers, rejoined, lseiFrom, lsei}
 use Rattle.hessian.specs.Hessian.{identity, times, remainder, withRow, nextRow, firstRows, cholesky, theta, damped, revised, curved, update}
-use Rattle.subproblem.specs.Problem.{matrixOf, sidesOf, each, unit, boundRows, equalityRows, inequalityRows, opposedRows, loosenedRow, deltaRows, relaxedRows}
-use Rattle.subproblem.specs.Step.{weight, rootWeight, target, inOrder, exactStep, exact, relaxedMatrix, paired, clamped, relaxedStep, relaxed, step}
-use Rattle.subproblem.specs.Promise.{areKinds}
+use Rattle.step_rows.specs.Problem.{matrixOf, sidesOf, each, unit, boundRows, equalityRows, inequalityRows, opposedRows, loosenedRow, deltaRows, relaxedRows}
+use Rattle.step_rows.specs.Step.{weight, rootWeight, target, inOrder, exactStep, exact, relaxedMatrix, paired, clamped, relaxedStep, relaxed, step}
+use Rattle.step_rows.specs.Promise.{areKinds}
 use Rattle.worked.specs.Worked.{answered, table, others}
 
 pub worked : map answered table ≡ table

@@ -1,5 +1,5 @@
 -- `clamp`: each way out rewrites with its tests. Assumes nothing.
-use Rattle.subproblem.specs.Step.{clamped}
+use Rattle.step_rows.specs.Step.{clamped}
 use Rattle.workspace.proofs.Readings.{lit-+0}
 use Rattle.lsei.proofs.Dual.{lit-one}
 use Rattle.assembly.proofs.clamp.Statement.{statement}

@@ -8,7 +8,7 @@ use lib.Ieee.{nan}
 use Rattle.numbers.specs.Numbers.{at}
 use Rattle.workspace.specs.Readings.{vec, Block}
 use Rattle.workspace.proofs.Writes.{written-none, written-more}
-use Rattle.subproblem.specs.Step.{inOrder}
+use Rattle.step_rows.specs.Step.{inOrder}
 use Rattle.assembly.proofs.Ordering.{Passed, passed-none, passed-more, placed}
 use Rattle.assembly.proofs.order_multipliers.Statement.{statement}
 use Rattle.assembly.proofs.order_multipliers.Tie as tie

@@ -7,7 +7,7 @@ use lib.Ieee.{nan}
 use Rattle.numbers.specs.Numbers.{at, nth}
 use Rattle.workspace.specs.Readings.{vec, Block}
 use Rattle.workspace.proofs.Writes.{written-none, written-more}
-use Rattle.subproblem.specs.Step.{paired}
+use Rattle.step_rows.specs.Step.{paired}
 use Rattle.assembly.proofs.Ordering.{PassedRows, rows-none, rows-more, rows-left, paired-next, paired-kept}
 use Rattle.assembly.proofs.pair_multipliers.Statement.{statement}
 use Rattle.assembly.proofs.pair_multipliers.Tie as tie

@@ -4,7 +4,7 @@ use native.Mathlib.Omega.{arith}
 use lib.ListN.{length-set}
 use Rattle.workspace.specs.Readings.{vec}
 use Rattle.workspace.proofs.Readings.{lit-+0}
-use Rattle.subproblem.proofs.Pushing.{written-behind}
+use Rattle.step_rows.proofs.Pushing.{written-behind}
 use Rattle.assembly.proofs.write_side.Statement.{statement}
 use Rattle.assembly.proofs.write_side.Tie as tie
 

@@ -3,7 +3,7 @@ use mathlib.Core.Path.{_≡_, refl, sym, ap, _∙_}
 use Prim.Native.Nat.{ℕ, _+_, _*_, _-_, _≤_, _<_}
 use native.Mathlib.Omega.{arith}
 use lib.ListN.{length, drop}
-use Rattle.subproblem.specs.Promise.{areKinds}
+use Rattle.step_rows.specs.Promise.{areKinds}
 use Rattle.step.proofs.Calls.{kinds-more, kinds-bad, kinds-all}
 use Rattle.step.proofs.are_kinds.Statement.{statement}
 use Rattle.step.proofs.are_kinds.Tie as tie

@@ -2,7 +2,7 @@
 use mathlib.Core.Path.{_≡_, refl, sym, ap, _∙_}
 use Prim.Native.Nat.{ℕ, _+_, _*_, _-_, _≤_, _<_}
 use native.Mathlib.Omega.{arith}
-use Rattle.subproblem.specs.Work.{bare}
+use Rattle.step_rows.specs.Work.{bare}
 use borrow.Author.Needs.{needs}
 use Rattle.step.proofs.Both.{step-first, step-second, late-later}
 use Rattle.step.proofs.solve_step.Statement.{statement}

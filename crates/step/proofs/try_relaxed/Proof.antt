@@ -6,8 +6,8 @@ use lib.ListN.{length}
 use borrow.Rule.Slice.PartMut.{same-len-mid}
 use Rattle.workspace.specs.Readings.{vec}
 use Rattle.workspace.proofs.Readings.{lit-+0}
-use Rattle.subproblem.specs.Claims.{withFactor}
-use Rattle.subproblem.specs.Work.{bare}
+use Rattle.step_rows.specs.Claims.{withFactor}
+use Rattle.step_rows.specs.Work.{bare}
 use borrow.Author.Needs.{needs}
 use Rattle.step.proofs.Relaxed.{relaxed-refused, relaxed-done, relaxed-counts}
 use Rattle.step.proofs.try_relaxed.Statement.{statement}

@@ -1,6 +1,6 @@
 -- `is_same`: what is not a NaN has bits. Assumes nothing.
 use native.Mathlib.Omega.{arith}
-use Rattle.report.proofs.Numerals.{some-bits}
+use Rattle.record_answer.proofs.Numerals.{some-bits}
 use Rattle.cases.proofs.table.is_same.Statement.{statement}
 use Rattle.cases.proofs.table.is_same.Tie as tie
 

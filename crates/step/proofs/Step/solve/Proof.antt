@@ -7,8 +7,8 @@ use borrow.Author.Tests.{not-true, not-false}
 use Rattle.workspace.specs.Tables.{isDimension, isEqualities, isRoom, has}
 use Rattle.workspace.proofs.Tests.{room-ge}
 use Rattle.nnls.specs.Counted.{Counted}
-use Rattle.subproblem.specs.Step.{step}
-use Rattle.subproblem.specs.Promise.{areKinds, areLengths}
+use Rattle.step_rows.specs.Step.{step}
+use Rattle.step_rows.specs.Promise.{areKinds, areLengths}
 use Rattle.step.specs.Work.{problemOf}
 use Rattle.step.proofs.Calls.{sizes-le, lengths-are, widths-are, size-refused, length-refused, room-refused, kind-refused, call-answered, lengths-bad, lengths-good, lengths-rest}
 use Rattle.step.proofs.Step.solve.Statement.{statement}

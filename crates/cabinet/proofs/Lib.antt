@@ -1,4 +1,0 @@
-pub mod Interface
-pub mod Factors
-pub mod Counts
-pub mod Relaxations

@@ -1,0 +1,80 @@
+-- `respond`: what the input says, and what is written for it. Assumes nothing.
+use mathlib.Core.Path.{sym}
+use native.Mathlib.Omega.{arith}
+use Rattle.record_read.specs.declared.Input.the-variants.{Fault, Large, Whole}
+use Rattle.record_read.proofs.Decoded.{whole-sizes, whole-tables}
+use Rattle.record_answer.proofs.Writing.{as-text, wrote-all}
+use Rattle.record_answer.proofs.Answers.{output-is}
+use Rattle.record_answer.proofs.respond.Statement.{statement}
+use Rattle.record_answer.proofs.respond.Tie as tie
+
+no-marks-requires : tie.Need-no-marks-requires
+no-marks-requires c κs = omega arith
+
+no-values-requires : tie.Need-no-values-requires
+no-values-requires c κs = omega arith
+
+decode-requires : tie.Need-decode-requires
+decode-requires c κs = omega arith
+
+enum-known-k : tie.Need-enum-known-k
+enum-known-k c = omega arith
+
+put-fault-requires : tie.Need-put-fault-requires
+put-fault-requires c κs = omega arith
+
+enum-told : tie.Need-enum-told
+enum-told c = omega arith
+
+put-refused-requires : tie.Need-put-refused-requires
+put-refused-requires c κs = omega arith
+
+enum-known-m : tie.Need-enum-known-m
+enum-known-m c = omega arith
+
+slice-aggregate-put-step : tie.Need-slice-aggregate-put-step
+slice-aggregate-put-step c = let k = c .before .before .before .before .decode in sym (whole-tables (k .result) _ _ (k .last .1 .0) (k .last .1 .1 .0) (c .before .before .m .given .1) (k .ensures .1) .0)
+
+slice-aggregate-put-step-2 : tie.Need-slice-aggregate-put-step-2
+slice-aggregate-put-step-2 c = let k = c .before .before .before .before .before .decode in sym (whole-tables (k .result) _ _ (k .last .1 .0) (k .last .1 .1 .0) (c .before .before .before .m .given .1) (k .ensures .1) .1)
+
+put-step-requires : tie.Need-put-step-requires
+put-step-requires c κs = let bs = c .before .before .before .before .before .before .before .before .before .before .before .before .args .bytes .now in
+    let k = c .before .before .before .before .before .before .decode in
+    let s = whole-sizes bs (k .result) _ _ (k .last .1 .0) (k .last .1 .1 .0) (c .before .before .before .before .m .given .1) (k .ensures .0) in
+    let t = whole-tables (k .result) _ _ (k .last .1 .0) (k .last .1 .1 .0) (c .before .before .before .before .m .given .1) (k .ensures .1) in
+    (s .few, s .some, s .most, t .0, t .1, omega arith)
+
+returns : tie.Need-returns
+returns c = let bs = c .before .before .before .before .before .before .before .before .before .before .before .args .bytes .now in
+    let k = c .before .before .before .before .before .decode in
+    wrote-all (as-text (output-is bs (k .result) (Fault _) (k .last .1 .0) (k .last .1 .1 .0) (c .before .before .before .k .given .1) (k .ensures .0)) (c .put-fault .ensures))
+
+returns-2 : tie.Need-returns-2
+returns-2 c = let bs = c .before .before .before .before .before .before .before .before .before .before .args .bytes .now in
+    let k = c .before .before .before .before .decode in
+    wrote-all (as-text (output-is bs (k .result) (Large) (k .last .1 .0) (k .last .1 .1 .0) (c .before .before .enum-told .given .1) (k .ensures .0)) (c .put-refused .ensures))
+
+returns-3 : tie.Need-returns-3
+returns-3 c = let bs = c .before .before .before .before .before .before .before .before .before .before .before .before .before .args .bytes .now in
+    let k = c .before .before .before .before .before .before .before .decode in
+    wrote-all (as-text (output-is bs (k .result) (Whole _ _) (k .last .1 .0) (k .last .1 .1 .0) (c .before .before .before .before .before .m .given .1) (k .ensures .0)) (c .put-step .ensures))
+
+pub respond-spec : {M : Type 1} → statement M
+respond-spec =
+    tie.close
+    (tie.spec
+    no-marks-requires
+    no-values-requires
+    decode-requires
+    enum-known-k
+    put-fault-requires
+    enum-told
+    put-refused-requires
+    enum-known-m
+    slice-aggregate-put-step
+    slice-aggregate-put-step-2
+    put-step-requires
+    returns
+    returns-2
+    returns-3)

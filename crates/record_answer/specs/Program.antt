@@ -1,0 +1,35 @@
+-- What the record program writes for what it reads (docs/RULES.md, "The record program"). Definitions only. Assumes nothing.
+use mathlib.Core.List.{List, _++_}
+use Prim.Native.Nat.{ℕ}
+use Prim.Native.Char.{code}
+use Rattle.workspace.specs.Tables.{Answer, done, refused}
+use Rattle.step_rows.specs.Step.{Step, step}
+use Rattle.record_read.specs.Input.{Decoded, fault, tooLarge, problem, decode}
+use Rattle.record_answer.specs.Text.{ascii, decimalText, floatText, linesText}
+
+-- `refused 9 at K`
+unfoldable pub faultText : ℕ → List ℕ
+faultText k = ascii "refused 9 at " ++ (decimalText k ++ ascii "\n")
+
+-- `refused N`
+unfoldable pub refusedText : ℕ → List ℕ
+refusedText k = ascii "refused " ++ (decimalText k ++ ascii "\n")
+
+-- `ok`, `relaxation H`, a line `d I H` for each variable, a line `m J H` for each constraint
+unfoldable pub doneText : Step → List ℕ
+doneText s =
+    ascii "ok\nrelaxation "
+    ++ (floatText (s .relaxation) ++ (ascii "\n" ++ (linesText (code "d") 0 (s .d) ++ linesText (code "m") 0 (s .multipliers))))
+
+abbrev pub stepText : Answer Step → List ℕ
+stepText (done s) = doneText s
+stepText (refused k) = refusedText k
+
+abbrev pub decodedText : Decoded → List ℕ
+decodedText (fault k) = faultText k
+decodedText tooLarge = refusedText 1
+decodedText (problem p) = stepText (step p .answer)
+
+-- the program: the bytes written for the bytes read
+unfoldable pub output : List ℕ → List ℕ
+output bs = decodedText (decode bs)

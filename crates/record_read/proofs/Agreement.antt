@@ -1,0 +1,315 @@
+-- The tables tell what specs/Input.antt says. Assumes nothing.
+use mathlib.Core.Path.{_≡_, refl, sym, ap, _∙_}
+use mathlib.Core.Logic.{⊎-elim}
+use mathlib.Core.Bool.{Bool, true, false, not, cond, _&&_}
+use mathlib.Core.List.{List, [], _∷_}
+use mathlib.Core.Option.{Option, none, some}
+use Prim.Native.Nat.{ℕ, zero, suc, _+_, _-_, _*_, _/_, _%_, _≤_, _<_}
+use native.Mathlib.Nat.{zero-add}
+use native.Mathlib.Omega.{arith}
+use borrow.Author.Tests.{lt-ltb, le-ltb, le-leb, lt-leb, eq-eqb, ne-eqb, eqb-true}
+use lib.Arith.{digits-div, digits-mod}
+use lib.Dec.{eqb}
+use lib.ListN.{length, getD, take, drop, set, replicate, length-set, length-drop, length-replicate}
+use lib.Seq.{getD-set-same, getD-set-other, getD-take, getD-drop, length-take-le}
+use lib.Ieee.{Float, nan, inf}
+use Rattle.numbers.specs.Numbers.{+0, one, tab, grid, entry}
+use Rattle.numbers.proofs.Cases.{lt-or-ge, eq-or-ne}
+use Rattle.numbers.proofs.Lists.{length-tab, getD-tab, tab-same, tab-of, grid-of, grid-same, index-lt}
+use Rattle.workspace.specs.Tables.{isDimension, isEqualities}
+use Rattle.workspace.proofs.Tests.{and-true}
+use Rattle.record_read.specs.declared.Block.{Block}
+use Rattle.record_read.specs.declared.Spot.{Spot}
+use Rattle.record_read.specs.declared.Spot.the-variants.{Outside, At}
+use Rattle.record_read.specs.declared.Head.the-variants.{Unsound, TooLarge, Sizes}
+use Rattle.record_read.specs.Input.{tagOf, rowOf, columnOf, valueOf, spareZero, recordAt, is, field, gives, given, isSome, isSound, orElse, kindOf, problemOf, areGiven, isComplete, Decoded, fault, tooLarge, problem, walk, isHead, decode}
+use Rattle.record_read.specs.Work.{block, blockOf, ifSpot, within, spotOf, markOf, entryOf, next, ifEntered, put, entered, ifHead, sizesOf, headOf, defaultAt, noMarks, defaults, Filled, faultAt, outsideSizes, filled, ifFilled, onEntered, onHead, allMarked, closing, walkTables, decodeTables, kindAt, problemIn, saying}
+use Rattle.record_read.proofs.Entries.{mark-some}
+use Rattle.record_read.proofs.Blocks.{spot-within, room, within-in, square}
+use Rattle.record_read.proofs.Heads.{sizes-in, InTable}
+use Rattle.record_read.proofs.Places.{one-entry, one-field, block-field}
+use Rattle.record_read.proofs.Inside.{isAt, inside-at}
+
+-- ---- what the tables hold after some records
+
+-- the mark of a place
+abbrev markIn : Option (List ℕ) → ℕ
+markIn none = 0
+markIn (some r) = markOf (tagOf r)
+
+-- each entry of a block stands in its place
+record Holds (m n : ℕ) (rs : List (List ℕ)) (marks : List ℕ) (vals : List Float) : Type 0 where
+  marks-size : length marks ≡ 576
+  vals-size : length vals ≡ 576
+  mark : (t i j p : ℕ) → within (blockOf m n t) i j ≡ At p → getD marks p 0 ≡ markIn (given rs t i j)
+  val : (t i j p : ℕ) → within (blockOf m n t) i j ≡ At p → getD vals p nan ≡ orElse (given rs t i j) (defaultAt n p)
+
+zeros-at : (k p : ℕ) → _≡_ {A = ℕ} (getD (replicate k 0) p 0) 0
+zeros-at zero p = refl
+zeros-at (suc k) zero = refl
+zeros-at (suc k) (suc p) = zeros-at k p
+
+holds-none : (m n : ℕ) → m ≤ 16 → n ≤ 16 → Holds m n [] noMarks (defaults n)
+unfolding noMarks defaults given
+holds-none m n hm hn = record {
+  marks-size = length-replicate {A = ℕ} 576 0;
+  vals-size = length-tab 576 (defaultAt n);
+  mark = λ t i j p h. zeros-at 576 p;
+  val = λ t i j p h. getD-tab 576 (defaultAt n) nan p (within-in (blockOf m n t) i j p (room m n t hm hn) h);
+}
+
+given-here : (r : List ℕ) (rs : List (List ℕ)) (t i j : ℕ) → gives r t i j ≡ true → given (r ∷ rs) t i j ≡ some r
+unfolding given
+given-here r rs t i j e = rw e
+
+given-skip : (r : List ℕ) (rs : List (List ℕ)) (t i j : ℕ) → gives r t i j ≡ false → given (r ∷ rs) t i j ≡ given rs t i j
+unfolding given
+given-skip r rs t i j e = rw e
+
+module _ (m n : ℕ) (hm : m ≤ 16) (hn : n ≤ 16) (r : List ℕ) (q : ℕ) (e : within (blockOf m n (tagOf r)) (rowOf r) (columnOf r) ≡ At q) where
+  -- an entry with the record's place is the one that it gives
+  gives-here : (t i j : ℕ) → within (blockOf m n t) i j ≡ At q → gives r t i j ≡ true
+  gives-here t i j h =
+      let o = one-entry m n (tagOf r) (rowOf r) (columnOf r) t i j q hm hn e h in
+      let f = one-field m n (tagOf r) (rowOf r) (columnOf r) t i j q hm hn e h in
+      simp (eq-eqb _ _ f, eq-eqb _ _ (o .rows), eq-eqb _ _ (o .cols))
+
+  -- and no other is
+  gives-not : (t i j p : ℕ) → within (blockOf m n t) i j ≡ At p → (p ≡ q → ⊥) → gives r t i j ≡ false
+  gives-not t i j p h x = go (gives r t i j) refl
+    where
+      go : (b : Bool) → gives r t i j ≡ b → b ≡ false
+      go true g =
+          let u = and-true (eqb (field (tagOf r)) (field t)) (eqb (rowOf r) i && eqb (columnOf r) j) g in
+          let v = and-true (eqb (rowOf r) i) (eqb (columnOf r) j) (u .1) in
+          let f : field (tagOf r) ≡ field t = eqb-true _ _ (u .0) in
+          let b : blockOf m n (tagOf r) ≡ blockOf m n t = sym (block-field m n (tagOf r)) ∙ ap (blockOf m n) f ∙ block-field m n t in
+          let s : within (blockOf m n t) i j ≡ At q = rw (← b, ← eqb-true (rowOf r) i (v .0), ← eqb-true (columnOf r) j (v .1)) e in
+          let z : At p ≡ At q = sym h ∙ s in
+          let w : p ≡ q = cc in
+          absurd (x w)
+      go false g = refl
+
+  holds-more : (rs : List (List ℕ)) (marks : List ℕ) (vals : List Float) → Holds m n rs marks vals → Holds m n (r ∷ rs) (set marks q (markOf (tagOf r))) (set vals q (valueOf r))
+  holds-more rs marks vals a =
+      let l : q < 576 = within-in (blockOf m n (tagOf r)) (rowOf r) (columnOf r) q (room m n (tagOf r) hm hn) e in
+      record {
+        marks-size = simp length-set (a .marks-size);
+        vals-size = simp length-set (a .vals-size);
+        mark = λ t i j p h.
+            ⊎-elim
+            (λ (s : p ≡ q).
+            let k : within (blockOf m n t) i j ≡ At q = rw (← s) h in
+            rw (s, given-here r rs t i j (gives-here t i j k)) (getD-set-same marks q (markOf (tagOf r)) 0 (omega (arith, a .marks-size))))
+            (λ (s : p ≡ q → ⊥).
+            rw (given-skip r rs t i j (gives-not t i j p h s)) (getD-set-other marks q p (markOf (tagOf r)) 0 s ∙ a .mark t i j p h))
+            (eq-or-ne p q);
+        val = λ t i j p h.
+            ⊎-elim
+            (λ (s : p ≡ q).
+            let k : within (blockOf m n t) i j ≡ At q = rw (← s) h in
+            rw (s, given-here r rs t i j (gives-here t i j k)) (getD-set-same vals q (valueOf r) nan (omega (arith, a .vals-size))))
+            (λ (s : p ≡ q → ⊥).
+            rw (given-skip r rs t i j (gives-not t i j p h s)) (getD-set-other vals q p (valueOf r) nan s ∙ a .val t i j p h))
+            (eq-or-ne p q);
+      }
+
+-- ---- parts of the tables
+
+part-is : {A : Type 0} (d : A) (l : List A) (o k : ℕ) (f : ℕ → A) → o + k ≤ length l → ((i : ℕ) → i < k → getD l (o + i) d ≡ f i) → take k (drop o l) ≡ tab k f
+part-is d l o k f h g =
+    tab-of k (take k (drop o l)) f d (length-take-le k (drop o l) (simp length-drop (omega arith))) (λ i e. rw (getD-take, getD-drop) (g i e))
+
+part-grid : (l : List Float) (o m n : ℕ) (f : ℕ → ℕ → Float) → o + m * n ≤ length l → ((i j : ℕ) → i < m → j < n → getD l (o + (i * n + j)) nan ≡ f i j)
+    → take (m * n) (drop o l) ≡ grid m n f
+part-grid l o m n f h g =
+    sym (grid-of m n (take (m * n) (drop o l)) (length-take-le (m * n) (drop o l) (simp length-drop (omega arith))))
+    ∙ grid-same m n (λ i j. entry n (take (m * n) (drop o l)) i j) f
+    (λ i j a b. let k = index-lt m n i j a b in getD-take (m * n) (drop o l) (i * n + j) nan k ∙ getD-drop o l (i * n + j) nan ∙ g i j a b)
+
+cell-at : (b : Block) (i j : ℕ) → i < b .rows → j < b .cols → within b i j ≡ At (b .base + (i * b .cols + j))
+unfolding within
+cell-at b i j h k = simp (lt-ltb _ _ h, lt-ltb _ _ k)
+
+default-factor : (n i j : ℕ) → n ≤ 16 → i < n → j < n → defaultAt n (i * n + j) ≡ cond (eqb i j) one +0
+unfolding defaultAt
+default-factor n i j hn hi hj =
+    let q : i * n + j < 256 = omega (arith, index-lt n n i j hi hj, square n n hn hn) in
+    simp (lt-ltb _ _ q, digits-div i hj, digits-mod i hj)
+
+default-zero : (n p : ℕ) → 256 ≤ p → p < 544 → defaultAt n p ≡ +0
+unfolding defaultAt
+default-zero n p h k = simp (le-ltb _ _ h, lt-ltb _ _ k)
+
+default-lower : (n p : ℕ) → 544 ≤ p → p < 560 → defaultAt n p ≡ inf true
+unfolding defaultAt
+default-lower n p h k = let g : 256 ≤ p = omega arith in simp (le-ltb _ _ g, le-ltb _ _ h, lt-ltb _ _ k)
+
+default-upper : (n p : ℕ) → 560 ≤ p → defaultAt n p ≡ inf false
+unfolding defaultAt
+default-upper n p h = let g : 256 ≤ p = omega arith in let k : 544 ≤ p = omega arith in simp (le-ltb _ _ g, le-ltb _ _ k, le-ltb _ _ h)
+
+mark-given : (o : Option (List ℕ)) → not (eqb (markIn o) 0) ≡ isSome o
+unfolding markOf
+mark-given none = refl
+mark-given (some r) = go (is "I" (tagOf r))
+  where
+    go : (b : Bool) → not (eqb (cond b 2 1) 0) ≡ true
+    go true = refl
+    go false = refl
+
+mark-kind : (o : Option (List ℕ)) → cond (eqb (markIn o) 2) 1 0 ≡ kindOf o
+unfolding markOf
+mark-kind none = refl
+mark-kind (some r) = go (is "I" (tagOf r))
+  where
+    go : (b : Bool) → _≡_ {A = ℕ} (cond (eqb (cond b 2 1) 2) 1 0) (cond b 1 0)
+    go true = refl
+    go false = refl
+
+marks-given : (m : ℕ) (g : ℕ → Option (List ℕ)) → allMarked (tab m (λ i. markIn (g i))) ≡ areGiven (tab m g)
+unfolding allMarked areGiven tab
+marks-given zero g = refl
+marks-given (suc m) g = rw (mark-given (g zero), marks-given m (λ i. g (suc i)))
+
+module _ (m n : ℕ) (w : InTable m n) (rs : List (List ℕ)) (marks : List ℕ) (vals : List Float) (a : Holds m n rs marks vals) where
+  -- entry j of a row, at o
+  row-val : (t o : ℕ) → blockOf m n t ≡ block o 1 n → (j : ℕ) → j < n → getD vals (o + j) nan ≡ orElse (given rs t 0 j) (defaultAt n (o + j))
+  row-val t o e j h =
+      let z : o + j ≡ o + (0 * n + j) = omega arith in
+      rw z (a .val t 0 j (o + (0 * n + j)) (rw e (cell-at (block o 1 n) 0 j (omega arith) h)))
+
+  -- entry (i, j) of a matrix of k rows, at o
+  cell-val : (t o k : ℕ) → blockOf m n t ≡ block o k n → (i j : ℕ) → i < k → j < n
+      → getD vals (o + (i * n + j)) nan ≡ orElse (given rs t i j) (defaultAt n (o + (i * n + j)))
+  cell-val t o k e i j h g = a .val t i j (o + (i * n + j)) (rw e (cell-at (block o k n) i j h g))
+
+  -- constraint i
+  constraint-at : (i : ℕ) → i < m → within (blockOf m n 69) i 0 ≡ At (272 + i)
+  unfolding blockOf
+  constraint-at i h = let z : 272 + i ≡ 272 + (i * 1 + 0) = omega arith in rw z (cell-at (block 272 m 1) i 0 h (omega arith))
+
+  marks-part : take m (drop 272 marks) ≡ tab m (λ i. markIn (given rs 69 i 0))
+  marks-part = part-is 0 marks 272 m _ (omega (arith, a .marks-size, w .few)) (λ i h. a .mark 69 i 0 (272 + i) (constraint-at i h))
+
+  complete-agrees : allMarked (take m (drop 272 marks)) ≡ isComplete m rs
+  unfolding isComplete
+  complete-agrees = ap allMarked marks-part ∙ marks-given m (λ i. given rs 69 i 0)
+
+  factor-agrees : take (n * n) vals ≡ grid n n (λ i j. orElse (given rs 76 i j) (cond (eqb i j) one +0))
+  unfolding blockOf
+  factor-agrees =
+      part-grid vals 0 n n _ (omega (arith, a .vals-size, square n n (w .most) (w .most)))
+      (λ i j h k.
+      cell-val 76 0 n refl i j h k
+      ∙ ap (λ (v : Float). orElse (given rs 76 i j) v) (ap (defaultAt n) (zero-add (i * n + j)) ∙ default-factor n i j (w .most) h k))
+
+  gradient-agrees : take n (drop 256 vals) ≡ tab n (λ j. orElse (given rs 71 0 j) +0)
+  unfolding blockOf
+  gradient-agrees =
+      part-is nan vals 256 n _ (omega (arith, a .vals-size, w .most))
+      (λ j h. row-val 71 256 refl j h ∙ ap (λ (v : Float). orElse (given rs 71 0 j) v) (default-zero n (256 + j) (omega arith) (omega (arith, w .most))))
+
+  kinds-agree : tab m (kindAt marks) ≡ tab m (λ i. kindOf (given rs 69 i 0))
+  unfolding kindAt
+  kinds-agree = tab-same m _ _ (λ i h. rw (a .mark 69 i 0 (272 + i) (constraint-at i h)) (mark-kind (given rs 69 i 0)))
+
+  values-agree : take m (drop 272 vals) ≡ tab m (λ i. orElse (given rs 69 i 0) +0)
+  values-agree =
+      part-is nan vals 272 m _ (omega (arith, a .vals-size, w .few))
+      (λ i h.
+      a .val 69 i 0 (272 + i) (constraint-at i h)
+      ∙ ap (λ (v : Float). orElse (given rs 69 i 0) v) (default-zero n (272 + i) (omega arith) (omega (arith, w .few))))
+
+  jacobian-agrees : take (m * n) (drop 288 vals) ≡ grid m n (λ i j. orElse (given rs 65 i j) +0)
+  unfolding blockOf
+  jacobian-agrees =
+      let s = square m n (w .few) (w .most) in
+      part-grid vals 288 m n _ (omega (arith, a .vals-size, s))
+      (λ i j h k.
+      cell-val 65 288 m refl i j h k
+      ∙ ap (λ (v : Float). orElse (given rs 65 i j) v) (default-zero n (288 + (i * n + j)) (omega arith) (omega (arith, s, index-lt m n i j h k))))
+
+  lower-agrees : take n (drop 544 vals) ≡ tab n (λ j. orElse (given rs 66 0 j) (inf true))
+  unfolding blockOf
+  lower-agrees =
+      part-is nan vals 544 n _ (omega (arith, a .vals-size, w .most))
+      (λ j h. row-val 66 544 refl j h ∙ ap (λ (v : Float). orElse (given rs 66 0 j) v) (default-lower n (544 + j) (omega arith) (omega (arith, w .most))))
+
+  upper-agrees : take n (drop 560 vals) ≡ tab n (λ j. orElse (given rs 84 0 j) (inf false))
+  unfolding blockOf
+  upper-agrees =
+      part-is nan vals 560 n _ (omega (arith, a .vals-size, w .most))
+      (λ j h. row-val 84 560 refl j h ∙ ap (λ (v : Float). orElse (given rs 84 0 j) v) (default-upper n (560 + j) (omega arith)))
+
+  problem-agrees : problemIn m n marks vals ≡ problemOf m n rs
+  unfolding problemIn problemOf
+  problem-agrees = rw (factor-agrees, gradient-agrees, kinds-agree, values-agree, jacobian-agrees, lower-agrees, upper-agrees)
+
+-- ---- the walk
+
+module _ (m n : ℕ) (w : InTable m n) (bs : List ℕ) where
+  end-agrees : (k : ℕ) (rs : List (List ℕ)) (marks : List ℕ) (vals : List Float) → Holds m n rs marks vals
+      → saying (closing m n bs k marks vals) ≡ cond (eqb (length bs % 16) 0 && isComplete m rs) (problem (problemOf m n rs)) (fault k)
+  unfolding closing
+  end-agrees k rs marks vals a = rw (complete-agrees m n w rs marks vals a) (go (eqb (length bs % 16) 0) (isComplete m rs))
+    where
+      go : (s t : Bool) → saying (ifFilled s (ifFilled t (filled m n marks vals) (faultAt k)) (faultAt k)) ≡ cond (s && t) (problem (problemOf m n rs)) (fault k)
+      go true true = ap problem (problem-agrees m n w rs marks vals a)
+      go true false = refl
+      go false t = refl
+
+  -- one record: f goes on with the tables, and d is what comes where the record is sound
+  turn : (r : List ℕ) (k : ℕ) (rs : List (List ℕ)) (marks : List ℕ) (vals : List Float) (f : List ℕ → List Float → Filled) (d : Decoded) → Holds m n rs marks vals
+      → ((marks′ : List ℕ) (vals′ : List Float) → Holds m n (r ∷ rs) marks′ vals′ → saying (f marks′ vals′) ≡ d)
+      → saying (onEntered (entered m n r marks vals) (faultAt k) f) ≡ cond (isSound m n rs r) d (fault k)
+  unfolding entered entryOf put isSound
+  turn r k rs marks vals f d a ih = rw (← inside-at m n (tagOf r) (rowOf r) (columnOf r)) (go (spareZero r) (spotOf m n (tagOf r) (rowOf r) (columnOf r)) refl)
+    where
+      at : (p : ℕ) → within (blockOf m n (tagOf r)) (rowOf r) (columnOf r) ≡ At p → (o : Option (List ℕ)) → given rs (tagOf r) (rowOf r) (columnOf r) ≡ o
+          → saying (onEntered (ifEntered (eqb (getD marks p 0) 0) (next (set marks p (markOf (tagOf r))) (set vals p (valueOf r)))) (faultAt k) f)
+          ≡ cond (not (isSome o)) d (fault k)
+      at p e none g =
+          let z : getD marks p 0 ≡ 0 = a .mark (tagOf r) (rowOf r) (columnOf r) p e ∙ ap markIn g in
+          rw (eq-eqb _ _ z) (ih (set marks p (markOf (tagOf r))) (set vals p (valueOf r)) (holds-more m n (w .few) (w .most) r p e rs marks vals a))
+      at p e (some s) g =
+          let z : getD marks p 0 ≡ markOf (tagOf s) = a .mark (tagOf r) (rowOf r) (columnOf r) p e ∙ ap markIn g in
+          rw (ne-eqb (getD marks p 0) 0 (λ y. mark-some (tagOf s) (sym z ∙ y)))
+
+      go : (z : Bool) (s : Spot) → spotOf m n (tagOf r) (rowOf r) (columnOf r) ≡ s
+          → saying (onEntered (put (ifSpot z s) (markOf (tagOf r)) (valueOf r) marks vals) (faultAt k) f)
+          ≡ cond (isAt s && (z && not (isSome (given rs (tagOf r) (rowOf r) (columnOf r))))) d (fault k)
+      go false Outside e = refl
+      go false (At p) e = refl
+      go true Outside e = refl
+      go true (At p) e = at p (spot-within m n (tagOf r) (rowOf r) (columnOf r) p e) (given rs (tagOf r) (rowOf r) (columnOf r)) refl
+
+  walk-agrees : (left k : ℕ) (rs : List (List ℕ)) (marks : List ℕ) (vals : List Float) → Holds m n rs marks vals
+      → saying (walkTables m n bs left k marks vals) ≡ walk m n bs left k rs
+  unfolding walk walkTables
+  walk-agrees zero k rs marks vals a = end-agrees k rs marks vals a
+  walk-agrees (suc left) k rs marks vals a =
+      turn (recordAt bs k) k rs marks vals (λ marks′ vals′. walkTables m n bs left (k + 1) marks′ vals′) (walk m n bs left (k + 1) (recordAt bs k ∷ rs)) a
+      (λ marks′ vals′ a′. walk-agrees left (k + 1) (recordAt bs k ∷ rs) marks′ vals′ a′)
+
+-- ---- the whole input
+
+pub agreement : (bs : List ℕ) → saying (decodeTables bs) ≡ decode bs
+unfolding decode decodeTables headOf sizesOf
+agreement bs =
+    ⊎-elim
+    (λ (h : length bs < 16). simp (lt-ltb _ _ h, lt-leb _ _ h))
+    (λ (h : 16 ≤ length bs). simp (le-ltb _ _ h, le-leb _ _ h) (head (isHead (take 16 bs)) (isDimension (columnOf (take 16 bs)) && isEqualities (rowOf (take 16 bs))) refl))
+    (lt-or-ge (length bs) 16)
+  where
+    head : (s t : Bool) → (isDimension (columnOf (take 16 bs)) && isEqualities (rowOf (take 16 bs))) ≡ t
+        → saying
+        (onHead (ifHead s (ifHead t (Sizes (rowOf (take 16 bs)) (columnOf (take 16 bs))) TooLarge) Unsound) (faultAt 0) outsideSizes
+        (λ m n. walkTables m n bs (length bs / 16 - 1) 1 noMarks (defaults n)))
+        ≡ cond s (cond t (walk (rowOf (take 16 bs)) (columnOf (take 16 bs)) bs (length bs / 16 - 1) 1 []) tooLarge) (fault 0)
+    head true true e =
+        let w = sizes-in (rowOf (take 16 bs)) (columnOf (take 16 bs)) e in
+        walk-agrees (rowOf (take 16 bs)) (columnOf (take 16 bs)) w bs (length bs / 16 - 1) 1 [] noMarks (defaults (columnOf (take 16 bs)))
+        (holds-none (rowOf (take 16 bs)) (columnOf (take 16 bs)) (w .few) (w .most))
+    head true false e = refl
+    head false t e = refl

@@ -1,0 +1,37 @@
+-- One record, entered in the tables. Assumes nothing.
+use mathlib.Core.Path.{_≡_}
+use mathlib.Core.Bool.{cond, Bool, true, false}
+use mathlib.Core.List.{List}
+use Prim.Native.Nat.{ℕ}
+use native.Mathlib.Omega.{arith}
+use lib.Dec.{eqb}
+use lib.Ieee.{Float, binary64, ofBits}
+use Rattle.record_read.specs.declared.Spot.the-variants.{Outside, At}
+use Rattle.record_read.specs.Work.{spotOf, entryOf, markOf, bad, put, entered}
+use Rattle.record_read.specs.Input.{spareZero, tagOf, rowOf, columnOf, bitsOf}
+
+-- a mark is not 0
+pub mark-some : (tag : ℕ) → markOf tag ≡ 0 → ⊥
+unfolding markOf
+mark-some tag = go (eqb tag 73)
+  where
+    go : (b : Bool) → _≡_ {A = ℕ} (cond b 2 1) 0 → ⊥
+    go true e = omega arith
+    go false e = omega arith
+
+pub entry-spare : (m n : ℕ) (r : List ℕ) → spareZero r ≡ false → Outside ≡ entryOf m n r
+unfolding entryOf
+entry-spare m n r e = simp e
+
+pub entry-at : (m n : ℕ) (r : List ℕ) → spareZero r ≡ true → spotOf m n (tagOf r) (rowOf r) (columnOf r) ≡ entryOf m n r
+unfolding entryOf
+entry-at m n r e = simp e
+
+pub enter-bad : (m n : ℕ) (r marks : List ℕ) (vals : List Float) → entryOf m n r ≡ Outside → bad ≡ entered m n r marks vals
+unfolding entered put
+enter-bad m n r marks vals e = simp e
+
+pub enter-at : (m n : ℕ) (r marks : List ℕ) (vals : List Float) (p k : ℕ) (v : Float) → entryOf m n r ≡ At p → k ≡ markOf (tagOf r)
+    → v ≡ ofBits binary64 (bitsOf r) → put (At p) k v marks vals ≡ entered m n r marks vals
+unfolding entered
+enter-at m n r marks vals p k v e f g = rw (e, f, g)

@@ -1,0 +1,92 @@
+-- Laws of the walkTables over the records: one record taken, and the end. Assumes nothing.
+use mathlib.Core.Path.{_≡_, sym, ap, _∙_}
+use mathlib.Core.Bool.{Bool, true, false}
+use mathlib.Core.List.{List}
+use Prim.Native.Nat.{ℕ, zero, suc, _+_, _-_, _*_, _/_, _%_, _≤_, _<_}
+use native.Mathlib.Nat.{add-sub-cancel-left}
+use native.Mathlib.Omega.{arith}
+use borrow.Author.Tests.{eq-eqb, ne-eqb, lt-ltb, le-ltb}
+use lib.ListN.{length-take, length-drop, length, take, drop}
+use lib.Ieee.{Float}
+use Rattle.record_read.specs.declared.Head.the-variants.{Unsound, TooLarge, Sizes}
+use Rattle.record_read.specs.declared.Input.{Input}
+use Rattle.record_read.specs.declared.Input.the-variants.{Fault, Large, Whole}
+use Rattle.record_read.specs.Input.{recordAt}
+use Rattle.record_read.specs.Work.{AreTables, Filled, bad, next, entered, gave, faultAt, outsideSizes, filled, allMarked, closing, walkTables, decodeTables, headOf, noMarks, defaults}
+
+module _ (m n : ℕ) (bs : List ℕ) where
+  -- a turn's part of the input is the record
+  part : (k : ℕ) → take (16 * k + 16 - 16 * k) (drop (16 * k) bs) ≡ recordAt bs k
+  part k = ap (λ (j : ℕ). take j (drop (16 * k) bs)) (add-sub-cancel-left (16 * k) 16)
+
+  taken : (marks marks′ : List ℕ) (vals vals′ : List Float) (k : ℕ) (b : Bool)
+      → gave b marks′ vals′ ≡ entered m n (take (16 * k + 16 - 16 * k) (drop (16 * k) bs)) marks vals
+      → gave b marks′ vals′ ≡ entered m n (recordAt bs k) marks vals
+  taken marks marks′ vals vals′ k b e = rw (part k) at e
+
+  pub walk-bad : (marks marks′ : List ℕ) (vals vals′ : List Float) (whole k : ℕ) (b : Bool) → k < whole → b ≡ false
+      → gave b marks′ vals′ ≡ entered m n (take (16 * k + 16 - 16 * k) (drop (16 * k) bs)) marks vals
+      → faultAt k ≡ walkTables m n bs (whole - k) k marks vals
+  unfolding walkTables
+  walk-bad marks marks′ vals vals′ whole k b h f e =
+      let s : whole - k ≡ suc (whole - (k + 1)) = omega arith in
+      let q : entered m n (recordAt bs k) marks vals ≡ bad = sym (taken marks marks′ vals vals′ k b e) ∙ ap (λ (t : Bool). gave t marks′ vals′) f in
+      rw s (simp q)
+
+  pub walk-next : (marks marks′ : List ℕ) (vals vals′ : List Float) (whole k : ℕ) (b : Bool) → k < whole → b ≡ true
+      → gave b marks′ vals′ ≡ entered m n (take (16 * k + 16 - 16 * k) (drop (16 * k) bs)) marks vals
+      → walkTables m n bs (whole - (k + 1)) (k + 1) marks′ vals′ ≡ walkTables m n bs (whole - k) k marks vals
+  unfolding walkTables
+  walk-next marks marks′ vals vals′ whole k b h f e =
+      let s : whole - k ≡ suc (whole - (k + 1)) = omega arith in
+      let q : entered m n (recordAt bs k) marks vals ≡ next marks′ vals′ = sym (taken marks marks′ vals vals′ k b e) ∙ ap (λ (t : Bool). gave t marks′ vals′) f in
+      rw s (simp q)
+
+  module _ (marks : List ℕ) (vals : List Float) (whole k : ℕ) (done : whole ≤ k) where
+    walk-end : closing m n bs k marks vals ≡ walkTables m n bs (whole - k) k marks vals
+    unfolding walkTables
+    walk-end = let s : whole - k ≡ zero = omega arith in rw s
+
+    pub walk-short : (length bs % 16 ≡ 0 → ⊥) → faultAt k ≡ walkTables m n bs (whole - k) k marks vals
+    unfolding closing
+    walk-short h = simp (ne-eqb _ _ h) at walk-end
+
+    pub walk-missing : length bs % 16 ≡ 0 → allMarked (take m (drop 272 marks)) ≡ false → faultAt k ≡ walkTables m n bs (whole - k) k marks vals
+    unfolding closing
+    walk-missing h e = simp (eq-eqb _ _ h, e) at walk-end
+
+    pub walk-done : length bs % 16 ≡ 0 → allMarked (take m (drop 272 marks)) ≡ true → filled m n marks vals ≡ walkTables m n bs (whole - k) k marks vals
+    unfolding closing
+    walk-done h e = simp (eq-eqb _ _ h, e) at walk-end
+
+pub part-length : (bs : List ℕ) (k : ℕ) → k < length bs / 16 → length (take (16 * k + 16 - 16 * k) (drop (16 * k) bs)) ≡ 16
+part-length bs k h = simp (length-take, length-drop) (omega arith)
+
+-- ---- the whole input
+
+pub decode-short : (bs : List ℕ) → length bs < 16 → faultAt 0 ≡ decodeTables bs
+unfolding decodeTables
+decode-short bs h = simp (lt-ltb _ _ h)
+
+module _ (bs : List ℕ) (h : 16 ≤ length bs) where
+  pub decode-unsound : headOf (take 16 bs) ≡ Unsound → faultAt 0 ≡ decodeTables bs
+  unfolding decodeTables
+  decode-unsound e = simp (le-ltb _ _ h, e)
+
+  pub decode-large : headOf (take 16 bs) ≡ TooLarge → outsideSizes ≡ decodeTables bs
+  unfolding decodeTables
+  decode-large e = simp (le-ltb _ _ h, e)
+
+  pub decode-walk : (m n : ℕ) → headOf (take 16 bs) ≡ Sizes m n → walkTables m n bs (length bs / 16 - 1) 1 noMarks (defaults n) ≡ decodeTables bs
+  unfolding decodeTables
+  decode-walk m n e = simp (le-ltb _ _ h, e)
+
+  -- the walk's answer x, with the tables that it begins with
+  pub decode-from : (m n : ℕ) → headOf (take 16 bs) ≡ Sizes m n → (x : Filled) (marks : List ℕ) (vals : List Float) → marks ≡ noMarks → vals ≡ defaults n
+      → x ≡ walkTables m n bs (length bs / 16 - 1) 1 marks vals → x ≡ decodeTables bs
+  decode-from m n e x marks vals a b q = q ∙ rw (a, b) (decode-walk m n e)
+
+pub are-tables : (r : Input) (marks : List ℕ) (vals : List Float) → length marks ≡ 576 → length vals ≡ 576 → AreTables r marks vals
+are-tables (Fault k) marks vals a b = tt
+are-tables Large marks vals a b = tt
+are-tables (Whole m n) marks vals a b = (a, b)

@@ -1,0 +1,91 @@
+-- `enter`: the place that the record names, and then its entry. Assumes nothing.
+use mathlib.Core.Path.{sym, _∙_, ap}
+use Prim.Native.Nat.{_<_}
+use native.Mathlib.Omega.{arith}
+use lib.Ieee.{ofBits, binary64}
+use Rattle.record_read.proofs.Entries.{enter-bad, enter-at}
+use Rattle.record_read.proofs.Blocks.{entry-in}
+use Rattle.record_read.proofs.enter.Statement.{statement}
+use Rattle.record_read.proofs.enter.Tie as tie
+
+shared-slice-read-mark : tie.Need-shared-slice-read-mark
+shared-slice-read-mark c = omega arith
+
+mark-requires : tie.Need-mark-requires
+mark-requires c κs = omega arith
+
+sub-number : tie.Need-sub-number
+sub-number c = omega arith
+
+part-number-start : tie.Need-part-number-start
+part-number-start c = omega arith
+
+part-number-end : tie.Need-part-number-end
+part-number-end c = omega arith
+
+number-requires : tie.Need-number-requires
+number-requires c κs = omega arith
+
+value-requires : tie.Need-value-requires
+value-requires c κs = omega arith
+
+entry-requires : tie.Need-entry-requires
+entry-requires c κs = omega arith
+
+enum-known-p : tie.Need-enum-known-p
+enum-known-p c = omega arith
+
+enum-told : tie.Need-enum-told
+enum-told c = omega arith
+
+returns : tie.Need-returns
+returns c =
+    let a = c .before .before .before .before .before .before .before .before .before .before .before .args in
+    enter-bad (a .m) (a .n) (a .r .now) (a .marks .now) (a .vals .now) (sym (c .before .before .entry .ensures) ∙ c .enum-told .given .1)
+
+put-requires : tie.Need-put-requires
+put-requires c κs =
+    let q = c .before .before .before in
+    let e = q .before .before in
+    let st = e .before .before .before .before .before .before .before .before .before in
+    let a = st .args in
+    let h : q .p .given .0 .0 < 576 = entry-in (a .m) (a .n) (a .r .now) _ (st .pre .0 .1) (st .pre .0 .2) (sym (e .entry .ensures) ∙ q .p .given .1) in
+    omega (arith, st .pre, h)
+
+same-length : tie.Need-same-length
+same-length c = omega arith
+
+same-length-2 : tie.Need-same-length-2
+same-length-2 c = omega arith
+
+returns-2 : tie.Need-returns-2
+returns-2 c =
+    let u = c .before .before .before .before in
+    let q = u .before .before .before .before in
+    let e = q .before .before in
+    let v = e .before in
+    let k = v .before .before .before in
+    let a = k .before .before .before .before .before .args in
+    u .put .ensures
+    ∙ enter-at (a .m) (a .n) (a .r .now) (a .marks .now) (a .vals .now) _ _ _ (sym (e .entry .ensures) ∙ q .p .given .1) (k .mark .ensures)
+    (v .value .ensures ∙ ap (ofBits binary64) (v .before .number .ensures))
+
+pub enter-spec : {M : Type 1} → statement M
+enter-spec =
+    tie.close
+    (tie.spec
+    shared-slice-read-mark
+    mark-requires
+    sub-number
+    part-number-start
+    part-number-end
+    number-requires
+    value-requires
+    entry-requires
+    enum-known-p
+    enum-told
+    returns
+    put-requires
+    same-length
+    same-length-2
+    returns-2)

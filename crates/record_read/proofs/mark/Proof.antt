@@ -1,0 +1,16 @@
+-- `mark`: 2 for `I`, else 1. Assumes nothing.
+use borrow.Author.Tests.{ne-eqb}
+use Rattle.record_read.specs.Work.{markOf}
+use Rattle.record_read.proofs.mark.Statement.{statement}
+use Rattle.record_read.proofs.mark.Tie as tie
+
+returns : tie.Need-returns
+unfolding markOf
+returns c = rw (c .if1 .taken)
+
+returns-2 : tie.Need-returns-2
+unfolding markOf
+returns-2 c = simp (ne-eqb _ _ (c .if1 .left))
+
+pub mark-spec : {M : Type 1} → statement M
+mark-spec = tie.close (tie.spec returns returns-2)

@@ -1,0 +1,148 @@
+-- What the record program reads (docs/RULES.md, "The record program"): 16-byte records, to the first fault, to sizes outside the table, or to a problem.
+-- Definitions only. Assumes nothing.
+use mathlib.Core.Bool.{Bool, true, false, not, cond, _&&_, _||_}
+use mathlib.Core.List.{List, [], _∷_}
+use mathlib.Core.Option.{Option, none, some}
+use Prim.Native.Nat.{ℕ, zero, suc, _+_, _-_, _*_, _/_, _%_}
+use Prim.Native.Char.{Char, code}
+use lib.Dec.{ltb, leb, eqb}
+use lib.ListN.{length, getD, take, drop}
+use lib.Ieee.{Float, inf, binary64, ofBits}
+use Rattle.numbers.specs.Numbers.{+0, one, tab, grid}
+use Rattle.workspace.specs.Tables.{isDimension, isEqualities}
+use Rattle.step_rows.specs.Problem.{Problem}
+
+-- ---- one record: byte 0 tag, byte 1 zero, bytes 2-3 row, 4-5 column, 6-7 zero, 8-15 the value's bits
+
+-- the number that some bytes stand for, little-endian
+unfoldable pub little : List ℕ → ℕ
+little [] = 0
+little (b ∷ bs) = b + 256 * little bs
+
+abbrev pub tagOf : List ℕ → ℕ
+tagOf r = getD r 0 0
+
+abbrev pub rowOf : List ℕ → ℕ
+rowOf r = little (take 2 (drop 2 r))
+
+abbrev pub columnOf : List ℕ → ℕ
+columnOf r = little (take 2 (drop 4 r))
+
+abbrev pub bitsOf : List ℕ → ℕ
+bitsOf r = little (take 8 (drop 8 r))
+
+abbrev pub valueOf : List ℕ → Float
+valueOf r = ofBits binary64 (bitsOf r)
+
+unfoldable pub spareZero : List ℕ → Bool
+spareZero r = eqb (getD r 1 0) 0 && (eqb (getD r 6 0) 0 && eqb (getD r 7 0) 0)
+
+-- record k of the input
+abbrev pub recordAt : List ℕ → ℕ → List ℕ
+recordAt bs k = take 16 (drop (16 * k) bs)
+
+-- ---- what a record gives, in a problem of m constraints and n variables
+
+-- t is the letter c
+abbrev pub is : Char → ℕ → Bool
+is c t = eqb t (code c)
+
+-- The index lies where the tag t wants it: `L` factor, row >= column; `G` gradient; `E` or `I` a constraint's value; `A` Jacobian; `B` lower, `T` upper bound.
+-- For any other tag, a later `D` among them, every index is outside.
+unfoldable pub isInside : (m n t row column : ℕ) → Bool
+isInside m n t row column =
+    cond (is "L" t) (ltb row n && leb column row)
+    (cond (is "G" t) (eqb row 0 && ltb column n)
+    (cond (is "E" t || is "I" t) (ltb row m && eqb column 0)
+    (cond (is "A" t) (ltb row m && ltb column n)
+    (cond (is "B" t || is "T" t) (eqb row 0 && ltb column n) false))))
+
+-- `E` and `I` give the same: the value of a constraint
+abbrev pub field : ℕ → ℕ
+field t = cond (is "I" t) (code "E") t
+
+-- the record r gives the entry of tag t at (row, column)
+abbrev pub gives : List ℕ → (t row column : ℕ) → Bool
+gives r t row column = eqb (field (tagOf r)) (field t) && (eqb (rowOf r) row && eqb (columnOf r) column)
+
+-- the one among some records that gives an entry
+unfoldable pub given : List (List ℕ) → (t row column : ℕ) → Option (List ℕ)
+given [] t row column = none
+given (r ∷ rs) t row column = cond (gives r t row column) (some r) (given rs t row column)
+
+abbrev pub isSome : Option (List ℕ) → Bool
+isSome none = false
+isSome (some r) = true
+
+-- ---- the faults of a record after the first, where rs are those before it
+
+-- a repeated entry, or `E` and `I` for one row
+abbrev pub repeats : List (List ℕ) → List ℕ → Bool
+repeats rs r = isSome (given rs (tagOf r) (rowOf r) (columnOf r))
+
+-- a bad tag or an index outside, a nonzero spare byte, a repeated entry
+unfoldable pub isSound : (m n : ℕ) → List (List ℕ) → List ℕ → Bool
+isSound m n rs r = isInside m n (tagOf r) (rowOf r) (columnOf r) && (spareZero r && not (repeats rs r))
+
+-- ---- the problem that some records give
+
+-- the value that was given, or what a missing one is
+abbrev pub orElse : Option (List ℕ) → Float → Float
+orElse none v = v
+orElse (some r) v = valueOf r
+
+-- the kind of a constraint: 1 for `I`
+abbrev pub kindOf : Option (List ℕ) → ℕ
+kindOf none = 0
+kindOf (some r) = cond (is "I" (tagOf r)) 1 0
+
+-- missing: 1 on the factor's diagonal, +0 elsewhere, -infinity for a lower bound, +infinity for an upper
+unfoldable pub problemOf : (m n : ℕ) → List (List ℕ) → Problem
+problemOf m n rs =
+    record {
+      n = n;
+      m = m;
+      factor = grid n n (λ i j. orElse (given rs (code "L") i j) (cond (eqb i j) one +0));
+      gradient = tab n (λ j. orElse (given rs (code "G") 0 j) +0);
+      kinds = tab m (λ i. kindOf (given rs (code "E") i 0));
+      values = tab m (λ i. orElse (given rs (code "E") i 0) +0);
+      jacobian = grid m n (λ i j. orElse (given rs (code "A") i j) +0);
+      lower = tab n (λ j. orElse (given rs (code "B") 0 j) (inf true));
+      upper = tab n (λ j. orElse (given rs (code "T") 0 j) (inf false));
+    }
+
+-- a constraint's value may not be missing
+unfoldable pub areGiven : List (Option (List ℕ)) → Bool
+areGiven [] = true
+areGiven (o ∷ os) = isSome o && areGiven os
+
+unfoldable pub isComplete : ℕ → List (List ℕ) → Bool
+isComplete m rs = areGiven (tab m (λ i. given rs (code "E") i 0))
+
+-- ---- the whole input
+
+-- a fault at a record; sizes outside the table; or a problem
+pub data Decoded : Type 0 where
+  fault : ℕ → Decoded
+  tooLarge : Decoded
+  problem : Problem → Decoded
+
+-- From record k on, of which `left` more are whole; rs are those before it, the last first.
+-- Behind them a short record is a fault, and so, last, is a missing constraint.
+unfoldable pub walk : (m n : ℕ) → List ℕ → (left k : ℕ) → List (List ℕ) → Decoded
+walk m n bs zero k rs = cond (eqb (length bs % 16) 0 && isComplete m rs) (problem (problemOf m n rs)) (fault k)
+walk m n bs (suc left) k rs =
+    let r = recordAt bs k in
+    cond (isSound m n rs r) (walk m n bs left (k + 1) (r ∷ rs)) (fault k)
+
+-- the first record is `D`, with value bits 0: row constraints, column variables
+unfoldable pub isHead : List ℕ → Bool
+isHead r = is "D" (tagOf r) && (spareZero r && eqb (bitsOf r) 0)
+
+-- nothing after a sound first record is read where its sizes are outside the table
+unfoldable pub decode : List ℕ → Decoded
+decode bs =
+    let r = recordAt bs 0 in
+    let m = rowOf r in
+    let n = columnOf r in
+    cond (leb 16 (length bs) && isHead r) (cond (isDimension n && isEqualities m) (walk m n bs (length bs / 16 - 1) 1 []) tooLarge) (fault 0)

@@ -1,0 +1,2 @@
+-- The record program. Definitions only.
+pub mod Reading

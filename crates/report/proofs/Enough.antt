@@ -1,9 +1,0 @@
--- The first 9,248 bytes decide what the program writes. Assumes nothing.
-use mathlib.Core.Path.{ap}
-use Rattle.report.specs.Program.{decodedText, output}
-use Rattle.report.specs.Claims.{FirstBytesDecide}
-use Rattle.record.proofs.Enough as input
-
-pub first-bytes : FirstBytesDecide
-unfolding output
-first-bytes p q h = ap decodedText (input.first-bytes p q h)

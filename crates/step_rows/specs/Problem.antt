@@ -1,0 +1,108 @@
+-- The subproblem's data, and the rows that its constraints and bounds become (docs/RULES.md, step 6; Kraft 1988). Definitions only. Assumes nothing.
+use Prim.Native.Nat.{ℕ, zero, suc, _+_}
+use mathlib.Core.Bool.{Bool, true, false, cond}
+use mathlib.Core.List.{List, [], _∷_, _++_, map}
+use lib.Dec.{eqb}
+use lib.Ieee.{Float, nan, inf, fin, lt, neg}
+use Rattle.numbers.specs.Numbers.{+0, one, at, nth, tab, row}
+use Rattle.step_rows.specs.declared.Side.{Side}
+use Rattle.step_rows.specs.declared.Side.the-variants.{Open, At}
+
+-- n variables, m constraints: the factor L of B = L L' (n by n), the gradient, the constraints' kinds, values c and Jacobian A (m by n), and the step's bounds
+pub record Problem : Type 0 where
+  pub n : ℕ
+  pub m : ℕ
+  pub factor : List Float
+  pub gradient : List Float
+  pub kinds : List ℕ
+  pub values : List Float
+  pub jacobian : List Float
+  pub lower : List Float
+  pub upper : List Float
+
+-- constraint j is an equality: its kind is 0, where 1 is an inequality
+abbrev pub isEquality : Problem → ℕ → Bool
+isEquality p j = eqb (nth (p .kinds) j) 0
+
+-- ---- rows, an equation or inequality each: coefficients and a right side
+
+pub record Row : Type 0 where
+  pub coefficients : List Float
+  pub side : Float
+
+abbrev pub rowOf : List Float → Float → Row
+rowOf v b = record { coefficients = v; side = b }
+
+-- the matrix and the right side of some rows
+unfoldable pub matrixOf : List Row → List Float
+matrixOf [] = []
+matrixOf (r ∷ rs) = r .coefficients ++ matrixOf rs
+
+unfoldable pub sidesOf : List Row → List Float
+sidesOf [] = []
+sidesOf (r ∷ rs) = r .side ∷ sidesOf rs
+
+-- f 0, f 1, .., f (n - 1) one after the other
+unfoldable pub each : ℕ → (ℕ → List Row) → List Row
+each zero f = []
+each (suc n) f = f zero ++ each n (λ i. f (suc i))
+
+-- v at place i of n, +0 elsewhere
+unfoldable pub unit : ℕ → ℕ → Float → List Float
+unit n i v = tab n (λ j. cond (eqb j i) v +0)
+
+-- ---- bounds
+
+-- a side is open, or closed at a number: any nonfinite bound is open
+abbrev pub sideOf : Float → Side
+sideOf nan = Open
+sideOf (inf s) = Open
+sideOf (fin s m e) = At (fin s m e)
+
+-- d_i >= lower_i, and -d_i >= -upper_i
+abbrev pub lowerRow : ℕ → ℕ → Side → List Row
+lowerRow cols i Open = []
+lowerRow cols i (At v) = rowOf (unit cols i one) v ∷ []
+
+abbrev pub upperRow : ℕ → ℕ → Side → List Row
+upperRow cols i Open = []
+upperRow cols i (At v) = rowOf (unit cols i (neg one)) (neg v) ∷ []
+
+-- per variable lower, upper
+unfoldable pub boundRows : ℕ → Problem → List Row
+boundRows cols p = each (p .n) (λ i. lowerRow cols i (sideOf (at (p .lower) i)) ++ upperRow cols i (sideOf (at (p .upper) i)))
+
+-- ---- constraints of the exact problem, in n columns: a_j'd = -c_j, or a_j'd >= -c_j
+
+abbrev pub exactRow : Problem → ℕ → Row
+exactRow p j = rowOf (row (p .n) j (p .jacobian)) (neg (at (p .values) j))
+
+unfoldable pub equalityRows : Problem → List Row
+equalityRows p = each (p .m) (λ j. cond (isEquality p j) (exactRow p j ∷ []) [])
+
+unfoldable pub inequalityRows : Problem → List Row
+inequalityRows p = each (p .m) (λ j. cond (isEquality p j) [] (exactRow p j ∷ [])) ++ boundRows (p .n) p
+
+-- ---- constraints of the relaxed problem, in (d, delta): n + 1 columns
+
+-- an equality is two opposed rows
+unfoldable pub opposedRows : List Float → Float → List Row
+opposedRows a c = rowOf (a ++ (neg c ∷ [])) (neg c) ∷ rowOf (map neg a ++ (c ∷ [])) c ∷ []
+
+-- an inequality has -c in the last column only if c < 0
+unfoldable pub loosenedRow : List Float → Float → List Row
+loosenedRow a c = rowOf (a ++ (cond (lt c +0) (neg c) +0 ∷ [])) (neg c) ∷ []
+
+abbrev pub relaxedOf : Bool → List Float → Float → List Row
+relaxedOf true a c = opposedRows a c
+relaxedOf false a c = loosenedRow a c
+
+-- delta >= 0 and -delta >= -1, delta being variable n
+unfoldable pub deltaRows : ℕ → List Row
+deltaRows n = rowOf (unit (n + 1) n one) +0 ∷ rowOf (unit (n + 1) n (neg one)) (neg one) ∷ []
+
+-- constraints, then per variable lower, upper, and last those of delta
+unfoldable pub relaxedRows : Problem → List Row
+relaxedRows p =
+    each (p .m) (λ j. relaxedOf (isEquality p j) (row (p .n) j (p .jacobian)) (at (p .values) j))
+    ++ (boundRows (p .n + 1) p ++ deltaRows (p .n))
