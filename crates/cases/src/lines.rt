@@ -39,3 +39,12 @@ pub fn tell_floats(name: &[u8], xs: &[f64]) {
 pub fn end_line() {
     io::write_all(STDOUT_FILENO, b"\n");
 }
+
+// A line for a call that leaves one list, told with number 0.
+pub fn tell_call(name: &[u8], number: u32, label: &[u8], xs: &[f64]) {
+    tell_number(name, number);
+    if number == 0 {
+        tell_floats(label, xs);
+    }
+    end_line();
+}

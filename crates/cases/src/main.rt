@@ -2,26 +2,26 @@
 //
 // A bundle, on standard input: for each case the length of its name and the length of its file, two bytes each,
 // little-endian, then the name and the file. `tools/records.py bundle examples/cases.txt` writes it.
+mod calls;
 mod lines;
 mod table;
 
 use libc::STDIN_FILENO;
 use libc::STDOUT_FILENO;
-ghost use Prim.Native.Nat.{_*_, _+_, _≤_, _<_};
+ghost use Prim.Native.Nat.{_≤_, _<_};
 ghost use mathlib.Core.Path.{_≡_};
 ghost use lib.ListN.{length};
 
-// Two bytes as a number, little-endian.
-fn number(low: u8, high: u8) -> usize
-    ensures { λ r. ⌜ r ≡ low + 256 * high ⌝ }
-    ensures { λ r. ⌜ r < 65536 ⌝ }
+// 2,048 zeros, for what the record program writes.
+fn output_room() -> [u8; 2048]
+    ensures { λ r. ⌜ 2048 ≡ length r ⌝ }
 {
-    low as usize + 256 * (high as usize)
+    [0; 2048]
 }
 
 // The name of a case, and what the record program writes for its file.
 fn answer(name: &[u8], file: &[u8]) {
-    let mut out = [0u8; 2048];
+    let mut out = output_room();
     let n = record_answer::respond(file, &mut out);
     io::write_all(STDOUT_FILENO, name);
     io::write_all(STDOUT_FILENO, b":\n");
@@ -37,8 +37,8 @@ fn answer_first(bundle: &[u8]) -> usize
         io::write_all(STDOUT_FILENO, b"cut off\n");
         return bundle.len();
     }
-    let start = 4 + number(bundle[0], bundle[1]);
-    let end = start + number(bundle[2], bundle[3]);
+    let start = 4 + endian::read_u16(bundle, 0) as usize;
+    let end = start + endian::read_u16(bundle, 2) as usize;
     if bundle.len() < end {
         io::write_all(STDOUT_FILENO, b"cut off\n");
         return bundle.len();

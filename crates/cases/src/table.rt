@@ -1,6 +1,10 @@
 // The cases worked by hand (docs/RULES.md), called through the C interface. The definitions are proved to answer the same
 // table (crates/worked); here the compiled code is held to it.
+use crate::calls;
+use crate::calls::Counted;
+use crate::calls::Stepped;
 use crate::lines::end_line;
+use crate::lines::tell_call;
 use crate::lines::tell_count;
 use crate::lines::tell_floats;
 use crate::lines::tell_number;
@@ -8,125 +12,63 @@ ghost use mathlib.Core.Path.{_≡_};
 ghost use Prim.Native.Nat.{_≤_};
 ghost use lib.ListN.{length};
 
-// An f64 workspace.
-fn floats() -> [f64; 8192]
-    ensures { λ r. ⌜ 8192 ≡ length r ⌝ }
-{
-    [0.0; 8192]
-}
-
-// One that is too short by one.
-fn short_floats() -> [f64; 8191]
-    ensures { λ r. ⌜ 8191 ≡ length r ⌝ }
-{
-    [0.0; 8191]
-}
-
-// A u32 workspace.
-fn words() -> [u32; 512]
-    ensures { λ r. ⌜ 512 ≡ length r ⌝ }
-{
-    [0; 512]
-}
-
 // ---- nonnegative least squares
 
-// NNLS on as many rows as b has, and as many columns as x.
-fn tell_nnls(name: &[u8], k: usize, a: &[f64], b: &[f64], x: &mut [f64]) {
-    let mut w = floats();
-    let mut iw = words();
-    let mut rounds: u32 = 0;
-    let mut factorings: u32 = 0;
-    let number = gritstrut::gritstrut_nnls(
-        b.len(),
-        x.len(),
-        k,
-        a,
-        b,
-        x,
-        &mut rounds,
-        &mut factorings,
-        &mut w,
-        &mut iw,
-    );
-    tell_number(name, number);
-    if number == 0 {
+// What NNLS left.
+fn tell_counted(name: &[u8], counted: Counted, x: &[f64]) {
+    tell_number(name, counted.number);
+    if counted.number == 0 {
         tell_floats(b"x", x);
-        tell_count(b"rounds", rounds as u64);
-        tell_count(b"factorings", factorings as u64);
+        tell_count(b"rounds", counted.rounds as u64);
+        tell_count(b"factorings", counted.factorings as u64);
     }
     end_line();
 }
 
-// One column, by how many rounds are allowed.
-fn tell_one_column() {
-    let one = [1.0];
-    let two = [2.0];
-    let minus_two = [-2.0];
+// One column, by its right side and how many rounds are allowed.
+fn tell_one_column(name: &[u8], b: f64, k: usize) {
     let mut x = [0.0];
-    tell_nnls(b"nnls, A = [1], b = [2], k = 3", 3, &one, &two, &mut x);
-    tell_nnls(b"nnls, A = [1], b = [2], k = 0", 0, &one, &two, &mut x);
-    tell_nnls(
-        b"nnls, A = [1], b = [-2], k = 0",
-        0,
-        &one,
-        &minus_two,
-        &mut x,
-    );
-    tell_nnls(b"nnls, A = [1], b = [2], k = 4", 4, &one, &two, &mut x);
+    let counted = calls::nnls(b, k, &mut x);
+    tell_counted(name, counted, &x);
 }
 
-// Two columns alike, of which the last enters, and none.
+// Two columns alike, of which the last enters.
 fn tell_tie() {
-    let ones = [1.0, 1.0];
-    let two = [2.0];
     let mut x = [0.0, 0.0];
-    tell_nnls(b"nnls, A = [1 1], b = [2], k = 6", 6, &ones, &two, &mut x);
-    tell_nnls(
-        b"nnls, no columns, b = [2], k = 0",
-        0,
-        &ones[..0],
-        &two,
-        &mut x[..0],
-    );
+    let counted = calls::nnls(2.0, 6, &mut x);
+    tell_counted(b"nnls, A = [1 1], b = [2], k = 6", counted, &x);
+}
+
+// No column.
+fn tell_no_column() {
+    let counted = calls::nnls(2.0, 0, &mut []);
+    tell_counted(b"nnls, no columns, b = [2], k = 0", counted, &[]);
+}
+
+// One column, with every right side and number of rounds.
+fn tell_columns() {
+    tell_one_column(b"nnls, A = [1], b = [2], k = 3", 2.0, 3);
+    tell_one_column(b"nnls, A = [1], b = [2], k = 0", 2.0, 0);
+    tell_one_column(b"nnls, A = [1], b = [-2], k = 0", -2.0, 0);
+    tell_one_column(b"nnls, A = [1], b = [2], k = 4", 2.0, 4);
 }
 
 // ---- least distance
 
 // A row of zeros that is to be at least 1.
 fn tell_distance() {
-    let g = [0.0];
-    let h = [1.0];
-    let mut x = [0.0];
-    let mut multipliers = [0.0];
-    let mut w = floats();
-    let mut iw = words();
-    let number = gritstrut::gritstrut_ldp(1, 1, &g, &h, &mut x, &mut multipliers, &mut w, &mut iw);
-    tell_number(b"ldp, G = [0], h = [1]", number);
+    tell_number(b"ldp, G = [0], h = [1]", calls::ldp(0.0, 1.0));
     end_line();
 }
 
 // ---- the approximation B
 
-// The Cholesky factor of a matrix of dimension n.
-fn tell_cholesky(name: &[u8], n: usize, b: &[f64], l: &mut [f64]) {
-    let mut w = floats();
-    let mut iw = words();
-    let number = gritstrut::gritstrut_cholesky(n, b, l, &mut w, &mut iw);
-    tell_number(name, number);
-    if number == 0 {
-        tell_floats(b"L", l);
-    }
-    end_line();
-}
-
-// Two small matrices, the second with a negative pivot.
-fn tell_factors() {
-    let good = [4.0, 2.0, 2.0, 5.0];
-    let bad = [1.0, 2.0, 2.0, 1.0];
+// The Cholesky factor of [a b; b c].
+fn tell_cholesky(name: &[u8], a: f64, b: f64, c: f64) {
+    let matrix = [a, b, b, c];
     let mut l = [0.0; 4];
-    tell_cholesky(b"cholesky, [4 2; 2 5]", 2, &good, &mut l);
-    tell_cholesky(b"cholesky, [1 2; 2 1]", 2, &bad, &mut l);
+    let number = calls::cholesky(2, &matrix, &mut l);
+    tell_call(name, number, b"L", &l);
 }
 
 // 289 zeros.
@@ -140,7 +82,8 @@ fn large() -> [f64; 289]
 fn tell_too_large() {
     let b = large();
     let mut l = large();
-    tell_cholesky(b"cholesky, dimension 17", 17, &b, &mut l);
+    let number = calls::cholesky(17, &b, &mut l);
+    tell_call(b"cholesky, dimension 17", number, b"L", &l);
 }
 
 // 256 zeros.
@@ -148,17 +91,6 @@ fn full() -> [f64; 256]
     ensures { λ r. ⌜ 256 ≡ length r ⌝ }
 {
     [0.0; 256]
-}
-
-// Whether two numbers have the same bits; a NaN is like nothing.
-fn is_same(x: f64, y: f64) -> bool {
-    if x != x {
-        return false;
-    }
-    if y != y {
-        return false;
-    }
-    f64::to_bits(x) == f64::to_bits(y)
 }
 
 // 1 for yes.
@@ -175,7 +107,7 @@ fn count_same(a: &[f64], b: &[f64]) -> u64
 {
     let mut same: u64 = 0;
     for i in 0..a.len() {
-        same += as_count(is_same(a[i], b[i]));
+        same += as_count(record_read::is_same(a[i], b[i]));
     }
     same
 }
@@ -184,28 +116,26 @@ fn count_same(a: &[f64], b: &[f64]) -> u64
 fn tell_identity() {
     let mut b = full();
     let mut l = full();
-    let mut w = floats();
-    let mut iw = words();
-    let made = gritstrut::gritstrut_identity(16, &mut b, &mut w, &mut iw);
+    let made = calls::identity(16, &mut b);
     tell_number(b"identity, dimension 16", made);
     end_line();
-    let number = gritstrut::gritstrut_cholesky(16, &b, &mut l, &mut w, &mut iw);
+    let number = calls::cholesky(16, &b, &mut l);
     tell_number(b"cholesky, identity of dimension 16", number);
     tell_count(b"entries as in B", count_same(&b, &l));
     end_line();
 }
 
-// The damped update of B = [1] by y = [4].
+// The damped update of B = [1] by s and y = [4].
 fn tell_update(name: &[u8], s: f64) {
     let mut b = [1.0];
-    let step = [s];
-    let y = [4.0];
-    let mut w = floats();
-    let mut iw = words();
-    let number = gritstrut::gritstrut_update(1, &mut b, &step, &y, &mut w, &mut iw);
-    tell_number(name, number);
-    tell_floats(b"B", &b);
-    end_line();
+    let number = calls::update(&mut b, s, 4.0);
+    tell_call(name, number, b"B", &b);
+}
+
+// Two factors, the second with a negative pivot.
+fn tell_factors() {
+    tell_cholesky(b"cholesky, [4 2; 2 5]", 4.0, 2.0, 5.0);
+    tell_cholesky(b"cholesky, [1 2; 2 1]", 1.0, 2.0, 1.0);
 }
 
 // A step that counts, none, and one that is a NaN.
@@ -217,83 +147,49 @@ fn tell_updates() {
 
 // ---- the step
 
-// The step of one variable with factor 1, gradient 1, no bounds, and equalities of value 1 and zero Jacobian.
-fn tell_step(
-    name: &[u8],
-    kinds: &[u8],
-    values: &[f64],
-    jacobian: &[f64],
-    multipliers: &mut [f64],
-    w: &mut [f64],
-) {
-    let one = [1.0];
-    let lower = [-1.0 / 0.0];
-    let upper = [1.0 / 0.0];
-    let mut d = [0.0];
-    let mut relaxation = [0.0];
-    let mut iw = words();
-    let number = gritstrut::gritstrut_step(
-        1,
-        values.len(),
-        &one,
-        &one,
-        kinds,
-        values,
-        jacobian,
-        &lower,
-        &upper,
-        &mut d,
-        multipliers,
-        &mut relaxation[0],
-        w,
-        &mut iw,
-    );
-    tell_number(name, number);
-    if number == 0 {
-        tell_floats(b"relaxation", &relaxation);
-        tell_floats(b"d", &d);
+// What the step left.
+fn tell_stepped(name: &[u8], stepped: Stepped, multipliers: &[f64]) {
+    tell_number(name, stepped.number);
+    if stepped.number == 0 {
+        tell_floats(b"relaxation", &[stepped.relaxation]);
+        tell_floats(b"d", &[stepped.d]);
         tell_floats(b"multipliers", multipliers);
     }
     end_line();
 }
 
-// The exact problem refuses 5, so the relaxed one answers.
+// Two equalities: the exact problem refuses 5, so the relaxed one answers.
 fn tell_relaxed() {
     let kinds = [0u8, 0];
     let values = [1.0, 1.0];
     let jacobian = [0.0, 0.0];
     let mut multipliers = [0.0, 0.0];
-    let mut w = floats();
-    tell_step(
+    let mut w = record_answer::float_room();
+    let stepped = calls::step(&kinds, &values, &jacobian, &mut multipliers, &mut w);
+    tell_stepped(
         b"step, two equalities on one variable, zero Jacobian",
-        &kinds,
-        &values,
-        &jacobian,
-        &mut multipliers,
-        &mut w,
+        stepped,
+        &multipliers,
     );
 }
 
-// The step with no constraint, in a workspace of the length that is tried.
+// No constraint, in a workspace of the length that is tried.
 fn tell_room(name: &[u8], w: &mut [f64]) {
-    let kinds = [0u8];
-    let values = [0.0];
-    let jacobian = [0.0];
-    let mut multipliers = [0.0];
-    tell_step(
-        name,
-        &kinds[..0],
-        &values[..0],
-        &jacobian[..0],
-        &mut multipliers[..0],
-        w,
-    );
+    let stepped = calls::step(&[], &[], &[], &mut [], w);
+    tell_stepped(name, stepped, &[]);
+}
+
+// One entry less than an f64 workspace has.
+fn short_room() -> [f64; 8191]
+    ensures { λ r. ⌜ 8191 ≡ length r ⌝ }
+{
+    [0.0; 8191]
 }
 
 // A workspace that is too short, and the shortest that is taken.
 fn tell_rooms() {
-    let mut short = short_floats();
-    let mut w = floats();
+    let mut short = short_room();
+    let mut w = record_answer::float_room();
     tell_room(b"step, f64 workspace of 8191", &mut short);
     tell_room(b"step, f64 workspace of 8192", &mut w);
 }
@@ -302,8 +198,9 @@ fn tell_rooms() {
 
 // A line for each case.
 pub fn tell_all() {
-    tell_one_column();
+    tell_columns();
     tell_tie();
+    tell_no_column();
     tell_distance();
     tell_factors();
     tell_identity();

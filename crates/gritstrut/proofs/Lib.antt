@@ -1,4 +1,2 @@
-pub mod Interface
-pub mod Factors
-pub mod Counts
-pub mod Relaxations
+pub mod Leaves
+pub mod One

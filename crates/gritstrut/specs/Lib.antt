@@ -1,2 +1,3 @@
--- What the C functions leave behind the pointers of single results. Definitions only.
+-- What the C functions promise. Definitions only.
 pub mod Interface
+pub mod Claims

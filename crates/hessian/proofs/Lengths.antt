@@ -1,4 +1,4 @@
--- Lengths of what the operations make. Assumes nothing.
+-- Lengths of what the operations make.
 use mathlib.Core.Path.{_≡_}
 use mathlib.Core.Bool.{Bool, true, false, cond}
 use mathlib.Core.List.{List}

@@ -1,4 +1,4 @@
--- Rows that are lent as parts of a matrix, and a whole list that is copied. Assumes nothing.
+-- Rows that are lent as parts of a matrix, and a whole list that is copied.
 use mathlib.Core.Path.{_≡_, sym, ap, _∙_}
 use mathlib.Core.List.{List}
 use Prim.Native.Nat.{ℕ, _+_, _*_, _-_, _≤_}
@@ -7,7 +7,7 @@ use lib.ListN.{length, take, drop}
 use lib.Ieee.{Float}
 use Rattle.numbers.specs.Numbers.{at, dot, row}
 use Rattle.numbers.proofs.Lists.{part-row, by-entries, tab-same}
-use Rattle.workspace.specs.Readings.{vec}
+use Rattle.workspace.specs.inner.Readings.{vec}
 
 -- row i, lent as a part of B
 pub times-entry : (n i : ℕ) (b v : List Float) (x : Float) → i * n + n ≤ length b → x ≡ dot n (take (i * n + n - i * n) (drop (i * n) b)) v → x ≡ dot n (row n i b) v

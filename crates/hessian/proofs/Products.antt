@@ -1,4 +1,4 @@
--- A product of two f64s does not depend on their order. Assumes nothing.
+-- A product of two f64s does not depend on their order.
 use mathlib.Core.Path.{_≡_, refl, ap}
 use mathlib.Core.Bool.{Bool, true, false}
 use Prim.Native.Nat.{_*_}

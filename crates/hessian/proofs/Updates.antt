@@ -1,4 +1,4 @@
--- The damped update, put together from what its functions left. Assumes nothing.
+-- The damped update, put together from what its functions left.
 use mathlib.Core.Path.{_≡_}
 use mathlib.Core.List.{List, _++_}
 use Prim.Native.Nat.{ℕ, _-_, _≤_}

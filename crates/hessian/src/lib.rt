@@ -1,4 +1,4 @@
-// The approximation B of the Hessian, n by n, row by row: identity, product, Cholesky factor and damped BFGS update.
+// The approximation B of the Hessian, n by n, row by row: the kernels of identity, product, Cholesky factor and damped BFGS update.
 ghost use mathlib.Core.Path.{_≡_};
 ghost use mathlib.Core.Bool.{true, false, _&&_, cond};
 ghost use Prim.Native.Nat.{ℕ, _+_, _*_, _≤_, _<_};
@@ -6,61 +6,16 @@ ghost use lib.Dec.{eqb};
 ghost use lib.ListN.{length, take, drop};
 ghost use lib.Ieee.{Float};
 ghost use Rattle.numbers.specs.Numbers.{+0, one, at, tab, _⊕_, _⊖_, _⊗_, _⊘_};
-ghost use Rattle.workspace.specs.Readings.{Cleared};
 ghost use Rattle.hessian.specs.Hessian.{identity, times, remainder, withRow, isPivot, nextRow, cholesky, theta, damped, revised, curved, update};
-ghost use Rattle.hessian.specs.Promise.{Writes, identityCall, timesCall, choleskyCall, updateCall};
-ghost use Rattle.hessian.specs.Outcomes.{numberOf};
-ghost use Rattle.hessian.specs.Work.{Ready, told, isWhole, Factored};
+ghost use Rattle.hessian.specs.inner.Work.{madeOf, isWhole, FactorMade};
+use workspace::Outcome;
+use workspace::Refusal;
 
-// The operations on B, and the curvature fraction below which its update is damped.
+// The curvature fraction below which the update of B is damped.
 pub struct Hessian {}
 
 impl Hessian {
     pub const DAMPING: f64 = 0.2;
-}
-
-// What an operation answers; specs/Outcomes.antt gives its number.
-pub enum Outcome {
-    Done,
-    Size,
-    Length,
-    Room,
-    Pivot,
-}
-
-// ---- tests
-
-// The length of a square matrix.
-fn is_square(n: usize, bn: usize) -> bool
-    requires { ⌜ n ≤ 16 ⌝ }
-    ensures { λ r. ⌜ r ≡ eqb bn (n * n) ⌝ }
-{
-    bn == n * n
-}
-
-// The lengths of two square matrices.
-fn are_squares(n: usize, bn: usize, on: usize) -> bool
-    requires { ⌜ n ≤ 16 ⌝ }
-    ensures { λ r. ⌜ r ≡ (eqb bn (n * n) && eqb on (n * n)) ⌝ }
-{
-    if bn != n * n {
-        return false;
-    }
-    on == n * n
-}
-
-// The lengths of a square matrix and two vectors.
-fn are_lengths(n: usize, bn: usize, sn: usize, yn: usize) -> bool
-    requires { ⌜ n ≤ 16 ⌝ }
-    ensures { λ r. ⌜ r ≡ (eqb bn (n * n) && eqb sn n && eqb yn n) ⌝ }
-{
-    if bn != n * n {
-        return false;
-    }
-    if sn != n {
-        return false;
-    }
-    yn == n
 }
 
 // ---- the identity
@@ -83,7 +38,7 @@ fn unit_row(n: usize, x: &mut [f64], i: usize)
 }
 
 // The identity, written to `out`.
-fn identity_into(n: usize, out: &mut [f64])
+pub fn identity_into(n: usize, out: &mut [f64])
     requires { ⌜ length (now out) ≡ n * n ⌝ }
     ensures { λ _. ⌜ now (out .exit) ≡ identity n ⌝ }
 {
@@ -97,7 +52,7 @@ fn identity_into(n: usize, out: &mut [f64])
 // ---- the product
 
 // B v, written to `out`.
-fn times_into(n: usize, b: &[f64], v: &[f64], out: &mut [f64])
+pub fn times_into(n: usize, b: &[f64], v: &[f64], out: &mut [f64])
     requires { ⌜ (n * n ≤ length (now b)) × (length (now v) ≡ n) × (length (now out) ≡ n) ⌝ }
     ensures { λ _. ⌜ now (out .exit) ≡ times n (now (b .entry)) (now (v .entry)) ⌝ }
 {
@@ -144,7 +99,7 @@ fn is_pivot(p: f64) -> bool
 // Row i of L, or false where its pivot is not good.
 fn next_row(n: usize, b: &[f64], l: &mut [f64], i: usize) -> bool
     requires { ⌜ (i < n) × (length (now b) ≡ n * n) × (length (now l) ≡ n * n) ⌝ }
-    ensures { λ r. ⌜ told r (now (l .exit)) ≡ nextRow n (now (b .entry)) i (told true (now (l .entry))) ⌝ }
+    ensures { λ r. ⌜ madeOf r (now (l .exit)) ≡ nextRow n (now (b .entry)) i (madeOf true (now (l .entry))) ⌝ }
 {
     with_row(n, b, l, i);
     let p = remainder_of(n, b, l, i, i);
@@ -164,7 +119,7 @@ enum Made {
 // L in the place of `l`, whole or up to a pivot that is not good.
 fn factor(n: usize, b: &[f64], l: &mut [f64]) -> Made
     requires { ⌜ (n ≤ 16) × (length (now b) ≡ n * n) × (length (now l) ≡ n * n) ⌝ }
-    ensures { λ r. ⌜ told (isWhole r) (now (l .exit)) ≡ cholesky n (now (b .entry)) ⌝ }
+    ensures { λ r. ⌜ madeOf (isWhole r) (now (l .exit)) ≡ cholesky n (now (b .entry)) ⌝ }
 {
     workspace::wipe(l, n * n);
     for i in 0..n {
@@ -176,27 +131,16 @@ fn factor(n: usize, b: &[f64], l: &mut [f64]) -> Made
 }
 
 // L is made in `l` and copied to `out` where it is whole, so that a refusal leaves `out`.
-fn factor_into(n: usize, b: &[f64], out: &mut [f64], l: &mut [f64]) -> bool
+pub fn factor_into(n: usize, b: &[f64], out: &mut [f64], l: &mut [f64]) -> Outcome
     requires { ⌜ (n ≤ 16) × (length (now b) ≡ n * n) × (length (now out) ≡ n * n) × (length (now l) ≡ n * n) ⌝ }
-    ensures { λ r. ⌜ Factored (cholesky n (now (b .entry))) r (now (out .entry)) (now (out .exit)) ⌝ }
+    ensures { λ r. ⌜ FactorMade (cholesky n (now (b .entry))) r (now (out .entry)) (now (out .exit)) ⌝ }
 {
     let made = factor(n, b, l);
     let Made::Whole = made else {
-        return false;
+        return Outcome::Refused(Refusal::Pivot);
     };
     workspace::unload(l, out, 0, n * n);
-    true
-}
-
-// The factor and the clearing of the workspaces, where no test refuses.
-fn cholesky_all(n: usize, b: &[f64], out: &mut [f64], w: &mut [f64], iw: &mut [u32]) -> bool
-    requires { ⌜ (n ≤ 16) × (length (now b) ≡ n * n) × (length (now out) ≡ n * n) × (8192 ≤ length (now w)) × (512 ≤ length (now iw)) ⌝ }
-    ensures { λ r. ⌜ Factored (cholesky n (now (b .entry))) r (now (out .entry)) (now (out .exit)) × Cleared (now (w .entry)) (now (w .exit)) (now (iw .entry)) (now (iw .exit)) ⌝ }
-{
-    let m = n * n;
-    let good = factor_into(n, b, out, &mut w[..m]);
-    workspace::clear(w, iw);
-    good
+    Outcome::Done
 }
 
 // ---- the damped update
@@ -260,7 +204,7 @@ fn curve(n: usize, b: &mut [f64], s: &[f64], y: &[f64], w: &mut [f64], sbs: f64)
 }
 
 // The update itself, with Bs and r in `w`.
-fn renew(n: usize, b: &mut [f64], s: &[f64], y: &[f64], w: &mut [f64])
+pub fn renew(n: usize, b: &mut [f64], s: &[f64], y: &[f64], w: &mut [f64])
     requires { ⌜ (length (now b) ≡ n * n) × (length (now s) ≡ n) × (length (now y) ≡ n) × (length (now w) ≡ n + n) ⌝ }
     ensures { λ _. ⌜ now (b .exit) ≡ update n (now (b .entry)) (now (s .entry)) (now (y .entry)) ⌝ }
 {
@@ -270,104 +214,4 @@ fn renew(n: usize, b: &mut [f64], s: &[f64], y: &[f64], w: &mut [f64])
         return;
     }
     curve(n, b, s, y, w, sbs);
-}
-
-// The update and the clearing of the workspaces, where no test refuses.
-fn update_all(n: usize, b: &mut [f64], s: &[f64], y: &[f64], w: &mut [f64], iw: &mut [u32])
-    requires { ⌜ Ready n (now b) (now s) (now y) (now w) (now iw) ⌝ }
-    ensures { λ _. ⌜ (now (b .exit) ≡ update n (now (b .entry)) (now (s .entry)) (now (y .entry))) × Cleared (now (w .entry)) (now (w .exit)) (now (iw .entry)) (now (iw .exit)) ⌝ }
-{
-    let m = n + n;
-    renew(n, b, s, y, &mut w[..m]);
-    workspace::clear(w, iw);
-}
-
-// ---- the operations
-
-impl Hessian {
-    // The identity, written to `out`.
-    pub fn identity(n: usize, out: &mut [f64], w: &mut [f64], iw: &mut [u32]) -> Outcome
-        ensures { λ r. ⌜ Writes (identityCall n (now (out .entry)) (now (w .entry)) (now (iw .entry))) (numberOf r) (now (out .entry)) (now (out .exit)) (now (w .entry)) (now (w .exit)) (now (iw .entry)) (now (iw .exit)) ⌝ }
-    {
-        if !workspace::is_dimension(n) {
-            return Outcome::Size;
-        }
-        if !is_square(n, out.len()) {
-            return Outcome::Length;
-        }
-        if !workspace::is_room(w.len(), iw.len()) {
-            return Outcome::Room;
-        }
-        identity_into(n, out);
-        workspace::clear(w, iw);
-        Outcome::Done
-    }
-
-    // The product B v, written to `out`.
-    pub fn times(
-        n: usize,
-        b: &[f64],
-        v: &[f64],
-        out: &mut [f64],
-        w: &mut [f64],
-        iw: &mut [u32],
-    ) -> Outcome
-        ensures { λ r. ⌜ Writes (timesCall n (now (b .entry)) (now (v .entry)) (now (out .entry)) (now (w .entry)) (now (iw .entry))) (numberOf r) (now (out .entry)) (now (out .exit)) (now (w .entry)) (now (w .exit)) (now (iw .entry)) (now (iw .exit)) ⌝ }
-    {
-        if !workspace::is_dimension(n) {
-            return Outcome::Size;
-        }
-        if !are_lengths(n, b.len(), v.len(), out.len()) {
-            return Outcome::Length;
-        }
-        if !workspace::is_room(w.len(), iw.len()) {
-            return Outcome::Room;
-        }
-        times_into(n, b, v, out);
-        workspace::clear(w, iw);
-        Outcome::Done
-    }
-
-    // The Cholesky factor of B, written to `out`, or Pivot.
-    pub fn cholesky(n: usize, b: &[f64], out: &mut [f64], w: &mut [f64], iw: &mut [u32]) -> Outcome
-        ensures { λ r. ⌜ Writes (choleskyCall n (now (b .entry)) (now (out .entry)) (now (w .entry)) (now (iw .entry))) (numberOf r) (now (out .entry)) (now (out .exit)) (now (w .entry)) (now (w .exit)) (now (iw .entry)) (now (iw .exit)) ⌝ }
-    {
-        if !workspace::is_dimension(n) {
-            return Outcome::Size;
-        }
-        if !are_squares(n, b.len(), out.len()) {
-            return Outcome::Length;
-        }
-        if !workspace::is_room(w.len(), iw.len()) {
-            return Outcome::Room;
-        }
-        if !cholesky_all(n, b, out, w, iw) {
-            return Outcome::Pivot;
-        }
-        Outcome::Done
-    }
-
-    // The damped update of B, in its place.
-    pub fn update(
-        n: usize,
-        b: &mut [f64],
-        s: &[f64],
-        y: &[f64],
-        w: &mut [f64],
-        iw: &mut [u32],
-    ) -> Outcome
-        ensures { λ r. ⌜ Writes (updateCall n (now (b .entry)) (now (s .entry)) (now (y .entry)) (now (w .entry)) (now (iw .entry))) (numberOf r) (now (b .entry)) (now (b .exit)) (now (w .entry)) (now (w .exit)) (now (iw .entry)) (now (iw .exit)) ⌝ }
-    {
-        if !workspace::is_dimension(n) {
-            return Outcome::Size;
-        }
-        if !are_lengths(n, b.len(), s.len(), y.len()) {
-            return Outcome::Length;
-        }
-        if !workspace::is_room(w.len(), iw.len()) {
-            return Outcome::Room;
-        }
-        update_all(n, b, s, y, w, iw);
-        Outcome::Done
-    }
 }

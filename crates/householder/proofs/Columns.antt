@@ -1,4 +1,4 @@
--- What `swap` and `prepare` rest on: columns exchanged, and a reflector made of a column. Assumes nothing.
+-- What `swap` and `prepare` rest on: columns exchanged, and a reflector made of a column.
 use mathlib.Core.Path.{_≡_, refl, ap, ap₂, _∙_}
 use mathlib.Core.Bool.{cond}
 use mathlib.Core.List.{List}
@@ -12,9 +12,9 @@ use lib.Ieee.{Float, nan}
 use borrow.Author.Tests.{lt-ltb, le-ltb, eq-eqb, ne-eqb}
 use Rattle.numbers.specs.Numbers.{+0, _⊖_, _⊗_, at}
 use Rattle.numbers.proofs.Cases.{lt-or-ge, eq-or-ne}
-use Rattle.workspace.specs.Readings.{Block}
+use Rattle.workspace.specs.inner.Readings.{Block}
 use Rattle.householder.specs.Qr.{signed}
-use Rattle.householder.specs.Work.{Exchanged, Prepared, diagonalOf}
+use Rattle.householder.specs.inner.Work.{Exchanged, Prepared, diagonalOf}
 
 set-same : (w : List Float) (i : ℕ) (v : Float) → i < length w → at (set w i v) i ≡ v
 set-same w i v h = getD-set-same w i v nan h

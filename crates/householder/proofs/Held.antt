@@ -1,4 +1,4 @@
--- The factors that stand in a part of the workspaces: its reflectors, and what they read of the part. Assumes nothing.
+-- The factors that stand in a part of the workspaces: its reflectors, and what they read of the part.
 use mathlib.Core.Path.{_≡_, refl, sym, ap, _∙_, subst}
 use mathlib.Core.List.{List}
 use Prim.Native.Nat.{ℕ, zero, suc, _+_, _*_, _≤_, _<_, min}
@@ -8,11 +8,11 @@ use lib.ListN.{length}
 use lib.Ieee.{Float}
 use Rattle.numbers.specs.Numbers.{at, nth, gather, scatter, row}
 use Rattle.numbers.proofs.Lists.{scatter-same}
-use Rattle.workspace.specs.Readings.{vec, mat, stack, nums, Block}
+use Rattle.workspace.specs.inner.Readings.{vec, mat, stack, nums, Block}
 use Rattle.workspace.proofs.Readings.{at-vec, vec-is, vec-same, mat-same, stack-same, row-stack, nth-front, nums-same}
 use Rattle.householder.specs.Qr.{Factors, factor, image, reflect, forth}
 use Rattle.householder.specs.Claims.{Permutation}
-use Rattle.householder.specs.Work.{held, Placed}
+use Rattle.householder.specs.inner.Work.{held, Placed}
 use Rattle.householder.proofs.Rank.{factor-rank}
 use Rattle.householder.proofs.Steps.{factors-same}
 use Rattle.householder.proofs.Sound.{factor-sound}

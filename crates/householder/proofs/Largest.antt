@@ -1,4 +1,4 @@
--- The pivot is the first of the columns with the largest norm. Assumes nothing.
+-- The pivot is the first of the columns with the largest norm.
 use mathlib.Core.Path.{_≡_, refl, sym, ap, _∙_, subst}
 use mathlib.Core.Logic.{_⊎_, inl, inr}
 use mathlib.Core.Bool.{Bool, true, false, cond, true≢false}
@@ -13,7 +13,7 @@ use Rattle.numbers.proofs.Cases.{last-or-before}
 use Rattle.numbers.proofs.Order.{lt-asym, lt-irrefl, lt-between, above-no-nan}
 use Rattle.householder.specs.Qr.{columnNorm, pivot, better}
 use Rattle.householder.specs.declared.Candidate.{Candidate}
-use Rattle.householder.specs.Claims.{FirstLargest}
+use Rattle.householder.specs.Claims.{PivotFirst, FirstLargest}
 
 to-true : (b : Bool) → T b → b ≡ true
 to-true true t = refl
@@ -79,3 +79,6 @@ module _ (m n k : ℕ) (r : List Float) where
               | inr i ↦ f .first j i a
             ];
           }
+
+pub pivot-is-first : PivotFirst
+pivot-is-first m n k r c = pivot-first m n k r c

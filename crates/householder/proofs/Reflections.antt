@@ -1,4 +1,4 @@
--- What `reflect` and `turn` rest on: a dot product and stores in place give the vector's image. Assumes nothing.
+-- What `reflect` and `turn` rest on: a dot product and stores in place give the vector's image.
 use mathlib.Core.Path.{_≡_, refl, sym, ap, ap₂, subst, _∙_}
 use mathlib.Core.Bool.{true, false, cond}
 use mathlib.Core.List.{List}
@@ -12,11 +12,11 @@ use Rattle.numbers.specs.Numbers.{+0, _⊕_, _⊗_, _⊘_, Σ, at, tab}
 use Rattle.numbers.proofs.Cases.{lt-or-ge}
 use Rattle.numbers.proofs.Lists.{length-tab}
 use Rattle.numbers.proofs.Sums.{Σ-same}
-use Rattle.workspace.specs.Readings.{vec, Block}
+use Rattle.workspace.specs.inner.Readings.{vec, Block}
 use Rattle.workspace.proofs.Readings.{lit-+0, at-vec, vec-is, vec-same}
 use Rattle.householder.specs.Qr.{along, image}
-use Rattle.householder.specs.Search.{product}
-use Rattle.householder.specs.Work.{Reflected, Turned}
+use Rattle.householder.specs.inner.Search.{product}
+use Rattle.householder.specs.inner.Work.{Reflected, Turned}
 
 pub image-stays : (m k : ℕ) (u : List Float) (b : Float) (v : List Float) → eq (along m k u v) +0 ≡ true → image m k u b v ≡ v
 unfolding image

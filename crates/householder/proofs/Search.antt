@@ -1,4 +1,4 @@
--- What the search for the pivot rests on: a column whose sum of squares is not above the lead's has no larger norm, and one whose sum is clearly above has one. Assumes nothing.
+-- What the search for the pivot rests on: a column whose sum of squares is not above the lead's has no larger norm, and one whose sum is clearly above has one.
 use mathlib.Core.Path.{_≡_, refl, sym, ap, ap₂, _∙_, subst}
 use mathlib.Core.Bool.{Bool, true, false, cond, true≢false, false≢true}
 use mathlib.Core.List.{List}
@@ -17,10 +17,10 @@ use Rattle.numbers.proofs.Sums.{Σ-same}
 use Rattle.numbers.proofs.Lists.{length-column, at-column}
 use Rattle.numbers.proofs.Monotone.{keeps-order}
 use Rattle.numbers.proofs.Apart.{sets-apart, root-over, root-under, root-up}
-use Rattle.workspace.specs.Readings.{mat}
+use Rattle.workspace.specs.inner.Readings.{mat}
 use Rattle.workspace.proofs.Readings.{lit-+0, entry-mat}
 use Rattle.householder.specs.Qr.{columnNorm, better, pivot}
-use Rattle.householder.specs.Search.{product, squares, four, shown, taken, weighed, Leads}
+use Rattle.householder.specs.inner.Search.{product, squares, four, shown, taken, weighed, Leads}
 use Rattle.householder.specs.declared.Candidate.{Candidate}
 use Rattle.householder.specs.declared.Lead.{Lead}
 use Rattle.householder.specs.declared.Four.{Four}

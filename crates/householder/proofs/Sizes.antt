@@ -1,4 +1,4 @@
--- How long the vectors are that Q and R give. Assumes nothing.
+-- How long the vectors are that Q and R give.
 use mathlib.Core.Path.{_≡_, refl, _∙_}
 use mathlib.Core.Bool.{Bool, true, false, cond}
 use mathlib.Core.List.{List}

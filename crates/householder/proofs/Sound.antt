@@ -1,4 +1,4 @@
--- The factors have the matrix's sizes, and their columns are its columns in another order. Assumes nothing.
+-- The factors have the matrix's sizes, and their columns are its columns in another order.
 use mathlib.Core.Path.{_≡_, refl, sym, ap, _∙_}
 use mathlib.Core.Bool.{Bool, true, false, cond}
 use mathlib.Core.List.{List}
@@ -14,7 +14,7 @@ use Rattle.numbers.specs.Numbers.{+0, nth, tab, entry, row}
 use Rattle.numbers.proofs.Cases.{eq-or-ne}
 use Rattle.numbers.proofs.Lists.{length-tab, getD-tab, length-rows, length-row, length-transposed}
 use Rattle.householder.specs.Qr.{Factors, pivot, exchange, swapped, signed, reflector, advance, tolerance, stopIf, steps, start, factor}
-use Rattle.householder.specs.Claims.{Permutation, Sound}
+use Rattle.householder.specs.Claims.{FactorSound, Permutation, SoundFactors}
 use Rattle.householder.specs.declared.Candidate.{Candidate}
 use Rattle.householder.proofs.Steps.{pivot-index}
 use Rattle.householder.proofs.Sizes.{either-length}
@@ -72,7 +72,7 @@ length-reflector : (m n k : ℕ) (s : Float) (r : List Float) → length (reflec
 unfolding reflector
 length-reflector m n k s r = length-tab m _
 
-advance-sound : (m n k : ℕ) (best : Candidate) (f : Factors) → k < min m n → best .index < n → Sound m n f → Sound m n (advance m n k best f)
+advance-sound : (m n k : ℕ) (best : Candidate) (f : Factors) → k < min m n → best .index < n → SoundFactors m n f → SoundFactors m n (advance m n k best f)
 unfolding advance
 advance-sound m n k best f km pn h = record {
   r = length-transposed n m _;
@@ -83,11 +83,11 @@ advance-sound m n k best f km pn h = record {
   b = length-set (f .b) k _ ∙ h .b;
 }
 
-either-sound : (m n : ℕ) (t : Bool) (f g : Factors) → Sound m n f → Sound m n g → Sound m n (stopIf t f g)
+either-sound : (m n : ℕ) (t : Bool) (f g : Factors) → SoundFactors m n f → SoundFactors m n g → SoundFactors m n (stopIf t f g)
 either-sound m n true f g a b = a
 either-sound m n false f g a b = b
 
-steps-sound : (m n left k : ℕ) (old : Float) (f : Factors) → k + left ≡ min m n → Sound m n f → Sound m n (steps m n left k old f)
+steps-sound : (m n left k : ℕ) (old : Float) (f : Factors) → k + left ≡ min m n → SoundFactors m n f → SoundFactors m n (steps m n left k old f)
 unfolding steps
 steps-sound m n zero k old f e h = h
 steps-sound m n (suc left) k old f e h =
@@ -102,7 +102,7 @@ identity-permutation n =
     let get : (i : ℕ) → i < n → nth (tab n (λ j. j)) i ≡ i = λ i h. getD-tab n (λ j. j) 0 i h in
     record { size = length-tab n _; below = λ i h. rw (get i h) h; distinct = λ i j hi hj e. sym (get i hi) ∙ e ∙ get j hj }
 
-pub factor-sound : (m n : ℕ) (a : List Float) → length a ≡ m * n → Sound m n (factor m n a)
+pub factor-sound : FactorSound
 unfolding factor
 factor-sound m n a e =
     steps-sound m n (min m n) 0 +0 (start m n a) (omega arith)

@@ -1,4 +1,4 @@
--- What `step` and `factor_in` rest on: from what the functions do to the workspaces to the definitions. Assumes nothing.
+-- What `step` and `factor_in` rest on: from what the functions do to the workspaces to the definitions.
 use mathlib.Core.Path.{_≡_, refl, sym, ap, ap₂, _∙_}
 use mathlib.Core.Bool.{Bool, true, false, cond}
 use mathlib.Core.List.{List, [], _++_}
@@ -14,10 +14,10 @@ use borrow.Author.Tests.{lt-ltb, le-ltb, eq-eqb, ne-eqb}
 use Rattle.numbers.specs.Numbers.{+0, epsilon, _⊖_, _⊗_, at, nth, tab, entry, rows, row, column, transposed}
 use Rattle.numbers.proofs.Cases.{lt-or-ge, eq-or-ne}
 use Rattle.numbers.proofs.Lists.{tab-replicate, rows-same}
-use Rattle.workspace.specs.Readings.{vec, mat, stack, nums, Block}
+use Rattle.workspace.specs.inner.Readings.{vec, mat, stack, nums, Block}
 use Rattle.workspace.proofs.Readings.{at-vec, vec-is, vec-same, vec-set, vec-mat, entry-mat, mat-is, mat-same, mat-stack, stack-is, stack-same, row-stack, nth-front, nums-set-front}
 use Rattle.householder.specs.Qr.{Factors, image, columnNorm, better, pivot, exchange, swapped, signed, reflector, pinned, stepped, advance, tolerance, stopIf, steps, start, factor}
-use Rattle.householder.specs.Work.{held, Turned, Exchanged, Prepared, diagonalOf}
+use Rattle.householder.specs.inner.Work.{held, Turned, Exchanged, Prepared, diagonalOf}
 use Rattle.householder.specs.declared.Candidate.{Candidate}
 
 -- ---- columns exchanged

@@ -1,4 +1,4 @@
--- What is shown of the pivot and of the factors. Definitions only. Assumes nothing.
+-- What is shown of the pivot and of the factors. Definitions only.
 use mathlib.Core.Path.{_≡_}
 use mathlib.Core.Bool.{true, false}
 use mathlib.Core.Logic.{_⊎_}
@@ -7,7 +7,7 @@ use Prim.Native.Nat.{ℕ, _+_, _*_, _<_, min}
 use lib.ListN.{length}
 use lib.Ieee.{Float, nan, lt}
 use Rattle.numbers.specs.Numbers.{at, nth, -1}
-use Rattle.householder.specs.Qr.{Factors, columnNorm}
+use Rattle.householder.specs.Qr.{Factors, columnNorm, pivot, factor}
 use Rattle.householder.specs.declared.Candidate.{Candidate}
 
 -- Of the c columns from k on, no norm is above the candidate's, and a column before it has a smaller norm or a NaN: ties keep the first, and NaN never wins.
@@ -25,8 +25,16 @@ pub record Permutation (n : ℕ) (js : List ℕ) : Type 0 where
   pub distinct : (i j : ℕ) → i < n → j < n → nth js i ≡ nth js j → i ≡ j
 
 -- the factors of an m by n matrix have its sizes, and their columns are its columns in another order
-pub record Sound (m n : ℕ) (f : Factors) : Type 0 where
+pub record SoundFactors (m n : ℕ) (f : Factors) : Type 0 where
   pub r : length (f .r) ≡ m * n
   pub perm : Permutation n (f .perm)
   pub u : length (f .u) ≡ min m n * m
   pub b : length (f .b) ≡ min m n
+
+-- ---- of the definition
+
+abbrev pub PivotFirst : Type 0
+PivotFirst = (m n k : ℕ) (r : List Float) (c : ℕ) → FirstLargest m n k r c (pivot m n k r c)
+
+abbrev pub FactorSound : Type 0
+FactorSound = (m n : ℕ) (a : List Float) → length a ≡ m * n → SoundFactors m n (factor m n a)

@@ -1,4 +1,4 @@
--- Householder QR with column pivoting, A P = Q R (docs/RULES.md, step 2; Lawson and Hanson, Algorithms H1 and H2). Definitions only. Assumes nothing.
+-- Householder QR with column pivoting, A P = Q R (docs/RULES.md, "QR with column pivoting"; Lawson and Hanson, Algorithms H1 and H2). Definitions only.
 use Prim.Native.Nat.{ℕ, zero, suc, _+_, _-_, _*_, min, max}
 use mathlib.Core.Bool.{Bool, true, false, cond}
 use mathlib.Core.List.{List, [], _∷_}

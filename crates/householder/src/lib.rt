@@ -1,7 +1,6 @@
 // Householder QR with column pivoting, in a lent part of the workspaces.
-//
-// In f64: u of reflector k at 18 k, its b at 324 + k, a right-hand side at 342, a solution at 360, and
-// column j of R at 426 + 18 j. In u32: the permutation at 0.
+mod vectors;
+
 ghost use mathlib.Core.Path.{_≡_};
 ghost use mathlib.Core.Bool.{cond};
 ghost use mathlib.Core.List.{List};
@@ -10,10 +9,28 @@ ghost use lib.Dec.{eqb};
 ghost use lib.Ieee.{Float};
 ghost use lib.ListN.{length, set};
 ghost use Rattle.numbers.specs.Numbers.{Σ, at, nth, tab, _⊕_, _⊖_, _⊗_, _⊘_};
-ghost use Rattle.workspace.specs.Readings.{vec, mat, nums, Block};
+ghost use Rattle.workspace.specs.inner.Readings.{vec, mat, nums, Block};
 ghost use Rattle.householder.specs.Qr.{pivot, tolerance, signed, advance, factor, solve};
-ghost use Rattle.householder.specs.Search.{shown, weighed, product, four, Leads};
-ghost use Rattle.householder.specs.Work.{held, Reflected, Turned, Exchanged, Prepared, AppliedQt, AppliedQ, SolvedR, SolvedRt, Placed};
+ghost use Rattle.householder.specs.inner.Search.{shown, weighed, product, four, Leads};
+ghost use Rattle.householder.specs.inner.Work.{held, Reflected, Turned, Exchanged, Prepared, AppliedQt, AppliedQ, SolvedR, SolvedRt, Placed};
+ghost use Rattle.householder.specs.inner.Places.{QR_MATRIX, QR_SIDE, QR_SOLUTION};
+use crate::vectors::reflect;
+use crate::vectors::reflect_by;
+use crate::vectors::swap;
+use crate::vectors::swap_at;
+
+// ---- where things stand in a QR part of the workspaces
+//
+// The u of the reflectors stand at 0, 18 places each; the permutation stands in the u32 workspace at 0.
+
+// The b of the reflectors.
+pub const QR_B: usize = 18 * 18;
+// A right-hand side.
+pub const QR_SIDE: usize = QR_B + 18;
+// A solution.
+pub const QR_SOLUTION: usize = QR_SIDE + 18;
+// The columns of the matrix, and then of R, 18 places each.
+pub const QR_MATRIX: usize = QR_SOLUTION + 66;
 
 // ---- the pivot
 
@@ -116,7 +133,7 @@ fn products_four(w: &[f64], p: usize, s: usize, q: usize, n: usize) -> Four
 
 // The lead among the columns from k on, by fours: up to three columns are left.
 fn pivot_fours(w: &[f64], m: usize, n: usize, k: usize) -> Lead
-    requires { ⌜ (m ≤ 18) × (n ≤ 66) × (k < m) × (k < n) × (426 + n * 18 ≤ length (now w)) ⌝ }
+    requires { ⌜ (m ≤ 18) × (n ≤ 66) × (k < m) × (k < n) × (QR_MATRIX + n * 18 ≤ length (now w)) ⌝ }
     ensures { λ r. ⌜ Leads m n k ((n - k) / 4 * 4) (now (w .entry)) r ⌝ }
 {
     let mut top = Lead {
@@ -127,7 +144,7 @@ fn pivot_fours(w: &[f64], m: usize, n: usize, k: usize) -> Lead
     let c = (n - k) / 4;
     for q in 0..c {
         let j = k + q * 4;
-        let o = 426 + j * 18 + k;
+        let o = QR_MATRIX + j * 18 + k;
         let s = products_four(w, o, 18, o, m - k);
         top = weigh(top, j, s.a);
         top = weigh(top, j + 1, s.b);
@@ -139,13 +156,13 @@ fn pivot_fours(w: &[f64], m: usize, n: usize, k: usize) -> Lead
 
 // The column of the largest norm among those from k on, and that norm.
 fn pivot(w: &[f64], m: usize, n: usize, k: usize) -> Candidate
-    requires { ⌜ (m ≤ 18) × (n ≤ 66) × (k < m) × (k < n) × (426 + n * 18 ≤ length (now w)) ⌝ }
-    ensures { λ r. ⌜ r ≡ pivot m n k (mat 426 m n (now (w .entry))) (n - k) ⌝ }
+    requires { ⌜ (m ≤ 18) × (n ≤ 66) × (k < m) × (k < n) × (QR_MATRIX + n * 18 ≤ length (now w)) ⌝ }
+    ensures { λ r. ⌜ r ≡ pivot m n k (mat QR_MATRIX m n (now (w .entry))) (n - k) ⌝ }
 {
     let mut top = pivot_fours(w, m, n, k);
     let c = n - k;
     for t in c / 4 * 4..c {
-        let p = 426 + (k + t) * 18 + k;
+        let p = QR_MATRIX + (k + t) * 18 + k;
         let s = numbers::dot_within(w, p, p, m - k);
         top = weigh(top, k + t, s);
     }
@@ -154,43 +171,12 @@ fn pivot(w: &[f64], m: usize, n: usize, k: usize) -> Candidate
 
 // ---- one step
 
-// Adds s times the c numbers from p on to the c numbers from q on, which lie behind them.
-fn lift(w: &mut [f64], p: usize, q: usize, c: usize, s: f64)
-    requires { ⌜ (p + c ≤ q) × (q + c ≤ length (now w)) ⌝ }
-    ensures { λ _. ⌜ Block q c (λ t. at (now (w .entry)) (q + t) ⊕ s ⊗ at (now (w .entry)) (p + t)) (now (w .entry)) (now (w .exit)) ⌝ }
-{
-    for t in 0..c {
-        w[q + t] = w[q + t] + s * w[p + t];
-    }
-}
-
-// Algorithm H2: the vector at o under reflector k, whose dot product with it is d.
-fn reflect_by(w: &mut [f64], m: usize, k: usize, o: usize, d: f64)
-    requires { ⌜ (m ≤ 18) × (k < m) × (342 ≤ o) × (o + m ≤ length (now w)) × (d ≡ product (m - k) (k * 18 + k) (o + k) (now w)) ⌝ }
-    ensures { λ _. ⌜ Reflected m k o (now (w .entry)) (now (w .exit)) ⌝ }
-{
-    if d == 0.0 {
-        return;
-    }
-    let s = d / w[324 + k];
-    lift(w, k * 18 + k, o + k, m - k, s);
-}
-
-// The vector at o under reflector k.
-fn reflect(w: &mut [f64], m: usize, k: usize, o: usize)
-    requires { ⌜ (m ≤ 18) × (k < m) × (342 ≤ o) × (o + m ≤ length (now w)) ⌝ }
-    ensures { λ _. ⌜ Reflected m k o (now (w .entry)) (now (w .exit)) ⌝ }
-{
-    let d = numbers::dot_within(w, k * 18 + k, o + k, m - k);
-    reflect_by(w, m, k, o, d);
-}
-
 // Columns j to j + 3 under reflector k; none of them changes the dot product of another.
 fn turn_four(w: &mut [f64], m: usize, k: usize, j: usize)
-    requires { ⌜ (m ≤ 18) × (k < m) × (k < j) × (426 + (j + 4) * 18 ≤ length (now w)) ⌝ }
+    requires { ⌜ (m ≤ 18) × (k < m) × (k < j) × (QR_MATRIX + (j + 4) * 18 ≤ length (now w)) ⌝ }
     ensures { λ _. ⌜ ((w₀ : List Float) → Turned m k j w₀ (now (w .entry)) → Turned m k (j + 4) w₀ (now (w .exit))) ⌝ }
 {
-    let o = 426 + j * 18;
+    let o = QR_MATRIX + j * 18;
     let s = products_four(w, k * 18 + k, 0, o + k, m - k);
     reflect_by(w, m, k, o, s.a);
     reflect_by(w, m, k, o + 18, s.b);
@@ -200,7 +186,7 @@ fn turn_four(w: &mut [f64], m: usize, k: usize, j: usize)
 
 // The columns past k under reflector k, by fours: up to three columns are left.
 fn turn_fours(w: &mut [f64], m: usize, n: usize, k: usize)
-    requires { ⌜ (m ≤ 18) × (k < m) × (k < n) × (426 + n * 18 ≤ length (now w)) ⌝ }
+    requires { ⌜ (m ≤ 18) × (k < m) × (k < n) × (QR_MATRIX + n * 18 ≤ length (now w)) ⌝ }
     ensures { λ _. ⌜ Turned m k (k + 1 + (n - (k + 1)) / 4 * 4) (now (w .entry)) (now (w .exit)) ⌝ }
 {
     let c = (n - (k + 1)) / 4;
@@ -211,35 +197,13 @@ fn turn_fours(w: &mut [f64], m: usize, n: usize, k: usize)
 
 // Each column past k under reflector k.
 fn turn(w: &mut [f64], m: usize, n: usize, k: usize)
-    requires { ⌜ (m ≤ 18) × (k < m) × (k < n) × (426 + n * 18 ≤ length (now w)) ⌝ }
+    requires { ⌜ (m ≤ 18) × (k < m) × (k < n) × (QR_MATRIX + n * 18 ≤ length (now w)) ⌝ }
     ensures { λ _. ⌜ Turned m k n (now (w .entry)) (now (w .exit)) ⌝ }
 {
     turn_fours(w, m, n, k);
     for j in k + 1 + (n - (k + 1)) / 4 * 4..n {
-        reflect(w, m, k, 426 + j * 18);
+        reflect(w, m, k, QR_MATRIX + j * 18);
     }
-}
-
-// Columns k and p exchanged.
-fn swap(w: &mut [f64], m: usize, k: usize, p: usize)
-    requires { ⌜ (m ≤ 18) × (426 + k * 18 + m ≤ length (now w)) × (426 + p * 18 + m ≤ length (now w)) ⌝ }
-    ensures { λ _. ⌜ Exchanged m k p (now (w .entry)) (now (w .exit)) ⌝ }
-{
-    for i in 0..m {
-        let x = w[426 + k * 18 + i];
-        w[426 + k * 18 + i] = w[426 + p * 18 + i];
-        w[426 + p * 18 + i] = x;
-    }
-}
-
-// Entries k and p of the permutation exchanged.
-fn swap_at(iw: &mut [u32], k: usize, p: usize)
-    requires { ⌜ (k < length (now iw)) × (p < length (now iw)) ⌝ }
-    ensures { λ _. ⌜ now («iw» .exit) ≡ set (set (now («iw» .entry)) k (nth (now («iw» .entry)) p)) p (nth (now («iw» .entry)) k) ⌝ }
-{
-    let x = iw[k];
-    iw[k] = iw[p];
-    iw[p] = x;
 }
 
 // The new diagonal entry.
@@ -254,25 +218,25 @@ fn signed_of(head: f64, largest: f64) -> f64
 
 // Algorithm H1: reflector k from column k, and column k under it.
 fn prepare(w: &mut [f64], m: usize, k: usize, largest: f64)
-    requires { ⌜ (m ≤ 18) × (k < m) × (426 + k * 18 + 18 ≤ length (now w)) ⌝ }
+    requires { ⌜ (m ≤ 18) × (k < m) × (QR_MATRIX + k * 18 + 18 ≤ length (now w)) ⌝ }
     ensures { λ _. ⌜ Prepared m k largest (now (w .entry)) (now (w .exit)) ⌝ }
 {
     let o = k * 18;
-    let q = 426 + o + k;
+    let q = QR_MATRIX + o + k;
     workspace::blank(w, o, k);
     workspace::copy_down(w, q, o + k, m - k);
     let head = w[q];
     let s = signed_of(head, largest);
     let u = head - s;
     w[o + k] = u;
-    w[324 + k] = s * u;
+    w[QR_B + k] = s * u;
     w[q] = s;
     workspace::blank(w, q + 1, m - (k + 1));
 }
 
 // Step k, on the column of the candidate.
 fn step(w: &mut [f64], iw: &mut [u32], m: usize, n: usize, k: usize, top: Candidate)
-    requires { ⌜ (m ≤ 18) × (k < m) × (k < n) × (top .index < n) × (426 + n * 18 ≤ length (now w)) × (n ≤ length (now iw)) ⌝ }
+    requires { ⌜ (m ≤ 18) × (k < m) × (k < n) × (top .index < n) × (QR_MATRIX + n * 18 ≤ length (now w)) × (n ≤ length (now iw)) ⌝ }
     ensures { λ _. ⌜ held m n (k + 1) (now (w .exit)) (now (iw .exit)) ≡ advance m n k top (held m n k (now (w .entry)) (now (iw .entry))) ⌝ }
 {
     let p = top.index;
@@ -322,12 +286,12 @@ fn tolerance_of(m: usize, n: usize, k: usize, largest: f64, old: f64) -> f64
     old
 }
 
-// The factors of the m by n matrix at 426, and their rank.
+// The factors of the m by n matrix in the part, and their rank.
 pub fn factor_in(w: &mut [f64], iw: &mut [u32], m: usize, n: usize) -> usize
-    requires { ⌜ (m ≤ 18) × (n ≤ 66) × (426 + n * 18 ≤ length (now w)) × (n ≤ length (now iw)) ⌝ }
-    ensures { λ r. ⌜ held m n r (now (w .exit)) (now (iw .exit)) ≡ factor m n (mat 426 m n (now (w .entry))) ⌝ }
+    requires { ⌜ (m ≤ 18) × (n ≤ 66) × (QR_MATRIX + n * 18 ≤ length (now w)) × (n ≤ length (now iw)) ⌝ }
+    ensures { λ r. ⌜ held m n r (now (w .exit)) (now (iw .exit)) ≡ factor m n (mat QR_MATRIX m n (now (w .entry))) ⌝ }
 {
-    workspace::blank(w, 0, 342);
+    workspace::blank(w, 0, QR_SIDE);
     count(iw, n);
     let c = smaller(m, n);
     let mut tol = 0.0;
@@ -349,7 +313,7 @@ pub fn factor_in(w: &mut [f64], iw: &mut [u32], m: usize, n: usize) -> usize
 
 // The vector at o under Q', of k reflectors.
 pub fn apply_qt(w: &mut [f64], m: usize, k: usize, o: usize)
-    requires { ⌜ (m ≤ 18) × (k ≤ m) × (342 ≤ o) × (o + m ≤ length (now w)) ⌝ }
+    requires { ⌜ (m ≤ 18) × (k ≤ m) × (QR_SIDE ≤ o) × (o + m ≤ length (now w)) ⌝ }
     ensures { λ _. ⌜ AppliedQt m k o (now (w .entry)) (now (w .exit)) ⌝ }
 {
     for i in 0..k {
@@ -359,7 +323,7 @@ pub fn apply_qt(w: &mut [f64], m: usize, k: usize, o: usize)
 
 // The vector at o under Q, of k reflectors.
 pub fn apply_q(w: &mut [f64], m: usize, k: usize, o: usize)
-    requires { ⌜ (m ≤ 18) × (k ≤ m) × (342 ≤ o) × (o + m ≤ length (now w)) ⌝ }
+    requires { ⌜ (m ≤ 18) × (k ≤ m) × (QR_SIDE ≤ o) × (o + m ≤ length (now w)) ⌝ }
     ensures { λ _. ⌜ AppliedQ m k o (now (w .entry)) (now (w .exit)) ⌝ }
 {
     let mut i = k;
@@ -371,26 +335,26 @@ pub fn apply_q(w: &mut [f64], m: usize, k: usize, o: usize)
 
 // Back substitution on the first k entries of the right-hand side.
 pub fn solve_r(w: &mut [f64], k: usize)
-    requires { ⌜ (k ≤ 18) × (426 + k * 18 ≤ length (now w)) ⌝ }
+    requires { ⌜ (k ≤ 18) × (QR_MATRIX + k * 18 ≤ length (now w)) ⌝ }
     ensures { λ _. ⌜ SolvedR k (now (w .entry)) (now (w .exit)) ⌝ }
 {
     let mut i = k;
     while 0 < i {
         let t = i;
         i -= 1;
-        let o = 426 + i * 18 + i;
-        let tail = numbers::dot_strided(w, o + 18, 18, w, 342 + t, 1, k - t);
-        w[342 + i] = (w[342 + i] - tail) / w[o];
+        let o = QR_MATRIX + i * 18 + i;
+        let tail = numbers::dot_strided(w, o + 18, 18, w, QR_SIDE + t, 1, k - t);
+        w[QR_SIDE + i] = (w[QR_SIDE + i] - tail) / w[o];
     }
 }
 
 // Forward substitution on the k entries of the vector at o, which lies behind R.
 pub fn solve_rt(w: &mut [f64], n: usize, k: usize, o: usize)
-    requires { ⌜ (k ≤ 18) × (k ≤ n) × (426 + n * 18 ≤ o) × (o + k ≤ length (now w)) ⌝ }
+    requires { ⌜ (k ≤ 18) × (k ≤ n) × (QR_MATRIX + n * 18 ≤ o) × (o + k ≤ length (now w)) ⌝ }
     ensures { λ _. ⌜ SolvedRt n k o (now (w .entry)) (now (w .exit)) ⌝ }
 {
     for i in 0..k {
-        let p = 426 + i * 18;
+        let p = QR_MATRIX + i * 18;
         let head = numbers::dot_within(w, p, o, i);
         w[o + i] = (w[o + i] - head) / w[p + i];
     }
@@ -398,35 +362,35 @@ pub fn solve_rt(w: &mut [f64], n: usize, k: usize, o: usize)
 
 // The first k entries of the right-hand side into the n places of the solution, where iw says.
 pub fn place(w: &mut [f64], iw: &[u32], n: usize, k: usize)
-    requires { ⌜ (k ≤ 18) × (n ≤ 66) × (426 ≤ length (now w)) × (k ≤ length (now iw)) × ((t : ℕ) → t < k → nth (now iw) t < n) ⌝ }
+    requires { ⌜ (k ≤ 18) × (n ≤ 66) × (QR_MATRIX ≤ length (now w)) × (k ≤ length (now iw)) × ((t : ℕ) → t < k → nth (now iw) t < n) ⌝ }
     ensures { λ _. ⌜ Placed n k (now (iw .entry)) (now (w .entry)) (now (w .exit)) ⌝ }
 {
     for t in 0..k {
         let j = iw[t] as usize;
-        let v = w[342 + t];
-        w[360 + j] = v;
+        let v = w[QR_SIDE + t];
+        w[QR_SOLUTION + j] = v;
     }
 }
 
 // The n entries that iw names of the vector at o, into the solution.
 pub fn pick(w: &mut [f64], iw: &[u32], o: usize, n: usize)
-    requires { ⌜ (n ≤ 66) × (426 ≤ o) × (n ≤ length (now iw)) × ((t : ℕ) → t < n → o + nth (now iw) t < length (now w)) ⌝ }
-    ensures { λ _. ⌜ Block 360 n (λ t. at (now (w .entry)) (o + nth (now (iw .entry)) t)) (now (w .entry)) (now (w .exit)) ⌝ }
+    requires { ⌜ (n ≤ 66) × (QR_MATRIX ≤ o) × (n ≤ length (now iw)) × ((t : ℕ) → t < n → o + nth (now iw) t < length (now w)) ⌝ }
+    ensures { λ _. ⌜ Block QR_SOLUTION n (λ t. at (now (w .entry)) (o + nth (now (iw .entry)) t)) (now (w .entry)) (now (w .exit)) ⌝ }
 {
     for t in 0..n {
         let j = iw[t] as usize;
         let v = w[o + j];
-        w[360 + t] = v;
+        w[QR_SOLUTION + t] = v;
     }
 }
 
 // The solution for the right-hand side, with the factors of n columns and their rank k.
 pub fn solve(w: &mut [f64], iw: &[u32], m: usize, n: usize, k: usize)
-    requires { ⌜ (m ≤ 18) × (n ≤ 66) × (k ≤ m) × (k ≤ n) × (426 + n * 18 ≤ length (now w)) × (n ≤ length (now iw)) × ((t : ℕ) → t < k → nth (now iw) t < n) ⌝ }
-    ensures { λ _. ⌜ vec 360 n (now (w .exit)) ≡ solve m n (held m n k (now (w .entry)) (now (iw .entry))) (vec 342 m (now (w .entry))) ⌝ }
+    requires { ⌜ (m ≤ 18) × (n ≤ 66) × (k ≤ m) × (k ≤ n) × (QR_MATRIX + n * 18 ≤ length (now w)) × (n ≤ length (now iw)) × ((t : ℕ) → t < k → nth (now iw) t < n) ⌝ }
+    ensures { λ _. ⌜ vec QR_SOLUTION n (now (w .exit)) ≡ solve m n (held m n k (now (w .entry)) (now (iw .entry))) (vec QR_SIDE m (now (w .entry))) ⌝ }
 {
-    apply_qt(w, m, k, 342);
+    apply_qt(w, m, k, QR_SIDE);
     solve_r(w, k);
-    workspace::blank(w, 360, n);
+    workspace::blank(w, QR_SOLUTION, n);
     place(w, iw, n, k);
 }

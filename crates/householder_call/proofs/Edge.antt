@@ -1,8 +1,7 @@
--- What the public edge rests on: the lengths that its test shows, and the promise where no test refuses. Assumes nothing.
+-- What the public edge rests on: the lengths that its test shows, and the promise where no test refuses.
 use mathlib.Core.Path.{_≡_, refl, ap, _∙_}
 use mathlib.Core.Bool.{true, _&&_}
 use mathlib.Core.List.{List, _++_}
-use mathlib.Core.Option.{some}
 use Prim.Native.Nat.{ℕ, _+_, _*_, _≤_, min}
 use native.Mathlib.Omega.{arith}
 use lib.Dec.{eqb}
@@ -11,12 +10,13 @@ use lib.Ieee.{Float}
 use borrow.Author.Tests.{eqb-true}
 use Rattle.numbers.specs.Numbers.{+0}
 use Rattle.workspace.specs.Tables.{done}
-use Rattle.workspace.specs.Readings.{vec, mat, stack, nums, Cleared}
+use Rattle.workspace.specs.inner.Readings.{vec, mat, stack, nums, Cleared}
 use Rattle.workspace.proofs.Parts.{vec-front, mat-front, stack-front, nums-front, front-cleared}
 use Rattle.workspace.proofs.Tests.{and-true}
 use Rattle.householder.specs.Qr.{Factors, factor}
-use Rattle.householder.specs.Work.{held}
+use Rattle.householder.specs.inner.Work.{held}
 use Rattle.householder_call.specs.Promise.{Factored}
+use Rattle.householder_call.specs.declared.Outcome.the-variants.{Done}
 
 pub record Lengths (m n a r perm u b : ℕ) : Type 0 where
   pub a-is : a ≡ m * n
@@ -40,10 +40,9 @@ pub factored-is : (m n k : ℕ) (a r r′ : List Float) (perm perm′ : List ℕ
     → r′ ≡ mat 426 m n (v ++ drop 8192 w) → perm′ ≡ nums 0 n (l ++ drop 512 iw)
     → u′ ≡ stack 0 (min m n) m (v ++ drop 8192 w) → b′ ≡ vec 324 (min m n) (v ++ drop 8192 w)
     → Cleared (v ++ drop 8192 w) w′ (l ++ drop 512 iw) iw′
-    → Factored (done (factor m n a)) 0 (some k) r r′ perm perm′ u u′ b b′ w w′ iw iw′
+    → Factored (done (factor m n a)) (Done k) r r′ perm perm′ u u′ b b′ w w′ iw iw′
 factored-is m n k a r r′ perm perm′ u u′ b b′ w w′ v iw iw′ l m18 n66 lv ll h er ep eu eb c = record {
-  the-number = refl;
-  the-rank = ap (λ (f : Factors). some (f .rank)) h;
+  the-outcome = ap (λ (f : Factors). Done (f .rank)) h;
   the-r = er ∙ mat-front v (drop 8192 w) 426 m n m18 (omega arith) ∙ ap (λ (f : Factors). f .r) h;
   the-perm = ep ∙ nums-front l (drop 512 iw) 0 n (omega arith) ∙ ap (λ (f : Factors). f .perm) h;
   the-u = eu ∙ stack-front v (drop 8192 w) 0 (min m n) m m18 (omega arith) ∙ ap (λ (f : Factors). f .u) h;

@@ -1,4 +1,4 @@
--- The factors of some matrices, by computing. Assumes nothing.
+-- The factors of some matrices, by computing.
 use mathlib.Core.Path.{_≡_, refl}
 use mathlib.Core.List.{List, [], _∷_}
 use Prim.Native.Nat.{ℕ}

@@ -1,3 +1,3 @@
 -- What the public QR promises. Definitions only.
 pub mod Promise
-pub mod Outcomes
+pub mod Claims

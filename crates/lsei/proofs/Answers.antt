@@ -1,4 +1,4 @@
--- Laws of endings: what becomes of a solve's answer in the caller, and its counts with one factoring more. Assumes nothing.
+-- Laws of endings: what becomes of a solve's answer in the caller, and its counts with one factoring more.
 use mathlib.Core.Path.{_≡_, refl, sym, ap, ap₂, _∙_}
 use mathlib.Core.List.{List, [], _∷_}
 use mathlib.Core.Logic.{⊎-elim}
@@ -10,14 +10,14 @@ use denote.Enum.Declared.{tagOf}
 use Rattle.workspace.specs.Tables.{Answer, done}
 use Rattle.nnls.specs.Counted.{Counted, then, andThen, factored}
 use Rattle.lsei.specs.Lsei.{Solution}
-use Rattle.lsei.specs.Work.{answered, told}
+use Rattle.lsei.specs.inner.Work.{endingAnswer, endedSolution}
 use Rattle.lsei.specs.declared.Ended.{Ended}
 use Rattle.lsei.specs.declared.Ending.{Ending}
 use Rattle.lsei.specs.declared.Ending.the-variants.{Done, Deficient, Infeasible, Capped}
 use Rattle.lsei.proofs.Ending.{the-type}
 
 -- a refusal passes on, whatever is left
-refusal : (o : Ending) (s t : Solution) (f : Solution → Answer Solution) → OneOf (1 ∷ 2 ∷ 3 ∷ []) (tagOf the-type o) → answered o t ≡ then (answered o s) f
+refusal : (o : Ending) (s t : Solution) (f : Solution → Answer Solution) → OneOf (1 ∷ 2 ∷ 3 ∷ []) (tagOf the-type o) → endingAnswer o t ≡ then (endingAnswer o s) f
 refusal Done s t f h = absurd (⊎-elim (λ e. omega arith) (λ g. ⊎-elim (λ e. omega arith) (λ e. omega arith) g) h)
 refusal Deficient s t f h = refl
 refusal Infeasible s t f h = refl
@@ -32,10 +32,10 @@ counted : (E : Ended) (a b : Answer Solution) → a ≡ b
 counted E a b e = ap₂ {C = Counted Solution} (λ (c : Answer Solution) (n : ℕ). record { answer = c; rounds = E .rounds; factorings = n }) e (add-one (E .factorings))
 
 module _ (E : Ended) (s : Solution) (f : Solution → Answer Solution) where
-  pub refused-on : (t : Solution) → OneOf (1 ∷ 2 ∷ 3 ∷ []) (tagOf the-type (E .ending)) → told (further E) t ≡ factored (andThen (told E s) f)
-  refused-on t h = counted E (answered (E .ending) t) (then (answered (E .ending) s) f) (refusal (E .ending) s t f h)
+  pub refused-on : (t : Solution) → OneOf (1 ∷ 2 ∷ 3 ∷ []) (tagOf the-type (E .ending)) → endedSolution (further E) t ≡ factored (andThen (endedSolution E s) f)
+  refused-on t h = counted E (endingAnswer (E .ending) t) (then (endingAnswer (E .ending) s) f) (refusal (E .ending) s t f h)
 
-  pub done-on : (t : Solution) → E .ending ≡ Done → done t ≡ f s → told (further E) t ≡ factored (andThen (told E s) f)
+  pub done-on : (t : Solution) → E .ending ≡ Done → done t ≡ f s → endedSolution (further E) t ≡ factored (andThen (endedSolution E s) f)
   done-on t h e =
-      counted E (answered (E .ending) t) (then (answered (E .ending) s) f)
-      (ap (λ (o : Ending). answered o t) h ∙ e ∙ ap (λ (o : Ending). then (answered o s) f) (sym h))
+      counted E (endingAnswer (E .ending) t) (then (endingAnswer (E .ending) s) f)
+      (ap (λ (o : Ending). endingAnswer o t) h ∙ e ∙ ap (λ (o : Ending). then (endingAnswer o s) f) (sym h))

@@ -1,4 +1,4 @@
--- Laws of LDP: the dual's matrix and right side as they stand in the workspace, its residual, and what is made of it. Assumes nothing.
+-- Laws of LDP: the dual's matrix and right side as they stand in the workspace, its residual, and what is made of it.
 use mathlib.Core.Path.{_≡_, refl, sym, ap, ap₂, _∙_}
 use mathlib.Core.Bool.{Bool, true, false, cond}
 use mathlib.Core.List.{List}
@@ -14,23 +14,20 @@ use Rattle.numbers.proofs.Cases.{lt-or-ge}
 use Rattle.numbers.proofs.Lists.{getD-tab, tab-same}
 use Rattle.numbers.proofs.Sums.{Σ-same}
 use Rattle.workspace.specs.Tables.{Answer, done, infeasible, iterationCap}
-use Rattle.workspace.specs.Readings.{vec, mat, stack, nums, Block}
+use Rattle.workspace.specs.inner.Readings.{vec, mat, stack, nums, Block}
 use Rattle.workspace.proofs.Readings.{at-vec, vec-is, entry-mat, mat-is, mat-same, entry-stack}
 use Rattle.workspace.proofs.Writes.{written-more, written-as, block-vec}
 use Rattle.nnls.specs.Counted.{Counted, then, andThen}
 use Rattle.nnls.specs.Nnls.{Accepted, nnls}
-use Rattle.nnls.specs.State.{State, read, answerOf, Rounded}
+use Rattle.nnls.specs.inner.State.{State, read, endedAnswer, Rounded}
 use Rattle.nnls.specs.declared.Ended as Nnls
-use Rattle.lsei.specs.Lsei.{Solution, infeasibility, feasible, dualMatrix, dualSide, dualResidual, primal, ldp}
-use Rattle.lsei.specs.Work.{answered, told, sides, distanceIn}
+use Rattle.lsei.specs.Lsei.{Solution, infeasibility, unlessSmall, dualMatrix, dualSide, dualResidual, primal, ldp}
+use Rattle.lsei.specs.inner.Work.{endingAnswer, endedSolution, sides, distanceIn}
+use Rattle.nnls.specs.declared.Ended.the-variants as nnls-ended
 use Rattle.lsei.specs.declared.Ending.{Ending}
 use Rattle.lsei.specs.declared.Ending.the-variants.{Done, Infeasible, Capped}
 
 -- ---- the code's literals
-
-pub lit-one : ofBits binary64 4607182418800017408 ≡ one
-unfolding ofBits ofFields odd round units size span climb trailingZeros
-lit-one = refl
 
 pub lit-infeasibility : ofBits binary64 4417820128217923584 ≡ infeasibility
 unfolding ofBits ofFields odd round units size span climb trailingZeros
@@ -105,19 +102,19 @@ module _ (m n : ℕ) (w w₁ : List Float) (m66 : m ≤ 66) (n17 : n ≤ 17) (f 
   abbrev ratios : Solution
   ratios = record { x = tab n (λ j. at res j ⊘ neg (at res n)); multipliers = tab m (λ i. at (vec 1206 m w) i ⊘ neg (at res n)) }
 
-  tested : (c : Float) (b : Bool) → c ≡ infeasibility → le (neg (at w₁ (1272 + n))) c ≡ b → feasible b ratios ≡ primal m n (vec 1206 m w) res
+  tested : (c : Float) (b : Bool) → c ≡ infeasibility → le (neg (at w₁ (1272 + n))) c ≡ b → unlessSmall b ratios ≡ primal m n (vec 1206 m w) res
   unfolding primal
-  tested c b ec h = ap (λ (t : Bool). feasible t ratios) (sym h ∙ ap₂ le denominator-is ec)
+  tested c b ec h = ap (λ (t : Bool). unlessSmall t ratios) (sym h ∙ ap₂ le denominator-is ec)
 
-  pub not-finished : (c : Float) → c ≡ infeasibility → le (neg (at w₁ (1272 + n))) c ≡ true → answered Infeasible (distanceIn m n w₁) ≡ primal m n (vec 1206 m w) res
+  pub not-finished : (c : Float) → c ≡ infeasibility → le (neg (at w₁ (1272 + n))) c ≡ true → endingAnswer Infeasible (distanceIn m n w₁) ≡ primal m n (vec 1206 m w) res
   not-finished c ec h = tested c true ec h
 
   pub finished : (c : Float) (w₂ w₃ : List Float) → c ≡ infeasibility → le (neg (at w₁ (1272 + n))) c ≡ false
       → Block 1404 n (λ t. at w₁ (1272 + t) ⊘ neg (at w₁ (1272 + n))) w₁ w₂
       → Block 1338 m (λ t. at w₂ (1206 + t) ⊘ neg (at w₁ (1272 + n))) w₂ w₃
-      → answered Done (distanceIn m n w₃) ≡ primal m n (vec 1206 m w) res
+      → endingAnswer Done (distanceIn m n w₃) ≡ primal m n (vec 1206 m w) res
   finished c w₂ w₃ ec h X U =
-      ap₂ {C = Answer Solution} (λ (x : List Float) (u : List Float). answered Done (record { x = x; multipliers = u }))
+      ap₂ {C = Answer Solution} (λ (x : List Float) (u : List Float). endingAnswer Done (record { x = x; multipliers = u }))
       (vec-is 1404 n w₃ _ (λ t l. U .after (1404 + t) (omega arith) ∙ X .inside t l ∙ ap₂ _⊘_ (entry-is t (omega arith)) denominator-is))
       (vec-is 1338 m w₃ _
       (λ t l.
@@ -144,26 +141,23 @@ module _ (m n : ℕ) (w w₁ w₂ : List Float) (l l₂ : List ℕ) (e : Nnls.En
   pub side₂ : vec 1188 (n + 1) w₂ ≡ dualSide n
   side₂ = ap (λ (s : State). s .b) (N .after) ∙ side-is n w w₁ B
 
-  whole : andThen (answerOf e (read (n + 1) m w₂ l₂)) (onward (mat 0 (n + 1) m w₂)) ≡ ldp m n (stack 0 m n w) (sides 0 m n w)
+  whole : andThen (endedAnswer e (read (n + 1) m w₂ l₂)) (onward (mat 0 (n + 1) m w₂)) ≡ ldp m n (stack 0 m n w) (sides 0 m n w)
   unfolding ldp
   whole =
       ap (λ (c : Counted Accepted). andThen c (onward (mat 0 (n + 1) m w₂)))
       (N .answer ∙ ap₂ (λ (a : List Float) (b : List Float). nnls (n + 1) m a b (3 * m)) matrix₁ (side-is n w w₁ B))
       ∙ ap (λ (a : List Float). andThen (nnls (n + 1) m matrix (dualSide n) (3 * m)) (onward a)) matrix₂
 
-  -- by the test of acceptance, which stands in the answer
-  abbrev judged : Bool → Counted Solution
-  judged b = record {
-    answer = then (cond b (done (record { x = vec 1206 m w₂; passive = nums 0 m l₂; rejected = nums 66 m l₂ })) iterationCap) (onward (mat 0 (n + 1) m w₂));
-    rounds = e .rounds;
-    factorings = e .factorings;
-  }
+  -- from how NNLS ended
+  from-ended : Nnls.Ended → Counted Solution
+  from-ended t = andThen (endedAnswer t (read (n + 1) m w₂ l₂)) (onward (mat 0 (n + 1) m w₂))
 
-  pub ldp-capped : e .accepted ≡ false → (s : Solution) → told (record { ending = Capped; rounds = e .rounds; factorings = e .factorings }) s ≡ ldp m n (stack 0 m n w) (sides 0 m n w)
-  ldp-capped h s = ap judged (sym h) ∙ whole
+  pub ldp-capped : (r f : ℕ) → e ≡ nnls-ended.Capped r f → (s : Solution) → endedSolution (record { ending = Capped; rounds = r; factorings = f }) s ≡ ldp m n (stack 0 m n w) (sides 0 m n w)
+  unfolding from-ended
+  ldp-capped r f h s = ap from-ended (sym h) ∙ whole
 
-  pub ldp-ended : e .accepted ≡ true → (o : Ending) (s : Solution)
-      → answered o s ≡ primal m n (vec 1206 m w₂) (dualResidual m n (mat 0 (n + 1) m w₂) (vec 1206 m w₂))
-      → told (record { ending = o; rounds = e .rounds; factorings = e .factorings }) s ≡ ldp m n (stack 0 m n w) (sides 0 m n w)
-  ldp-ended h o s q =
-      ap (λ (a : Answer Solution). record { answer = a; rounds = e .rounds; factorings = e .factorings }) q ∙ ap judged (sym h) ∙ whole
+  pub ldp-ended : (r f : ℕ) → e ≡ nnls-ended.Accepted r f → (o : Ending) (s : Solution)
+      → endingAnswer o s ≡ primal m n (vec 1206 m w₂) (dualResidual m n (mat 0 (n + 1) m w₂) (vec 1206 m w₂))
+      → endedSolution (record { ending = o; rounds = r; factorings = f }) s ≡ ldp m n (stack 0 m n w) (sides 0 m n w)
+  unfolding from-ended
+  ldp-ended r f h o s q = ap (λ (a : Answer Solution). record { answer = a; rounds = r; factorings = f }) q ∙ ap from-ended (sym h) ∙ whole

@@ -1,4 +1,4 @@
--- Factors made in a part that was lent, and what they show. Assumes nothing.
+-- Factors made in a part that was lent, and what they show.
 use mathlib.Core.Path.{_≡_, sym, ap, _∙_, subst}
 use mathlib.Core.List.{List, _++_}
 use Prim.Native.Nat.{ℕ, _+_, _*_, _-_, _<_, _≤_, min}
@@ -7,15 +7,15 @@ use lib.ListN.{length, take, drop, List·getD-append}
 use lib.Seq.{getD-take, getD-drop, getD-append-add}
 use lib.Ieee.{Float, nan}
 use Rattle.numbers.specs.Numbers.{at, nth}
-use Rattle.workspace.specs.Readings.{mat, nums}
+use Rattle.workspace.specs.inner.Readings.{mat, nums}
 use Rattle.workspace.proofs.Readings.{mat-same, length-mat, nth-front}
 use Rattle.householder.specs.Qr.{Factors, factor}
-use Rattle.householder.specs.Claims.{Sound}
-use Rattle.householder.specs.Work.{held}
+use Rattle.householder.specs.Claims.{SoundFactors}
+use Rattle.householder.specs.inner.Work.{held}
 use Rattle.householder.proofs.Held.{held-same}
 use Rattle.householder.proofs.Rank.{factor-rank}
 use Rattle.householder.proofs.Sound.{factor-sound}
-use Rattle.lsei.specs.Work.{FactoredFront}
+use Rattle.lsei.specs.inner.Work.{FactoredFront}
 
 -- the first b entries were lent, and came back as v with the factors there
 pub factored-front : (m n b k : ℕ) (w v : List Float) (l s : List ℕ) → m ≤ 18 → 426 + n * 18 ≤ b → length v ≡ b → n ≤ length l
@@ -36,7 +36,7 @@ factored-front m n b k w v l s m18 hb lv ll e = record {
 }
 
 module _ (m n b k : ℕ) (w w′ : List Float) (iw′ : List ℕ) (F : FactoredFront m n b k w w′ iw′) where
-  sound : Sound m n (factor m n (mat 426 m n w))
+  sound : SoundFactors m n (factor m n (mat 426 m n w))
   sound = factor-sound m n (mat 426 m n w) (length-mat 426 m n w)
 
   pub rank-most : k ≤ min m n

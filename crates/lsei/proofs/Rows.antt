@@ -1,4 +1,4 @@
--- Laws of LSI's inequalities: one row reduced, all of them, and how they read as the definition's. Assumes nothing.
+-- Laws of LSI's inequalities: one row reduced, all of them, and how they read as the definition's.
 use mathlib.Core.Path.{_≡_, refl, sym, ap, ap₂, _∙_}
 use mathlib.Core.List.{List}
 use mathlib.Core.Logic.{⊎-elim}
@@ -11,12 +11,12 @@ use Rattle.numbers.specs.Numbers.{at, nth, tab, gather, row, dot, Σ, _⊖_, _�
 use Rattle.numbers.proofs.Cases.{lt-or-ge}
 use Rattle.numbers.proofs.Lists.{tab-same, getD-tab}
 use Rattle.numbers.proofs.Sums.{Σ-same}
-use Rattle.workspace.specs.Readings.{vec, stack, nums, Block}
+use Rattle.workspace.specs.inner.Readings.{vec, stack, nums, Block}
 use Rattle.workspace.proofs.Readings.{at-vec, vec-is, vec-same, nth-nums, row-stack, stack-is, stack-same}
 use Rattle.householder.specs.Qr.{Factors, applyQt, solveRt}
-use Rattle.householder.specs.Work.{held, AppliedQt, SolvedRt}
+use Rattle.householder.specs.inner.Work.{held, AppliedQt, SolvedRt}
 use Rattle.lsei.specs.Lsei.{reducedRows, reducedSides}
-use Rattle.lsei.specs.Work.{sides, ReducedRow, Reduced}
+use Rattle.lsei.specs.inner.Work.{sides, ReducedRow, Reduced}
 use Rattle.householder.proofs.Held.{held-same}
 
 -- ---- entries that a permutation names, gathered

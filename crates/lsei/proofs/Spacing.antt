@@ -1,4 +1,4 @@
--- Laws of a loop that writes one place in 18. Assumes nothing.
+-- Laws of a loop that writes one place in 18.
 use mathlib.Core.Path.{_≡_, refl, _∙_}
 use mathlib.Core.List.{List}
 use mathlib.Core.Logic.{⊎-elim}
@@ -8,7 +8,7 @@ use lib.ListN.{length, set}
 use lib.Seq.{getD-set-same, getD-set-other}
 use lib.Ieee.{Float, nan}
 use Rattle.numbers.proofs.Cases.{lt-or-ge}
-use Rattle.lsei.specs.Work.{Spaced}
+use Rattle.lsei.specs.inner.Work.{Spaced}
 
 pub spaced-none : (q : ℕ) (f : ℕ → Float) (w : List Float) → Spaced q 0 f w w
 spaced-none q f w = record { inside = λ t h. absurd (omega arith); others = λ x h. refl }

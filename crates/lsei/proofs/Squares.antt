@@ -1,4 +1,4 @@
--- Laws of LSI: x restored from LDP's, and the whole. Assumes nothing.
+-- Laws of LSI: x restored from LDP's, and the whole.
 use mathlib.Core.Path.{_≡_, refl, sym, ap, ap₂, _∙_}
 use mathlib.Core.Bool.{Bool, true, false}
 use mathlib.Core.List.{List, [], _∷_}
@@ -12,14 +12,14 @@ use lib.Ieee.{Float}
 use Rattle.numbers.specs.Numbers.{+0, at, nth, tab, scatter, _⊕_}
 use Rattle.numbers.proofs.Lists.{tab-replicate, scatter-same}
 use Rattle.workspace.specs.Tables.{Answer, done, rankDeficient}
-use Rattle.workspace.specs.Readings.{vec, nums, Block}
+use Rattle.workspace.specs.inner.Readings.{vec, nums, Block}
 use Rattle.workspace.proofs.Readings.{at-vec, vec-is, vec-same, nth-nums}
 use Rattle.workspace.proofs.Writes.{block-vec}
 use Rattle.householder.specs.Qr.{Factors, factor, applyQt, solveR}
-use Rattle.householder.specs.Work.{held, SolvedR, Placed}
+use Rattle.householder.specs.inner.Work.{held, SolvedR, Placed}
 use Rattle.nnls.specs.Counted.{Counted, andThen, factored, unless}
 use Rattle.lsei.specs.Lsei.{Solution, ldp, reducedRows, reducedSides, restored, lsiFrom, lsi}
-use Rattle.lsei.specs.Work.{told, Restored}
+use Rattle.lsei.specs.inner.Work.{endedSolution, Restored}
 use Rattle.lsei.specs.declared.Ended.{Ended}
 use Rattle.lsei.specs.declared.Ending.the-variants.{Done, Deficient}
 use Rattle.lsei.proofs.Ending.{the-type}
@@ -60,26 +60,26 @@ module _ (n me mg : ℕ) (e f g h : List Float) (q : Factors) (fq : q ≡ factor
       ap (λ (z : Bool). factored (unless z rankDeficient (lsiFrom n me mg q f g h))) (sym t)
       ∙ ap (λ (p : Factors). factored (unless (ltb (p .rank) n) rankDeficient (lsiFrom n me mg p f g h))) fq
 
-  pub lsi-deficient : ltb (q .rank) n ≡ true → (s : Solution) → told (record { ending = Deficient; rounds = 0; factorings = 1 }) s ≡ lsi n me mg e f g h
+  pub lsi-deficient : ltb (q .rank) n ≡ true → (s : Solution) → endedSolution (record { ending = Deficient; rounds = 0; factorings = 1 }) s ≡ lsi n me mg e f g h
   lsi-deficient t s = tested true t
 
   module _ (full : ltb (q .rank) n ≡ false) (qf reduced bounds : List Float) (eqf : qf ≡ applyQt me q f) (er : reduced ≡ reducedRows n mg q g)
-      (eb : bounds ≡ reducedSides n mg reduced qf h) (E : Ended) (s : Solution) (L : told E s ≡ ldp mg n reduced bounds) where
+      (eb : bounds ≡ reducedSides n mg reduced qf h) (E : Ended) (s : Solution) (L : endedSolution E s ≡ ldp mg n reduced bounds) where
     abbrev onward : Solution → Answer Solution
     onward s = done (record { x = restored n q (applyQt me q f) (s .x); multipliers = s .multipliers })
 
-    whole : factored (andThen (told E s) onward) ≡ lsi n me mg e f g h
+    whole : factored (andThen (endedSolution E s) onward) ≡ lsi n me mg e f g h
     unfolding lsiFrom
     whole =
         ap (λ (c : Counted Solution). factored (andThen c onward))
         (L ∙ ap₂ (ldp mg n) er (eb ∙ ap₂ (λ (r : List Float) (a : List Float). reducedSides n mg r a h) er eqf))
         ∙ tested false full
 
-    pub lsi-refused : (t : Solution) → OneOf (1 ∷ 2 ∷ 3 ∷ []) (tagOf the-type (E .ending)) → told (further E) t ≡ lsi n me mg e f g h
+    pub lsi-refused : (t : Solution) → OneOf (1 ∷ 2 ∷ 3 ∷ []) (tagOf the-type (E .ending)) → endedSolution (further E) t ≡ lsi n me mg e f g h
     lsi-refused t o = refused-on E s onward t o ∙ whole
 
     pub lsi-done : (x u : List Float) → E .ending ≡ Done → x ≡ restored n q qf (s .x) → u ≡ s .multipliers
-        → told (further E) (record { x = x; multipliers = u }) ≡ lsi n me mg e f g h
+        → endedSolution (further E) (record { x = x; multipliers = u }) ≡ lsi n me mg e f g h
     lsi-done x u d ex eu =
         done-on E s onward (record { x = x; multipliers = u }) d
         (ap₂ {C = Answer Solution} (λ (a : List Float) (b : List Float). done (record { x = a; multipliers = b })) (ex ∙ ap (λ (a : List Float). restored n q a (s .x)) eqf) eu)

@@ -1,21 +1,59 @@
 // Least distance programming, min ||x|| with G x >= h, and least squares with inequalities,
 // min ||E x - f|| with G x >= h, each in one part of each workspace.
-//
-// Row i of G stands with h_i behind it, in 18 places: read by columns, that is column i of LDP's dual.
-// LDP, f64: the rows at 0, the dual's right side at 1188, its solution at 1206, its residual at 1272, the
-// multipliers at 1338, x at 1404. In all 3,036, and 264 u32, as nonnegative least squares.
-// LSI, f64: a QR part for E at 0, where x is left at 360; f, then Q'f at 732; LDP's part from 750 on, where
-// the multipliers are left at 2088. In all 3,786. u32: the permutation of E at 0, LDP's part from 18 on.
-// In all 282.
 ghost use mathlib.Core.Path.{_≡_};
 ghost use mathlib.Core.Bool.{cond};
 ghost use Prim.Native.Nat.{ℕ, _+_, _*_, _<_, _≤_};
 ghost use lib.Dec.{ltb};
 ghost use lib.ListN.{length};
 ghost use Rattle.numbers.specs.Numbers.{+0, one, at, nth, Σ, _⊕_, _⊖_, _⊗_, _⊘_};
-ghost use Rattle.workspace.specs.Readings.{vec, mat, stack, Block};
-ghost use Rattle.lsei.specs.Lsei.{dualSide, dualResidual, primal, ldp, lsi};
-ghost use Rattle.lsei.specs.Work.{answered, told, sides, distanceIn, squaresIn, FactoredFront, ReducedRow, Reduced, Restored};
+ghost use Rattle.workspace.specs.inner.Readings.{vec, mat, stack, Block};
+ghost use Rattle.workspace.specs.Tables.{outcomeOf};
+ghost use Rattle.lsei.specs.Lsei.{Solution, dualSide, dualResidual, primal, ldp, lsi};
+ghost use Rattle.lsei.specs.inner.Work.{endingAnswer, endedSolution, sides, distanceIn, squaresIn, FactoredFront, ReducedRow, Reduced, Restored};
+ghost use Rattle.householder.specs.inner.Places.{QR_MATRIX, QR_SIDE};
+ghost use Rattle.lsei.specs.inner.Places.{LDP_RESIDUAL, LDP_ROOM, LDP_SIDE, LDP_U, LDP_WORDS, LSI_E, LSI_F, LSI_G, LSI_LDP_X, LSI_ROOM, LSI_WORDS};
+use workspace::Outcome;
+use workspace::Refusal;
+
+// ---- where things stand in the part of LDP, which is that of nonnegative least squares for its dual
+//
+// Row i of G with its side h_i behind it stands at 18 i: read by columns, that is the dual's matrix.
+
+// The dual's right side.
+pub const LDP_SIDE: usize = nnls_passive::NNLS_SIDE;
+// The dual's solution.
+pub const LDP_U: usize = nnls_passive::NNLS_X;
+// The dual's residual.
+pub const LDP_RESIDUAL: usize = nnls_passive::NNLS_Z;
+
+pub const LDP_MULTIPLIERS: usize = nnls_passive::NNLS_DUAL;
+
+pub const LDP_X: usize = nnls_passive::NNLS_RESIDUAL;
+// How many f64 it takes.
+pub const LDP_ROOM: usize = nnls_passive::NNLS_ROOM;
+// How many u32 it takes.
+pub const LDP_WORDS: usize = nnls_passive::NNLS_WORDS;
+
+// ---- where things stand in the part of LSI, which begins with a QR part for E
+
+// The columns of E.
+pub const LSI_E: usize = householder::QR_MATRIX;
+// First f, then Q'f.
+pub const LSI_F: usize = LSI_E + 17 * 18;
+// LDP's part: the rows of G, each with its side behind it.
+pub const LSI_G: usize = LSI_F + 18;
+
+pub const LSI_X: usize = householder::QR_SOLUTION;
+
+pub const LSI_MULTIPLIERS: usize = LSI_G + LDP_MULTIPLIERS;
+
+pub const LSI_LDP_X: usize = LSI_G + LDP_X;
+// How many f64 it takes.
+pub const LSI_ROOM: usize = LSI_G + LDP_ROOM;
+// In the u32 workspace: the permutation of E stands at 0, and LDP's part here.
+pub const LSI_LDP_WORDS: usize = 18;
+// How many u32 it takes.
+pub const LSI_WORDS: usize = LSI_LDP_WORDS + LDP_WORDS;
 
 // How a solve ends.
 pub enum Ending {
@@ -23,6 +61,20 @@ pub enum Ending {
     Deficient,
     Infeasible,
     Capped,
+}
+
+impl Ending {
+    // What a caller is endedSolution of it.
+    pub fn outcome(self) -> Outcome
+        ensures { λ r. ⌜ ((s : Solution) → r ≡ outcomeOf (endingAnswer self s)) ⌝ }
+    {
+        match self {
+            Ending::Done => Outcome::Done,
+            Ending::Deficient => Outcome::Refused(Refusal::Deficient),
+            Ending::Infeasible => Outcome::Refused(Refusal::Infeasible),
+            Ending::Capped => Outcome::Refused(Refusal::Capped),
+        }
+    }
 }
 
 // With the rounds and the factorings that it took.
@@ -34,40 +86,40 @@ pub struct Ended {
 
 // ---- least distance programming
 
-// The kernel of least distance programming.
-pub struct Distance {}
+// The solver of least distance programming.
+pub struct Ldp {}
 
-impl Distance {
+impl Ldp {
     // 1 - h'u is refused where it is at most this.
     pub const INFEASIBILITY: f64 = 1000.0 * numbers::Binary64::EPSILON;
 }
 
 // The dual's right side, (0, .., 0, 1).
 fn write_side(w: &mut [f64], n: usize)
-    requires { ⌜ (n ≤ 17) × (3036 ≤ length (now w)) ⌝ }
-    ensures { λ _. ⌜ Block 1188 (n + 1) (λ j. cond (ltb j n) +0 one) (now (w .entry)) (now (w .exit)) ⌝ }
+    requires { ⌜ (n ≤ 17) × (LDP_ROOM ≤ length (now w)) ⌝ }
+    ensures { λ _. ⌜ Block LDP_SIDE (n + 1) (λ j. cond (ltb j n) +0 one) (now (w .entry)) (now (w .exit)) ⌝ }
 {
-    workspace::blank(w, 1188, n);
-    w[1188 + n] = 1.0;
+    workspace::blank(w, LDP_SIDE, n);
+    w[LDP_SIDE + n] = 1.0;
 }
 
 // Entry j of the dual's residual E u - f.
 fn residual_at(w: &[f64], j: usize, m: usize) -> f64
-    requires { ⌜ (j < 18) × (m ≤ 66) × (3036 ≤ length (now w)) ⌝ }
-    ensures { λ r. ⌜ r ≡ Σ m (λ i. at (now (w .entry)) (j + i * 18) ⊗ at (now (w .entry)) (1206 + i * 1)) ⊖ at (now (w .entry)) (1188 + j) ⌝ }
+    requires { ⌜ (j < 18) × (m ≤ 66) × (LDP_ROOM ≤ length (now w)) ⌝ }
+    ensures { λ r. ⌜ r ≡ Σ m (λ i. at (now (w .entry)) (j + i * 18) ⊗ at (now (w .entry)) (LDP_U + i * 1)) ⊖ at (now (w .entry)) (LDP_SIDE + j) ⌝ }
 {
-    let t = numbers::dot_strided(w, j, 18, w, 1206, 1, m);
-    t - w[1188 + j]
+    let t = numbers::dot_strided(w, j, 18, w, LDP_U, 1, m);
+    t - w[LDP_SIDE + j]
 }
 
 // The first c entries of the dual's residual.
 fn residual_all(w: &mut [f64], c: usize, m: usize)
-    requires { ⌜ (c ≤ 18) × (m ≤ 66) × (3036 ≤ length (now w)) ⌝ }
-    ensures { λ _. ⌜ Block 1272 c (λ j. Σ m (λ i. at (now (w .entry)) (j + i * 18) ⊗ at (now (w .entry)) (1206 + i * 1)) ⊖ at (now (w .entry)) (1188 + j)) (now (w .entry)) (now (w .exit)) ⌝ }
+    requires { ⌜ (c ≤ 18) × (m ≤ 66) × (LDP_ROOM ≤ length (now w)) ⌝ }
+    ensures { λ _. ⌜ Block LDP_RESIDUAL c (λ j. Σ m (λ i. at (now (w .entry)) (j + i * 18) ⊗ at (now (w .entry)) (LDP_U + i * 1)) ⊖ at (now (w .entry)) (LDP_SIDE + j)) (now (w .entry)) (now (w .exit)) ⌝ }
 {
     for j in 0..c {
         let v = residual_at(w, j, m);
-        w[1272 + j] = v;
+        w[LDP_RESIDUAL + j] = v;
     }
 }
 
@@ -83,46 +135,48 @@ fn divide(w: &mut [f64], p: usize, q: usize, c: usize, d: f64)
 
 // From the dual's solution its residual, the test of the denominator, x and the multipliers.
 fn finish(w: &mut [f64], m: usize, n: usize) -> Ending
-    requires { ⌜ (m ≤ 66) × (n ≤ 17) × (3036 ≤ length (now w)) × (vec 1188 (n + 1) (now w) ≡ dualSide n) ⌝ }
-    ensures { λ r. ⌜ answered r (distanceIn m n (now (w .exit))) ≡ primal m n (vec 1206 m (now (w .entry))) (dualResidual m n (mat 0 (n + 1) m (now (w .entry))) (vec 1206 m (now (w .entry)))) ⌝ }
+    requires { ⌜ (m ≤ 66) × (n ≤ 17) × (LDP_ROOM ≤ length (now w)) × (vec LDP_SIDE (n + 1) (now w) ≡ dualSide n) ⌝ }
+    ensures { λ r. ⌜ endingAnswer r (distanceIn m n (now (w .exit))) ≡ primal m n (vec LDP_U m (now (w .entry))) (dualResidual m n (mat 0 (n + 1) m (now (w .entry))) (vec LDP_U m (now (w .entry)))) ⌝ }
 {
     residual_all(w, n + 1, m);
-    let d = -w[1272 + n];
-    if d <= Distance::INFEASIBILITY {
+    let d = -w[LDP_RESIDUAL + n];
+    if d <= Ldp::INFEASIBILITY {
         return Ending::Infeasible;
     }
-    divide(w, 1272, 1404, n, d);
-    divide(w, 1206, 1338, m, d);
+    divide(w, LDP_RESIDUAL, LDP_X, n, d);
+    divide(w, LDP_U, LDP_MULTIPLIERS, m, d);
     Ending::Done
 }
 
 // LDP of the m inequalities in the part, in n unknowns.
 pub fn solve_ldp(w: &mut [f64], iw: &mut [u32], m: usize, n: usize) -> Ended
-    requires { ⌜ (m ≤ 66) × (n ≤ 17) × (3036 ≤ length (now w)) × (264 ≤ length (now iw)) ⌝ }
-    ensures { λ r. ⌜ told r (distanceIn m n (now (w .exit))) ≡ ldp m n (stack 0 m n (now (w .entry))) (sides 0 m n (now (w .entry))) ⌝ }
+    requires { ⌜ (m ≤ 66) × (n ≤ 17) × (LDP_ROOM ≤ length (now w)) × (LDP_WORDS ≤ length (now iw)) ⌝ }
+    ensures { λ r. ⌜ endedSolution r (distanceIn m n (now (w .exit))) ≡ ldp m n (stack 0 m n (now (w .entry))) (sides 0 m n (now (w .entry))) ⌝ }
 {
     write_side(w, n);
     let e = nnls::solve_in(w, iw, n + 1, m, 3 * m);
-    if !e.accepted {
-        return Ended {
+    match e {
+        nnls::Ended::Capped(rounds, factorings) => Ended {
             ending: Ending::Capped,
-            rounds: e.rounds,
-            factorings: e.factorings,
-        };
-    }
-    let ending = finish(w, m, n);
-    Ended {
-        ending,
-        rounds: e.rounds,
-        factorings: e.factorings,
+            rounds,
+            factorings,
+        },
+        nnls::Ended::Accepted(rounds, factorings) => {
+            let ending = finish(w, m, n);
+            Ended {
+                ending,
+                rounds,
+                factorings,
+            }
+        }
     }
 }
 
 // ---- least squares with inequalities
 
-// The factors of the m by n matrix at 426, in the first b entries, and their rank.
+// The factors of the m by n matrix in the QR part, in the first b entries, and their rank.
 pub fn factor_front(w: &mut [f64], iw: &mut [u32], m: usize, n: usize, b: usize) -> usize
-    requires { ⌜ (m ≤ 18) × (n ≤ 18) × (426 + n * 18 ≤ b) × (b ≤ length (now w)) × (18 ≤ length (now iw)) ⌝ }
+    requires { ⌜ (m ≤ 18) × (n ≤ 18) × (QR_MATRIX + n * 18 ≤ b) × (b ≤ length (now w)) × (18 ≤ length (now iw)) ⌝ }
     ensures { λ r. ⌜ FactoredFront m n b r (now (w .entry)) (now (w .exit)) (now (iw .exit)) ⌝ }
 {
     householder::factor_in(&mut w[..b], &mut iw[..18], m, n)
@@ -130,23 +184,23 @@ pub fn factor_front(w: &mut [f64], iw: &mut [u32], m: usize, n: usize, b: usize)
 
 // Row i of the inequalities, permuted and under R'^-1, and its side less its product with Q'f.
 fn reduce_row(w: &mut [f64], iw: &[u32], n: usize, i: usize)
-    requires { ⌜ (n ≤ 17) × (i < 66) × (3786 ≤ length (now w)) × (n ≤ length (now iw)) × ((t : ℕ) → t < n → nth (now iw) t < n) ⌝ }
+    requires { ⌜ (n ≤ 17) × (i < 66) × (LSI_ROOM ≤ length (now w)) × (n ≤ length (now iw)) × ((t : ℕ) → t < n → nth (now iw) t < n) ⌝ }
     ensures { λ _. ⌜ ReducedRow n i (now (iw .entry)) (now (w .entry)) (now (w .exit)) ⌝ }
 {
-    let o = 750 + i * 18;
+    let o = LSI_G + i * 18;
     householder::pick(w, iw, o, n);
-    workspace::copy_up(w, 360, o, n);
+    workspace::copy_up(w, householder::QR_SOLUTION, o, n);
     householder::solve_rt(w, n, n, o);
-    let t = numbers::dot_within(w, o, 732, n);
+    let t = numbers::dot_within(w, o, LSI_F, n);
     w[o + n] = w[o + n] - t;
 }
 
 // Q'f in the place of f, and the inequalities in u = R P'x - f_1.
 fn reduce(w: &mut [f64], iw: &[u32], n: usize, me: usize, mg: usize)
-    requires { ⌜ (n ≤ me) × (me ≤ 17) × (mg ≤ 66) × (3786 ≤ length (now w)) × (n ≤ length (now iw)) × ((t : ℕ) → t < n → nth (now iw) t < n) ⌝ }
+    requires { ⌜ (n ≤ me) × (me ≤ 17) × (mg ≤ 66) × (LSI_ROOM ≤ length (now w)) × (n ≤ length (now iw)) × ((t : ℕ) → t < n → nth (now iw) t < n) ⌝ }
     ensures { λ _. ⌜ Reduced n me mg (now (iw .entry)) (now (w .entry)) (now (w .exit)) ⌝ }
 {
-    householder::apply_qt(w, me, n, 732);
+    householder::apply_qt(w, me, n, LSI_F);
     for i in 0..mg {
         reduce_row(w, iw, n, i);
     }
@@ -154,31 +208,31 @@ fn reduce(w: &mut [f64], iw: &[u32], n: usize, me: usize, mg: usize)
 
 // LDP's x with Q'f added to it, as a right-hand side.
 fn add_front(w: &mut [f64], n: usize)
-    requires { ⌜ (n ≤ 17) × (3786 ≤ length (now w)) ⌝ }
-    ensures { λ _. ⌜ Block 342 n (λ t. at (now (w .entry)) (2154 + t) ⊕ at (now (w .entry)) (732 + t)) (now (w .entry)) (now (w .exit)) ⌝ }
+    requires { ⌜ (n ≤ 17) × (LSI_ROOM ≤ length (now w)) ⌝ }
+    ensures { λ _. ⌜ Block QR_SIDE n (λ t. at (now (w .entry)) (LSI_LDP_X + t) ⊕ at (now (w .entry)) (LSI_F + t)) (now (w .entry)) (now (w .exit)) ⌝ }
 {
     for t in 0..n {
-        w[342 + t] = w[2154 + t] + w[732 + t];
+        w[householder::QR_SIDE + t] = w[LSI_LDP_X + t] + w[LSI_F + t];
     }
 }
 
-// x = P R^-1 (u + f_1), at 360.
+// x = P R^-1 (u + f_1).
 fn restore(w: &mut [f64], iw: &[u32], n: usize)
-    requires { ⌜ (n ≤ 17) × (3786 ≤ length (now w)) × (n ≤ length (now iw)) × ((t : ℕ) → t < n → nth (now iw) t < n) ⌝ }
+    requires { ⌜ (n ≤ 17) × (LSI_ROOM ≤ length (now w)) × (n ≤ length (now iw)) × ((t : ℕ) → t < n → nth (now iw) t < n) ⌝ }
     ensures { λ _. ⌜ Restored n (now (iw .entry)) (now (w .entry)) (now (w .exit)) ⌝ }
 {
     add_front(w, n);
     householder::solve_r(w, n);
-    workspace::blank(w, 360, n);
+    workspace::blank(w, householder::QR_SOLUTION, n);
     householder::place(w, iw, n, n);
 }
 
 // LSI of E, f and the inequalities in the part: E is me by n, and there are mg inequalities.
 pub fn solve_lsi(w: &mut [f64], iw: &mut [u32], n: usize, me: usize, mg: usize) -> Ended
-    requires { ⌜ (n ≤ 17) × (me ≤ 17) × (mg ≤ 66) × (3786 ≤ length (now w)) × (282 ≤ length (now iw)) ⌝ }
-    ensures { λ r. ⌜ told r (squaresIn n mg (now (w .exit))) ≡ lsi n me mg (mat 426 me n (now (w .entry))) (vec 732 me (now (w .entry))) (stack 750 mg n (now (w .entry))) (sides 750 mg n (now (w .entry))) ⌝ }
+    requires { ⌜ (n ≤ 17) × (me ≤ 17) × (mg ≤ 66) × (LSI_ROOM ≤ length (now w)) × (LSI_WORDS ≤ length (now iw)) ⌝ }
+    ensures { λ r. ⌜ endedSolution r (squaresIn n mg (now (w .exit))) ≡ lsi n me mg (mat LSI_E me n (now (w .entry))) (vec LSI_F me (now (w .entry))) (stack LSI_G mg n (now (w .entry))) (sides LSI_G mg n (now (w .entry))) ⌝ }
 {
-    let rank = factor_front(w, iw, me, n, 732);
+    let rank = factor_front(w, iw, me, n, LSI_F);
     if rank < n {
         return Ended {
             ending: Ending::Deficient,
@@ -187,7 +241,7 @@ pub fn solve_lsi(w: &mut [f64], iw: &mut [u32], n: usize, me: usize, mg: usize) 
         };
     }
     reduce(w, iw, n, me, mg);
-    let e = solve_ldp(&mut w[750..], &mut iw[18..], mg, n);
+    let e = solve_ldp(&mut w[LSI_G..], &mut iw[LSI_LDP_WORDS..], mg, n);
     let ending = e.ending;
     let total = Ended {
         ending,

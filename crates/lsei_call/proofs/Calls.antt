@@ -1,4 +1,4 @@
--- Laws of a call: what it leaves where a test refuses, and what the tests show where none does. Assumes nothing.
+-- Laws of a call: what it leaves where a test refuses, and what the tests show where none does.
 use mathlib.Core.Path.{_≡_, refl}
 use mathlib.Core.Bool.{Bool, true, false, _&&_}
 use mathlib.Core.List.{List}
@@ -8,23 +8,26 @@ use lib.ListN.{length}
 use lib.Ieee.{Float}
 use borrow.Author.Tests.{leb-true, eqb-true}
 use Rattle.workspace.specs.Tables.{Answer, call, isWidth, isEqualities, isInequalities, has}
+use Rattle.workspace.specs.declared.Refusal.the-variants.{Size, Length, Room}
+use Rattle.workspace.specs.declared.Outcome.{Outcome}
+use Rattle.workspace.specs.declared.Outcome.the-variants.{Refused}
 use Rattle.workspace.proofs.Tests.{and-true, width-le, equalities-le, inequalities-le}
 use Rattle.lsei.specs.Lsei.{Solution}
-use Rattle.lsei.specs.Promise.{Solves}
-use Rattle.lsei_call.specs.Work.{LdpInput, LsiInput, LseiInput}
+use Rattle.lsei_call.specs.Promise.{Solves}
+use Rattle.lsei_call.specs.inner.Work.{LdpInput, LsiInput, LseiInput}
 
 module _ (s t r : Bool) (a : Answer Solution) (x l w : List Float) (iw : List ℕ) where
-  pub size-refused : s ≡ false → Solves (call s t r true a) 1 x x l l w w iw iw
-  size-refused hs = rw hs (record { the-number = refl; the-x = refl; the-multipliers = refl; the-floats = refl; the-words = refl })
+  pub size-refused : s ≡ false → Solves (call s t r true a) (Refused Size) x x l l w w iw iw
+  size-refused hs = rw hs (record { the-outcome = refl; the-x = refl; the-multipliers = refl; the-floats = refl; the-words = refl })
 
-  pub length-refused : s ≡ true → t ≡ false → Solves (call s t r true a) 2 x x l l w w iw iw
-  length-refused hs ht = rw (hs, ht) (record { the-number = refl; the-x = refl; the-multipliers = refl; the-floats = refl; the-words = refl })
+  pub length-refused : s ≡ true → t ≡ false → Solves (call s t r true a) (Refused Length) x x l l w w iw iw
+  length-refused hs ht = rw (hs, ht) (record { the-outcome = refl; the-x = refl; the-multipliers = refl; the-floats = refl; the-words = refl })
 
-  pub room-refused : s ≡ true → t ≡ true → r ≡ false → Solves (call s t r true a) 3 x x l l w w iw iw
-  room-refused hs ht hr = rw (hs, ht, hr) (record { the-number = refl; the-x = refl; the-multipliers = refl; the-floats = refl; the-words = refl })
+  pub room-refused : s ≡ true → t ≡ true → r ≡ false → Solves (call s t r true a) (Refused Room) x x l l w w iw iw
+  room-refused hs ht hr = rw (hs, ht, hr) (record { the-outcome = refl; the-x = refl; the-multipliers = refl; the-floats = refl; the-words = refl })
 
 -- no test refuses
-pub all-passed : (s t r : Bool) (a : Answer Solution) (k : ℕ) (x x′ l l′ w w′ : List Float) (iw iw′ : List ℕ) → s ≡ true → t ≡ true → r ≡ true
+pub all-passed : (s t r : Bool) (a : Answer Solution) (k : Outcome) (x x′ l l′ w w′ : List Float) (iw iw′ : List ℕ) → s ≡ true → t ≡ true → r ≡ true
     → Solves a k x x′ l l′ w w′ iw iw′ → Solves (call s t r true a) k x x′ l l′ w w′ iw iw′
 all-passed s t r a k x x′ l l′ w w′ iw iw′ hs ht hr h = rw (hs, ht, hr) h
 

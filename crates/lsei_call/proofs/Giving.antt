@@ -1,4 +1,4 @@
--- Laws of answers: the multipliers out of two places, the number of an ending, and what a call then leaves. Assumes nothing.
+-- Laws of answers: the multipliers out of two places, the outcome of an ending, and what a call then leaves.
 use mathlib.Core.Path.{_≡_, refl, sym, ap, ap₂, _∙_}
 use mathlib.Core.Bool.{true, cond}
 use mathlib.Core.List.{List, [], _∷_, _++_}
@@ -12,19 +12,21 @@ use lib.Seq.{ext-getD, getD-append-add}
 use lib.Ieee.{Float, nan}
 use Rattle.numbers.specs.Numbers.{+0, at, tab}
 use Rattle.numbers.proofs.Cases.{lt-or-ge}
-use Rattle.workspace.specs.Tables.{Answer, number, floats, words, cleared}
-use Rattle.workspace.specs.Readings.{vec, Block, Cleared}
+use Rattle.workspace.specs.Tables.{Answer, outcomeOf, floats, words, cleared}
+use Rattle.workspace.specs.declared.Outcome.{Outcome}
+use Rattle.workspace.specs.declared.Outcome.the-variants.{Done}
+use Rattle.workspace.specs.inner.Readings.{vec, Block, Cleared}
 use Rattle.workspace.proofs.Readings.{at-vec, length-vec}
 use Rattle.workspace.proofs.Parts.{vec-front, front-cleared}
 use Rattle.nnls.specs.Counted.{Counted}
 use Rattle.lsei.specs.Lsei.{Solution}
-use Rattle.lsei.specs.Promise.{Solves}
-use Rattle.lsei.specs.Work.{answered, told}
+use Rattle.lsei_call.specs.Promise.{Solves}
+use Rattle.lsei.specs.inner.Work.{endingAnswer, endedSolution}
 use Rattle.lsei.specs.declared.Ended.{Ended}
 use Rattle.lsei.specs.declared.Ending.{Ending}
 use Rattle.lsei.specs.declared.Ending.the-variants as E
 use Rattle.lsei.proofs.Ending.{the-type}
-use Rattle.lsei_call.specs.Work.{Given}
+use Rattle.lsei_call.specs.inner.Work.{SolutionGiven}
 
 -- two blocks that fill a list
 pub multipliers-are : (q c r m : ℕ) (w l l₁ l₂ : List Float) → length l₂ ≡ c + m → Block 0 c (λ t. at w (q + t * 1)) l l₁ → Block c m (λ t. at w (r + t * 1)) l₁ l₂
@@ -58,35 +60,35 @@ no-first q w v = refl
 
 -- ---- what is given by an ending
 
-pub given-none : (o : Ending) (s : Solution) (k : ℕ) (x l : List Float) → OneOf (1 ∷ 2 ∷ 3 ∷ []) (tagOf the-type o) → k ≡ number (answered o s) → Given (answered o s) k x x l l
+pub given-none : (o : Ending) (s : Solution) (k : Outcome) (x l : List Float) → OneOf (1 ∷ 2 ∷ 3 ∷ []) (tagOf the-type o) → k ≡ outcomeOf (endingAnswer o s) → SolutionGiven (endingAnswer o s) k x x l l
 given-none E.Done s k x l h e = absurd (⊎-elim (λ e. omega arith) (λ g. ⊎-elim (λ e. omega arith) (λ e. omega arith) g) h)
-given-none E.Deficient s k x l h e = record { the-number = e; the-x = refl; the-multipliers = refl }
-given-none E.Infeasible s k x l h e = record { the-number = e; the-x = refl; the-multipliers = refl }
-given-none E.Capped s k x l h e = record { the-number = e; the-x = refl; the-multipliers = refl }
+given-none E.Deficient s k x l h e = record { the-outcome = e; the-x = refl; the-multipliers = refl }
+given-none E.Infeasible s k x l h e = record { the-outcome = e; the-x = refl; the-multipliers = refl }
+given-none E.Capped s k x l h e = record { the-outcome = e; the-x = refl; the-multipliers = refl }
 
-pub given-all : (o : Ending) (s : Solution) (x x′ l l′ : List Float) → o ≡ E.Done → x′ ≡ s .x → l′ ≡ s .multipliers → Given (answered o s) 0 x x′ l l′
-given-all o s x x′ l l′ d ex el = rw d (record { the-number = refl; the-x = ex; the-multipliers = el })
+pub given-all : (o : Ending) (s : Solution) (x x′ l l′ : List Float) → o ≡ E.Done → x′ ≡ s .x → l′ ≡ s .multipliers → SolutionGiven (endingAnswer o s) Done x x′ l l′
+given-all o s x x′ l l′ d ex el = rw d (record { the-outcome = refl; the-x = ex; the-multipliers = el })
 
 -- ---- a call that reached the arithmetic: v and u are what the kernel left in the first 8,192 and 512 entries
 
-floats-of : (o : Ending) (s : Solution) (w : List Float) → floats (answered o s) w ≡ cleared +0 8192 w
+floats-of : (o : Ending) (s : Solution) (w : List Float) → floats (endingAnswer o s) w ≡ cleared +0 8192 w
 floats-of E.Done s w = refl
 floats-of E.Deficient s w = refl
 floats-of E.Infeasible s w = refl
 floats-of E.Capped s w = refl
 
-words-of : (o : Ending) (s : Solution) (iw : List ℕ) → words (answered o s) iw ≡ cleared 0 512 iw
+words-of : (o : Ending) (s : Solution) (iw : List ℕ) → words (endingAnswer o s) iw ≡ cleared 0 512 iw
 words-of E.Done s iw = refl
 words-of E.Deficient s iw = refl
 words-of E.Infeasible s iw = refl
 words-of E.Capped s iw = refl
 
-pub solved : (c : Counted Solution) (o : Ended) (s : Solution) (k : ℕ) (x x′ l l′ w v w′ : List Float) (iw u iw′ : List ℕ) → length v ≡ 8192 → length u ≡ 512 → told o s ≡ c
-    → Given (answered (o .ending) s) k x x′ l l′ → Cleared (v ++ drop 8192 w) w′ (u ++ drop 512 iw) iw′ → Solves (c .answer) k x x′ l l′ w w′ iw iw′
+pub solved : (c : Counted Solution) (o : Ended) (s : Solution) (k : Outcome) (x x′ l l′ w v w′ : List Float) (iw u iw′ : List ℕ) → length v ≡ 8192 → length u ≡ 512 → endedSolution o s ≡ c
+    → SolutionGiven (endingAnswer (o .ending) s) k x x′ l l′ → Cleared (v ++ drop 8192 w) w′ (u ++ drop 512 iw) iw′ → Solves (c .answer) k x x′ l l′ w w′ iw iw′
 solved c o s k x x′ l l′ w v w′ iw u iw′ lv lu t G C =
     rw (← (ap (λ (d : Counted Solution). d .answer) t))
     (record {
-      the-number = G .the-number;
+      the-outcome = G .the-outcome;
       the-x = G .the-x;
       the-multipliers = G .the-multipliers;
       the-floats = C .floats ∙ front-cleared +0 8192 v w lv ∙ sym (floats-of (o .ending) s w);

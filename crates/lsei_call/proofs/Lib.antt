@@ -1,3 +1,8 @@
 pub mod Loading
 pub mod Giving
 pub mod Calls
+pub mod Clear
+pub mod One
+pub mod Passing
+pub mod TooMany
+pub mod Called

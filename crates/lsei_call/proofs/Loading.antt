@@ -1,4 +1,4 @@
--- Laws of problems that are loaded: they read back as they were given. Assumes nothing.
+-- Laws of problems that are loaded: they read back as they were given.
 use mathlib.Core.Path.{_≡_, refl, sym, ap, _∙_}
 use mathlib.Core.List.{List}
 use Prim.Native.Nat.{ℕ, _+_, _*_, _<_, _≤_}
@@ -7,11 +7,11 @@ use lib.ListN.{length}
 use lib.Ieee.{Float}
 use Rattle.numbers.specs.Numbers.{at}
 use Rattle.numbers.proofs.Lists.{tab-same, by-entries}
-use Rattle.workspace.specs.Readings.{vec, mat, stack, Block, Loaded, Stacked}
+use Rattle.workspace.specs.inner.Readings.{vec, mat, stack, Block, Loaded, Stacked}
 use Rattle.workspace.proofs.Readings.{vec-same, mat-same, stack-same}
 use Rattle.workspace.proofs.Writes.{block-vec}
-use Rattle.lsei.specs.Work.{sides, Spaced}
-use Rattle.lsei_call.specs.Work.{RowsLoaded, LsiLoaded, LseiLoaded}
+use Rattle.lsei.specs.inner.Work.{sides, Spaced}
+use Rattle.lsei_call.specs.inner.Work.{RowsLoaded, LsiLoaded, LseiLoaded}
 
 pub rows-loaded : (o m n : ℕ) (g h w w₁ w₂ : List Float) → n ≤ 17 → length h ≡ m → Stacked o m n g w w₁ → Spaced (o + n) m (λ t. at h t) w₁ w₂ → RowsLoaded o m n g h w w₂
 unfolding sides

@@ -1,3 +1,4 @@
 -- How the public answers of LDP, LSI and LSEI read as docs/RULES.md's numbers, and what stands in the workspaces on the way. Definitions only.
-pub mod Outcomes
-pub mod Work
+pub mod Claims
+pub mod Promise
+pub mod inner

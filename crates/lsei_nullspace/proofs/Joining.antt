@@ -1,4 +1,4 @@
--- Laws of y, of x from its two parts, and of the equalities' multipliers. Assumes nothing.
+-- Laws of y, of x from its two parts, and of the equalities' multipliers.
 use mathlib.Core.Path.{_≡_, refl, sym, ap, ap₂, _∙_}
 use mathlib.Core.List.{List, _++_}
 use mathlib.Core.Logic.{⊎-elim}
@@ -11,15 +11,15 @@ use Rattle.numbers.specs.Numbers.{+0, at, nth, tab, entry, Σ, _⊖_, _⊗_}
 use Rattle.numbers.proofs.Cases.{lt-or-ge}
 use Rattle.numbers.proofs.Lists.{tab-of, getD-tab}
 use Rattle.numbers.proofs.Sums.{Σ-same}
-use Rattle.workspace.specs.Readings.{vec, stack, Block}
+use Rattle.workspace.specs.inner.Readings.{vec, stack, Block}
 use Rattle.workspace.proofs.Readings.{at-vec, vec-is, length-vec, entry-stack}
 use Rattle.householder.specs.Qr.{applyQt, applyQ, solveR, solveRt}
-use Rattle.householder.specs.Work.{held, AppliedQt, AppliedQ, SolvedR, SolvedRt, Placed}
+use Rattle.householder.specs.inner.Work.{held, AppliedQt, AppliedQ, SolvedR, SolvedRt, Placed}
 use Rattle.householder.proofs.Held.{held-same}
 use Rattle.lsei.specs.Lsei.{fixed, gradient, equalityMultipliers}
 use Rattle.lsei.proofs.Rows.{gathered}
 use Rattle.lsei.proofs.Squares.{placed-is}
-use Rattle.lsei_nullspace.specs.Work.{Fixed, Rejoined, Priced, slopeIn}
+use Rattle.lsei_nullspace.specs.inner.Work.{Fixed, Rejoined, Priced, slopeIn}
 
 -- ---- y
 

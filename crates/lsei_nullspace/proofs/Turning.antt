@@ -1,4 +1,4 @@
--- Laws of E Q and G Q: one row, all rows, and how their tails and shifted sides read as the definition's. Assumes nothing.
+-- Laws of E Q and G Q: one row, all rows, and how their tails and shifted sides read as the definition's.
 use mathlib.Core.Path.{_≡_, refl, sym, ap, ap₂, _∙_}
 use mathlib.Core.List.{List}
 use mathlib.Core.Logic.{⊎-elim}
@@ -11,15 +11,15 @@ use Rattle.numbers.specs.Numbers.{at, tab, dot, entry, rows, grid, row, Σ, _�
 use Rattle.numbers.proofs.Cases.{lt-or-ge}
 use Rattle.numbers.proofs.Lists.{tab-same, tab-of, getD-tab, entry-rows, length-row}
 use Rattle.numbers.proofs.Sums.{Σ-same}
-use Rattle.workspace.specs.Readings.{vec, mat, stack, Block}
+use Rattle.workspace.specs.inner.Readings.{vec, mat, stack, Block}
 use Rattle.workspace.proofs.Readings.{at-vec, vec-is, vec-same, length-vec, mat-is, row-stack, stack-is}
 use Rattle.householder.specs.Qr.{Factors, applyQt}
-use Rattle.householder.specs.Work.{held, AppliedQt}
+use Rattle.householder.specs.inner.Work.{held, AppliedQt}
 use Rattle.householder.proofs.Held.{held-same}
 use Rattle.householder.proofs.Sizes.{length-applyQt}
 use Rattle.lsei.specs.Lsei.{turned, tailOf, shifted}
-use Rattle.lsei.specs.Work.{sides, Spaced}
-use Rattle.lsei_nullspace.specs.Work.{turnedIn, TurnedRow, RowOfE, RowOfG, TailOfE, TailOfG}
+use Rattle.lsei.specs.inner.Work.{sides, Spaced}
+use Rattle.lsei_nullspace.specs.inner.Work.{turnedIn, TurnedRow, RowOfE, RowOfG, TailOfE, TailOfG}
 
 -- ---- one row under Q'
 

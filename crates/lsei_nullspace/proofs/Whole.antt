@@ -1,4 +1,4 @@
--- The whole of LSEI, from the factors of C' and the answer of LSI. Assumes nothing.
+-- The whole of LSEI, from the factors of C' and the answer of LSI.
 use mathlib.Core.Path.{_≡_, refl, sym, ap, ap₂, _∙_}
 use mathlib.Core.Bool.{Bool, true, false}
 use mathlib.Core.List.{List, [], _∷_, _++_}
@@ -12,7 +12,7 @@ use Rattle.workspace.specs.Tables.{Answer, done, rankDeficient}
 use Rattle.householder.specs.Qr.{Factors, factor, applyQ}
 use Rattle.nnls.specs.Counted.{Counted, andThen, factored, unless}
 use Rattle.lsei.specs.Lsei.{Solution, lsi, fixed, turned, tailOf, shifted, gradient, equalityMultipliers, rejoined, lseiFrom, lsei}
-use Rattle.lsei.specs.Work.{told}
+use Rattle.lsei.specs.inner.Work.{endedSolution}
 use Rattle.lsei.specs.declared.Ended.{Ended}
 use Rattle.lsei.specs.declared.Ending.the-variants.{Done, Deficient}
 use Rattle.lsei.proofs.Ending.{the-type}
@@ -25,12 +25,12 @@ module _ (n mc me mg : ℕ) (c d e f g h : List Float) (q : Factors) (fq : q ≡
       ap (λ (z : Bool). factored (unless z rankDeficient (lseiFrom n mc me mg q d e f g h))) (sym t)
       ∙ ap (λ (p : Factors). factored (unless (ltb (p .rank) mc) rankDeficient (lseiFrom n mc me mg p d e f g h))) fq
 
-  pub lsei-deficient : ltb (q .rank) mc ≡ true → (s : Solution) → told (record { ending = Deficient; rounds = 0; factorings = 1 }) s ≡ lsei n mc me mg c d e f g h
+  pub lsei-deficient : ltb (q .rank) mc ≡ true → (s : Solution) → endedSolution (record { ending = Deficient; rounds = 0; factorings = 1 }) s ≡ lsei n mc me mg c d e f g h
   lsei-deficient t s = tested true t
 
   module _ (full : ltb (q .rank) mc ≡ false) (y eq fs gq hs : List Float) (ey : y ≡ fixed mc q d) (ee : eq ≡ tailOf n mc me (turned n me q e))
       (ef : fs ≡ shifted n mc me (turned n me q e) y f) (eg : gq ≡ tailOf n mc mg (turned n mg q g)) (eh : hs ≡ shifted n mc mg (turned n mg q g) y h) (E : Ended)
-      (s : Solution) (L : told E s ≡ lsi (n - mc) me mg eq fs gq hs) where
+      (s : Solution) (L : endedSolution E s ≡ lsi (n - mc) me mg eq fs gq hs) where
     abbrev onward : Solution → Answer Solution
     onward s = done (rejoined n mc me mg q (fixed mc q d) e f g s)
 
@@ -38,15 +38,15 @@ module _ (n mc me mg : ℕ) (c d e f g h : List Float) (q : Factors) (fq : q ≡
         ≡ lsi (n - mc) me mg (tailOf n mc me (turned n me q e)) (shifted n mc me (turned n me q e) (fixed mc q d) f) (tailOf n mc mg (turned n mg q g)) (shifted n mc mg (turned n mg q g) (fixed mc q d) h)
     reduced = rw (ee, ef, eg, eh, ey)
 
-    whole : factored (andThen (told E s) onward) ≡ lsei n mc me mg c d e f g h
+    whole : factored (andThen (endedSolution E s) onward) ≡ lsei n mc me mg c d e f g h
     unfolding lseiFrom
     whole = ap (λ (c : Counted Solution). factored (andThen c onward)) (L ∙ reduced) ∙ tested false full
 
-    pub lsei-refused : (t : Solution) → OneOf (1 ∷ 2 ∷ 3 ∷ []) (tagOf the-type (E .ending)) → told (further E) t ≡ lsei n mc me mg c d e f g h
+    pub lsei-refused : (t : Solution) → OneOf (1 ∷ 2 ∷ 3 ∷ []) (tagOf the-type (E .ending)) → endedSolution (further E) t ≡ lsei n mc me mg c d e f g h
     lsei-refused t o = refused-on E s onward t o ∙ whole
 
     pub lsei-done : (x mu u : List Float) → E .ending ≡ Done → x ≡ applyQ n q (y ++ s .x) → u ≡ s .multipliers
-        → mu ≡ equalityMultipliers n mc q (gradient n me mg e f g x u) → told (further E) (record { x = x; multipliers = mu ++ u }) ≡ lsei n mc me mg c d e f g h
+        → mu ≡ equalityMultipliers n mc q (gradient n me mg e f g x u) → endedSolution (further E) (record { x = x; multipliers = mu ++ u }) ≡ lsei n mc me mg c d e f g h
     unfolding rejoined
     lsei-done x mu u o ex eu em =
         let x-is : x ≡ applyQ n q (fixed mc q d ++ s .x) = ex ∙ ap (λ (a : List Float). applyQ n q (a ++ s .x)) ey in

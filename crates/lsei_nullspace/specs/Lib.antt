@@ -1,2 +1,2 @@
 -- Where LSEI's inputs and answers stand in the workspace. Definitions only.
-pub mod Work
+pub mod inner

@@ -1,38 +1,68 @@
 // Least squares with equalities and inequalities, min ||E x - f|| with C x = d and G x >= h, by the null
 // space of the equalities, in one part of each workspace.
-//
-// f64: a QR part for C' at 0, where the equalities' multipliers are left at 360; d, then y, then x at
-// 714; row i of E at 732 + 18 i; f at 1038; row i of G at 1056 + 18 i with h_i behind it; LSI's part from
-// 2244 on, where the inequalities' multipliers are left at 4332. In all 6,030. u32: the permutation of C'
-// at 0, LSI's part from 18 on. In all 300.
 ghost use mathlib.Core.Path.{_≡_};
 ghost use Prim.Native.Nat.{ℕ, _+_, _-_, _*_, _<_, _≤_};
 ghost use lib.ListN.{length};
 ghost use Rattle.numbers.specs.Numbers.{at, nth, Σ, _⊖_, _⊗_};
-ghost use Rattle.workspace.specs.Readings.{vec, stack, Block};
+ghost use Rattle.workspace.specs.inner.Readings.{vec, stack, Block};
 ghost use Rattle.lsei.specs.Lsei.{lsei};
-ghost use Rattle.lsei.specs.Work.{told, sides, Spaced};
-ghost use Rattle.lsei_nullspace.specs.Work.{solutionIn, Ready, Fixed, TurnedRow, RowOfE, RowOfG, TailOfE, TailOfG, Reduced, slopeIn, Rejoined, Priced, Completed};
+ghost use Rattle.lsei.specs.inner.Work.{endedSolution, sides, Spaced};
+ghost use Rattle.lsei_nullspace.specs.inner.Work.{solutionIn, LseiReady, Fixed, TurnedRow, RowOfE, RowOfG, TailOfE, TailOfG, LseiReduced, slopeIn, Rejoined, Priced, Completed};
+ghost use Rattle.householder.specs.inner.Places.{QR_MATRIX, QR_SIDE, QR_SOLUTION};
+ghost use Rattle.lsei_nullspace.specs.inner.Places.{LSEI_E, LSEI_F, LSEI_G, LSEI_ROOM, LSEI_WORDS, LSEI_X};
+
+// ---- where things stand in the part of LSEI, which begins with a QR part for C'
+
+// The columns of C'.
+pub const LSEI_C: usize = householder::QR_MATRIX;
+// First d, then y, then x.
+pub const LSEI_X: usize = LSEI_C + 16 * 18;
+// The rows of E.
+pub const LSEI_E: usize = LSEI_X + 18;
+
+pub const LSEI_F: usize = LSEI_E + 17 * 18;
+// The rows of G, each with its side behind it.
+pub const LSEI_G: usize = LSEI_F + 18;
+// LSI's part.
+pub const LSEI_LSI: usize = LSEI_G + 66 * 18;
+
+pub const LSEI_LSI_E: usize = LSEI_LSI + lsei::LSI_E;
+
+pub const LSEI_LSI_F: usize = LSEI_LSI + lsei::LSI_F;
+
+pub const LSEI_LSI_G: usize = LSEI_LSI + lsei::LSI_G;
+
+pub const LSEI_LSI_X: usize = LSEI_LSI + lsei::LSI_X;
+// The multipliers of the equalities.
+pub const LSEI_EQUALITY_MULTIPLIERS: usize = householder::QR_SOLUTION;
+// The multipliers of the inequalities.
+pub const LSEI_MULTIPLIERS: usize = LSEI_LSI + lsei::LSI_MULTIPLIERS;
+// How many f64 it takes.
+pub const LSEI_ROOM: usize = LSEI_LSI + lsei::LSI_ROOM;
+// In the u32 workspace: the permutation of C' stands at 0, and LSI's part here.
+pub const LSEI_LSI_WORDS: usize = 18;
+// How many u32 it takes.
+pub const LSEI_WORDS: usize = LSEI_LSI_WORDS + lsei::LSI_WORDS;
 
 // ---- the reduced problem
 
 // y with R'y = P'd, in the place of d.
 fn fix(w: &mut [f64], iw: &[u32], mc: usize)
-    requires { ⌜ (mc ≤ 16) × (6030 ≤ length (now w)) × (mc ≤ length (now iw)) × ((t : ℕ) → t < mc → nth (now iw) t < mc) ⌝ }
+    requires { ⌜ (mc ≤ 16) × (LSEI_ROOM ≤ length (now w)) × (mc ≤ length (now iw)) × ((t : ℕ) → t < mc → nth (now iw) t < mc) ⌝ }
     ensures { λ _. ⌜ Fixed mc (now (iw .entry)) (now (w .entry)) (now (w .exit)) ⌝ }
 {
-    householder::pick(w, iw, 714, mc);
-    workspace::copy_up(w, 360, 714, mc);
-    householder::solve_rt(w, mc, mc, 714);
+    householder::pick(w, iw, LSEI_X, mc);
+    workspace::copy_up(w, householder::QR_SOLUTION, LSEI_X, mc);
+    householder::solve_rt(w, mc, mc, LSEI_X);
 }
 
-// The row at o under Q', at 342.
+// The row at o under Q', as a right-hand side.
 fn turn_row(w: &mut [f64], n: usize, mc: usize, o: usize)
-    requires { ⌜ (n ≤ 17) × (mc ≤ n) × (360 ≤ o) × (o + n ≤ length (now w)) ⌝ }
+    requires { ⌜ (n ≤ 17) × (mc ≤ n) × (QR_SOLUTION ≤ o) × (o + n ≤ length (now w)) ⌝ }
     ensures { λ _. ⌜ TurnedRow n mc o (now (w .entry)) (now (w .exit)) ⌝ }
 {
-    workspace::copy_down(w, o, 342, n);
-    householder::apply_qt(w, n, mc, 342);
+    workspace::copy_down(w, o, householder::QR_SIDE, n);
+    householder::apply_qt(w, n, mc, householder::QR_SIDE);
 }
 
 // c numbers from p on, to q on, which lies behind them, 18 apart.
@@ -47,18 +77,18 @@ fn space(w: &mut [f64], p: usize, q: usize, c: usize)
 
 // Row i of LSI's E, and entry i of its f.
 fn turn_e_row(w: &mut [f64], n: usize, mc: usize, i: usize)
-    requires { ⌜ (n ≤ 17) × (mc ≤ n) × (i < 17) × (6030 ≤ length (now w)) ⌝ }
+    requires { ⌜ (n ≤ 17) × (mc ≤ n) × (i < 17) × (LSEI_ROOM ≤ length (now w)) ⌝ }
     ensures { λ _. ⌜ RowOfE n mc i (now (w .entry)) (now (w .exit)) ⌝ }
 {
-    turn_row(w, n, mc, 732 + i * 18);
-    space(w, 342 + mc, 2670 + i, n - mc);
-    let t = numbers::dot_within(w, 342, 714, mc);
-    w[2976 + i] = w[1038 + i] - t;
+    turn_row(w, n, mc, LSEI_E + i * 18);
+    space(w, householder::QR_SIDE + mc, LSEI_LSI_E + i, n - mc);
+    let t = numbers::dot_within(w, householder::QR_SIDE, LSEI_X, mc);
+    w[LSEI_LSI_F + i] = w[LSEI_F + i] - t;
 }
 
 // LSI's E and f.
 fn turn_e(w: &mut [f64], n: usize, mc: usize, me: usize)
-    requires { ⌜ (n ≤ 17) × (mc ≤ n) × (me ≤ 17) × (6030 ≤ length (now w)) ⌝ }
+    requires { ⌜ (n ≤ 17) × (mc ≤ n) × (me ≤ 17) × (LSEI_ROOM ≤ length (now w)) ⌝ }
     ensures { λ _. ⌜ TailOfE n mc me (now (w .entry)) (now (w .exit)) ⌝ }
 {
     for i in 0..me {
@@ -68,18 +98,18 @@ fn turn_e(w: &mut [f64], n: usize, mc: usize, me: usize)
 
 // Row i of LSI's inequalities, and its side.
 fn turn_g_row(w: &mut [f64], n: usize, mc: usize, i: usize)
-    requires { ⌜ (n ≤ 17) × (mc ≤ n) × (i < 66) × (6030 ≤ length (now w)) ⌝ }
+    requires { ⌜ (n ≤ 17) × (mc ≤ n) × (i < 66) × (LSEI_ROOM ≤ length (now w)) ⌝ }
     ensures { λ _. ⌜ RowOfG n mc i (now (w .entry)) (now (w .exit)) ⌝ }
 {
-    turn_row(w, n, mc, 1056 + i * 18);
-    workspace::copy_up(w, 342 + mc, 2994 + i * 18, n - mc);
-    let t = numbers::dot_within(w, 342, 714, mc);
-    w[2994 + i * 18 + (n - mc)] = w[1056 + i * 18 + n] - t;
+    turn_row(w, n, mc, LSEI_G + i * 18);
+    workspace::copy_up(w, householder::QR_SIDE + mc, LSEI_LSI_G + i * 18, n - mc);
+    let t = numbers::dot_within(w, householder::QR_SIDE, LSEI_X, mc);
+    w[LSEI_LSI_G + i * 18 + (n - mc)] = w[LSEI_G + i * 18 + n] - t;
 }
 
 // LSI's inequalities.
 fn turn_g(w: &mut [f64], n: usize, mc: usize, mg: usize)
-    requires { ⌜ (n ≤ 17) × (mc ≤ n) × (mg ≤ 66) × (6030 ≤ length (now w)) ⌝ }
+    requires { ⌜ (n ≤ 17) × (mc ≤ n) × (mg ≤ 66) × (LSEI_ROOM ≤ length (now w)) ⌝ }
     ensures { λ _. ⌜ TailOfG n mc mg (now (w .entry)) (now (w .exit)) ⌝ }
 {
     for i in 0..mg {
@@ -89,8 +119,8 @@ fn turn_g(w: &mut [f64], n: usize, mc: usize, mg: usize)
 
 // y, and LSI's problem in y_2, where x = Q (y, y_2).
 fn reduce(w: &mut [f64], iw: &[u32], n: usize, mc: usize, me: usize, mg: usize)
-    requires { ⌜ Ready n mc me mg (now w) (now iw) ⌝ }
-    ensures { λ _. ⌜ Reduced n mc me mg (now (iw .entry)) (now (w .entry)) (now (w .exit)) ⌝ }
+    requires { ⌜ LseiReady n mc me mg (now w) (now iw) ⌝ }
+    ensures { λ _. ⌜ LseiReduced n mc me mg (now (iw .entry)) (now (w .entry)) (now (w .exit)) ⌝ }
 {
     fix(w, iw, mc);
     turn_e(w, n, mc, me);
@@ -101,61 +131,61 @@ fn reduce(w: &mut [f64], iw: &[u32], n: usize, mc: usize, me: usize, mg: usize)
 
 // x = Q (y, y_2), in the place of y.
 fn rejoin(w: &mut [f64], n: usize, mc: usize)
-    requires { ⌜ (n ≤ 17) × (mc ≤ 16) × (mc ≤ n) × (6030 ≤ length (now w)) ⌝ }
+    requires { ⌜ (n ≤ 17) × (mc ≤ 16) × (mc ≤ n) × (LSEI_ROOM ≤ length (now w)) ⌝ }
     ensures { λ _. ⌜ Rejoined n mc (now (w .entry)) (now (w .exit)) ⌝ }
 {
-    workspace::copy_down(w, 2604, 714 + mc, n - mc);
-    householder::apply_q(w, n, mc, 714);
+    workspace::copy_down(w, LSEI_LSI_X, LSEI_X + mc, n - mc);
+    householder::apply_q(w, n, mc, LSEI_X);
 }
 
-// The residual E x - f, at 360.
+// The residual E x - f, in the place of a solution.
 fn residuals(w: &mut [f64], n: usize, me: usize)
-    requires { ⌜ (n ≤ 17) × (me ≤ 17) × (6030 ≤ length (now w)) ⌝ }
-    ensures { λ _. ⌜ Block 360 me (λ i. Σ n (λ j. at (now (w .entry)) (732 + i * 18 + j) ⊗ at (now (w .entry)) (714 + j)) ⊖ at (now (w .entry)) (1038 + i)) (now (w .entry)) (now (w .exit)) ⌝ }
+    requires { ⌜ (n ≤ 17) × (me ≤ 17) × (LSEI_ROOM ≤ length (now w)) ⌝ }
+    ensures { λ _. ⌜ Block QR_SOLUTION me (λ i. Σ n (λ j. at (now (w .entry)) (LSEI_E + i * 18 + j) ⊗ at (now (w .entry)) (LSEI_X + j)) ⊖ at (now (w .entry)) (LSEI_F + i)) (now (w .entry)) (now (w .exit)) ⌝ }
 {
     for i in 0..me {
-        let t = numbers::dot_within(w, 732 + i * 18, 714, n);
-        w[360 + i] = t - w[1038 + i];
+        let t = numbers::dot_within(w, LSEI_E + i * 18, LSEI_X, n);
+        w[householder::QR_SOLUTION + i] = t - w[LSEI_F + i];
     }
 }
 
 // Entry j of E'(E x - f) - G'lambda.
 fn slope_at(w: &[f64], me: usize, mg: usize, j: usize) -> f64
-    requires { ⌜ (me ≤ 17) × (mg ≤ 66) × (j < 17) × (6030 ≤ length (now w)) ⌝ }
+    requires { ⌜ (me ≤ 17) × (mg ≤ 66) × (j < 17) × (LSEI_ROOM ≤ length (now w)) ⌝ }
     ensures { λ r. ⌜ r ≡ slopeIn me mg j (now (w .entry)) ⌝ }
 {
-    let s = numbers::dot_strided(w, 732 + j, 18, w, 360, 1, me);
-    let t = numbers::dot_strided(w, 1056 + j, 18, w, 4332, 1, mg);
+    let s = numbers::dot_strided(w, LSEI_E + j, 18, w, householder::QR_SOLUTION, 1, me);
+    let t = numbers::dot_strided(w, LSEI_G + j, 18, w, LSEI_MULTIPLIERS, 1, mg);
     s - t
 }
 
-// E'(E x - f) - G'lambda, at 342.
+// E'(E x - f) - G'lambda, as a right-hand side.
 fn slopes(w: &mut [f64], n: usize, me: usize, mg: usize)
-    requires { ⌜ (n ≤ 17) × (me ≤ 17) × (mg ≤ 66) × (6030 ≤ length (now w)) ⌝ }
-    ensures { λ _. ⌜ Block 342 n (λ j. slopeIn me mg j (now (w .entry))) (now (w .entry)) (now (w .exit)) ⌝ }
+    requires { ⌜ (n ≤ 17) × (me ≤ 17) × (mg ≤ 66) × (LSEI_ROOM ≤ length (now w)) ⌝ }
+    ensures { λ _. ⌜ Block QR_SIDE n (λ j. slopeIn me mg j (now (w .entry))) (now (w .entry)) (now (w .exit)) ⌝ }
 {
     for j in 0..n {
         let v = slope_at(w, me, mg, j);
-        w[342 + j] = v;
+        w[householder::QR_SIDE + j] = v;
     }
 }
 
 // The equalities' multipliers mu, from C'mu = E'(E x - f) - G'lambda.
 fn price(w: &mut [f64], iw: &[u32], n: usize, mc: usize, me: usize, mg: usize)
-    requires { ⌜ Ready n mc me mg (now w) (now iw) ⌝ }
+    requires { ⌜ LseiReady n mc me mg (now w) (now iw) ⌝ }
     ensures { λ _. ⌜ Priced n mc me mg (now (iw .entry)) (now (w .entry)) (now (w .exit)) ⌝ }
 {
     residuals(w, n, me);
     slopes(w, n, me, mg);
-    householder::apply_qt(w, n, mc, 342);
+    householder::apply_qt(w, n, mc, householder::QR_SIDE);
     householder::solve_r(w, mc);
-    workspace::blank(w, 360, mc);
+    workspace::blank(w, householder::QR_SOLUTION, mc);
     householder::place(w, iw, mc, mc);
 }
 
 // x and the equalities' multipliers, from y, LSI's x and the inequalities' multipliers.
 fn complete(w: &mut [f64], iw: &[u32], n: usize, mc: usize, me: usize, mg: usize)
-    requires { ⌜ Ready n mc me mg (now w) (now iw) ⌝ }
+    requires { ⌜ LseiReady n mc me mg (now w) (now iw) ⌝ }
     ensures { λ _. ⌜ Completed n mc me mg (now (iw .entry)) (now (w .entry)) (now (w .exit)) ⌝ }
 {
     rejoin(w, n, mc);
@@ -173,10 +203,10 @@ pub fn solve_lsei(
     me: usize,
     mg: usize,
 ) -> lsei::Ended
-    requires { ⌜ (n ≤ 17) × (mc ≤ 16) × (me ≤ 17) × (mg ≤ 66) × (6030 ≤ length (now w)) × (300 ≤ length (now iw)) ⌝ }
-    ensures { λ r. ⌜ told r (solutionIn n mc mg (now (w .exit))) ≡ lsei n mc me mg (stack 426 mc n (now (w .entry))) (vec 714 mc (now (w .entry))) (stack 732 me n (now (w .entry))) (vec 1038 me (now (w .entry))) (stack 1056 mg n (now (w .entry))) (sides 1056 mg n (now (w .entry))) ⌝ }
+    requires { ⌜ (n ≤ 17) × (mc ≤ 16) × (me ≤ 17) × (mg ≤ 66) × (LSEI_ROOM ≤ length (now w)) × (LSEI_WORDS ≤ length (now iw)) ⌝ }
+    ensures { λ r. ⌜ endedSolution r (solutionIn n mc mg (now (w .exit))) ≡ lsei n mc me mg (stack QR_MATRIX mc n (now (w .entry))) (vec LSEI_X mc (now (w .entry))) (stack LSEI_E me n (now (w .entry))) (vec LSEI_F me (now (w .entry))) (stack LSEI_G mg n (now (w .entry))) (sides LSEI_G mg n (now (w .entry))) ⌝ }
 {
-    let rank = lsei::factor_front(w, iw, n, mc, 714);
+    let rank = lsei::factor_front(w, iw, n, mc, LSEI_X);
     if rank < mc {
         return lsei::Ended {
             ending: lsei::Ending::Deficient,
@@ -185,7 +215,13 @@ pub fn solve_lsei(
         };
     }
     reduce(w, iw, n, mc, me, mg);
-    let e = lsei::solve_lsi(&mut w[2244..], &mut iw[18..], n - mc, me, mg);
+    let e = lsei::solve_lsi(
+        &mut w[LSEI_LSI..],
+        &mut iw[LSEI_LSI_WORDS..],
+        n - mc,
+        me,
+        mg,
+    );
     let ending = e.ending;
     let total = lsei::Ended {
         ending,

@@ -1,4 +1,4 @@
--- The blocking column: its ratio, one against the nearest so far, and the loop. Assumes nothing.
+-- The blocking column: its ratio, one against the nearest so far, and the loop.
 use mathlib.Core.Path.{_≡_, refl, sym, ap, _∙_}
 use mathlib.Core.Bool.{Bool, true, false, not, cond, _&&_, true≢false}
 use mathlib.Core.List.{List}
@@ -8,10 +8,10 @@ use lib.Dec.{eqb}
 use lib.Ieee.{Float, nan, inf, fin, lt, isNan, ne}
 use borrow.Author.Tests.{eq-eqb, ne-eqb}
 use Rattle.numbers.specs.Numbers.{+0, at, nth, _⊖_, _⊘_}
-use Rattle.workspace.specs.Readings.{vec, nums}
+use Rattle.workspace.specs.inner.Readings.{vec, nums}
 use Rattle.workspace.proofs.Readings.{at-vec, nth-front}
 use Rattle.nnls.specs.Nnls.{above0, upTo0, ratioOf, ranksBefore, free, block, sooner, blocking}
-use Rattle.nnls.specs.Work.{nearestOf, nearerOf}
+use Rattle.nnls.specs.inner.Work.{nearestOf, nearerOf}
 use Rattle.nnls.specs.declared.Nearest.{Nearest}
 use Rattle.nnls.proofs.Signs.{true→T, and-false}
 use lib.Ieee.Compare.{differs-from-itself, nan-differs}

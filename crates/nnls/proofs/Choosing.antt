@@ -1,4 +1,4 @@
--- The column to try: one against the best so far, and the loop. Assumes nothing.
+-- The column to try: one against the best so far, and the loop.
 use mathlib.Core.Path.{_≡_, refl, sym, ap, _∙_, subst}
 use mathlib.Core.Bool.{Bool, true, false, not, cond, _&&_, true≢false}
 use mathlib.Core.List.{List}
@@ -9,10 +9,10 @@ use lib.Dec.{eqb}
 use lib.Ieee.{Float, lt}
 use borrow.Author.Tests.{eq-eqb, ne-eqb}
 use Rattle.numbers.specs.Numbers.{at, nth}
-use Rattle.workspace.specs.Readings.{vec, nums}
+use Rattle.workspace.specs.inner.Readings.{vec, nums}
 use Rattle.workspace.proofs.Readings.{at-vec, nth-nums, nth-front}
 use Rattle.nnls.specs.Nnls.{above0, beats, choose}
-use Rattle.nnls.specs.Work.{candidateOf, betterOf}
+use Rattle.nnls.specs.inner.Work.{candidateOf, betterOf}
 use Rattle.nnls.proofs.Signs.{and-false}
 use Rattle.nnls.specs.declared.Candidate.{Candidate}
 

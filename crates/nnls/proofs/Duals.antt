@@ -1,4 +1,4 @@
--- The residual and the dual that stand in the workspace are those at x. Assumes nothing.
+-- The residual and the dual that stand in the workspace are those at x.
 use mathlib.Core.Path.{_≡_, refl, sym, ap, ap₂, _∙_}
 use mathlib.Core.List.{List}
 use Prim.Native.Nat.{ℕ, _+_, _*_, _≤_, _<_}
@@ -7,11 +7,11 @@ use lib.ListN.{replicate}
 use lib.Ieee.{Float, nan}
 use Rattle.numbers.specs.Numbers.{at, Σ, _⊖_, _⊗_}
 use Rattle.numbers.proofs.Lists.{getD-tab}
-use Rattle.workspace.specs.Readings.{vec, mat, nums, Block, Span}
+use Rattle.workspace.specs.inner.Readings.{vec, mat, nums, Block, Span}
 use Rattle.workspace.proofs.Readings.{vec-is, at-vec, entry-mat}
 use Rattle.numbers.proofs.Sums.{Σ-same}
 use Rattle.nnls.specs.Nnls.{residual, dualOf}
-use Rattle.nnls.specs.State.{State, read, put}
+use Rattle.nnls.specs.inner.State.{State, read, put}
 use Rattle.nnls.proofs.States.{states, same-a, same-b, same-vec, read-unrejected}
 
 module _ (m n : ℕ) (w w₁ w₂ : List Float) (l : List ℕ) (m18 : m ≤ 18) (n66 : n ≤ 66)

@@ -1,4 +1,4 @@
--- A move: one column, the loop, and the state afterwards. Assumes nothing.
+-- A move: one column, the loop, and the state afterwards.
 use mathlib.Core.Path.{_≡_, refl, ap, _∙_}
 use mathlib.Core.Bool.{true, false}
 use mathlib.Core.List.{List}
@@ -11,12 +11,12 @@ use lib.Seq.{getD-set-same, getD-set-other}
 use lib.Ieee.{Float, nan}
 use borrow.Author.Tests.{eq-eqb, ne-eqb}
 use Rattle.numbers.specs.Numbers.{+0, at, nth, _⊕_, _⊖_, _⊗_}
-use Rattle.workspace.specs.Readings.{vec, nums}
+use Rattle.workspace.specs.inner.Readings.{vec, nums}
 use Rattle.workspace.proofs.Readings.{vec-is, at-vec, nums-is, nth-front}
 use Rattle.numbers.proofs.Cases.{lt-or-ge}
 use Rattle.nnls.specs.Nnls.{upTo0, nextX, nextMark, moveX, moveP, stepTo}
-use Rattle.nnls.specs.State.{read, put}
-use Rattle.nnls.specs.Work.{Moved}
+use Rattle.nnls.specs.inner.State.{read, put}
+use Rattle.nnls.specs.inner.Work.{Moved}
 use Rattle.nnls.proofs.States.{states, same-a, same-b, same-vec, same-marks}
 
 -- ---- one column

@@ -1,4 +1,4 @@
--- The loop of a pass, over states. Assumes nothing.
+-- The loop of a pass, over states.
 use mathlib.Core.Path.{_≡_, refl, sym, ap, ap₂, _∙_, subst}
 use mathlib.Core.Bool.{Bool, true, false, not, cond, _&&_, true≢false}
 use mathlib.Core.List.{List}
@@ -12,8 +12,8 @@ use borrow.Author.Tests.{eqb-true}
 use Rattle.numbers.specs.Numbers.{at, nth}
 use Rattle.nnls_passive.specs.Passive.{isIn}
 use Rattle.nnls.specs.Nnls.{above0, choose, Tried, kept, ended, tries}
-use Rattle.nnls.specs.State.{State, put, solveIn}
-use Rattle.nnls.specs.Work.{TriedColumn, Passed}
+use Rattle.nnls.specs.inner.State.{State, put, solveIn}
+use Rattle.nnls.specs.inner.Work.{TriedColumn, Passed}
 use lib.Ieee.Fits.{and-l}
 use Rattle.nnls.proofs.Picks.{choose-some}
 use Rattle.nnls.proofs.Unroll.{tries-none, tries-out, tries-kept, tries-again}

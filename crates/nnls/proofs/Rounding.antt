@@ -1,19 +1,19 @@
--- One pass, the loop of the rounds, and the whole kernel, over states. Assumes nothing.
+-- One pass, the loop of the rounds, and the whole kernel, over states.
 use mathlib.Core.Path.{_≡_, refl, sym, ap, ap₂, _∙_, subst}
-use mathlib.Core.Bool.{Bool, true, false, not, cond}
+use mathlib.Core.Bool.{Bool, true, false, cond}
 use mathlib.Core.List.{List}
 use Prim.Native.Nat.{ℕ, _+_, _-_, _*_, _≤_, _<_}
 use native.Mathlib.Omega.{arith}
 use lib.ListN.{replicate}
 use lib.Ieee.{Float}
 use Rattle.numbers.specs.Numbers.{+0}
-use Rattle.nnls.specs.Nnls.{kept, ended, tries, Settled, turns, Accepted, accept, pass, rounds, activeSet, nnls}
-use Rattle.nnls.specs.State.{State, put, solveIn, dualIn, answerOf, Rounded}
-use Rattle.nnls.specs.Work.{triedOf, Passed, Turned}
+use Rattle.nnls.specs.Nnls.{kept, ended, tries, Settled, turns, accept, pass, rounds, activeSet, nnls}
+use Rattle.nnls.specs.inner.State.{State, put, solveIn, dualIn, Rounded}
+use Rattle.nnls.specs.inner.Work.{triedOf, Passed, TurnsTaken}
 use Rattle.nnls.proofs.States.{states}
-use Rattle.nnls.specs.Counted.{Counted}
 use Rattle.nnls.specs.declared.Pass.{Pass}
 use Rattle.nnls.specs.declared.Ended.{Ended}
+use Rattle.nnls.specs.declared.Ended.the-variants as Ended
 use Rattle.nnls.proofs.Unroll.{rounds-ended, rounds-last, rounds-again}
 
 -- s has the problem of s₀
@@ -50,9 +50,6 @@ going-none m n k s =
 
 module _ (m n k : ℕ) (s₀ s : State) (past f : ℕ) (n66 : n ≤ 66) (g : Going m n k s₀ s past f) (t : Pass) (s′ : State)
     (P : Passed (pass n (dualIn m n s) (solveIn m n s) (s .x) (s .passive) f) (f + n) t s s′) where
-  goal : Counted Accepted
-  goal = rounds n (dualIn m n s₀) (solveIn m n s₀) k (s₀ .x) (s₀ .passive) 0 0
-
   answer₀ : triedOf t s′ ≡ pass n (dualIn m n s₀) (solveIn m n s₀) (s .x) (s .passive) f
   answer₀ = P .answer ∙ ap (λ (q : State). pass n (dualIn m n q) (solveIn m n q) (s .x) (s .passive) f) (g .after)
 
@@ -71,32 +68,25 @@ module _ (m n k : ℕ) (s₀ s : State) (past f : ℕ) (n66 : n ≤ 66) (g : Goi
   b-same : s′ .b ≡ s₀ .b
   b-same = ap (λ (q : State). q .b) (P .after) ∙ ap (λ (q : State). q .b) (g .after)
 
-  accepted-is : t .kept ≡ false → answerOf (record { accepted = true; rounds = past; factorings = t .factorings }) s′ ≡ goal
-  unfolding goal
-  accepted-is h =
-      ap₂ (λ (x : List Float) (q : List ℕ). accept x q (s′ .rejected) past (t .factorings)) x-same (P .unchanged h)
-      ∙ sym (g .rest ∙ rounds-ended n (dualIn m n s₀) (solveIn m n s₀) (s .x) (s .passive) past f (k - past) (s′ .rejected) (t .factorings) (was-ended h))
-
   pub round-accept : t .kept ≡ false
-      → Rounded (rounds n (dualIn m n s₀) (solveIn m n s₀) k (s₀ .x) (s₀ .passive) 0 0) (record { accepted = true; rounds = past; factorings = t .factorings }) s₀ s′
-  unfolding goal
-  round-accept h = record { answer = accepted-is h; after = same-problem s′ s₀ a-same b-same }
+      → Rounded (rounds n (dualIn m n s₀) (solveIn m n s₀) k (s₀ .x) (s₀ .passive) 0 0) (Ended.Accepted past (t .factorings)) s₀ s′
+  round-accept h = record {
+    answer =
+        ap₂ (λ (x : List Float) (q : List ℕ). accept x q (s′ .rejected) past (t .factorings)) x-same (P .unchanged h)
+        ∙ sym (g .rest ∙ rounds-ended n (dualIn m n s₀) (solveIn m n s₀) (s .x) (s .passive) past f (k - past) (s′ .rejected) (t .factorings) (was-ended h));
+    after = same-problem s′ s₀ a-same b-same;
+  }
 
-  pub round-last : k ≤ past
-      → Rounded (rounds n (dualIn m n s₀) (solveIn m n s₀) k (s₀ .x) (s₀ .passive) 0 0) (record { accepted = not (t .kept); rounds = past; factorings = t .factorings }) s₀ s′
-  unfolding goal
-  round-last l = record { answer = go (t .kept) refl; after = same-problem s′ s₀ a-same b-same }
-    where
-      go : (b : Bool) → t .kept ≡ b → answerOf (record { accepted = not (t .kept); rounds = past; factorings = t .factorings }) s′
-          ≡ rounds n (dualIn m n s₀) (solveIn m n s₀) k (s₀ .x) (s₀ .passive) 0 0
-      go false h = ap (λ (b : Bool). answerOf (record { accepted = not b; rounds = past; factorings = t .factorings }) s′) h ∙ accepted-is h
-      go true h =
-          ap (λ (b : Bool). answerOf (record { accepted = not b; rounds = past; factorings = t .factorings }) s′) h
-          ∙ sym (g .rest ∙ rounds-last n (dualIn m n s₀) (solveIn m n s₀) (s .x) (s .passive) past f (k - past) (s′ .passive) (s′ .z) (t .factorings) (omega arith) (was-kept h))
+  pub round-capped : k ≤ past → t .kept ≡ true
+      → Rounded (rounds n (dualIn m n s₀) (solveIn m n s₀) k (s₀ .x) (s₀ .passive) 0 0) (Ended.Capped past (t .factorings)) s₀ s′
+  round-capped l h = record {
+    answer = sym (g .rest ∙ rounds-last n (dualIn m n s₀) (solveIn m n s₀) (s .x) (s .passive) past f (k - past) (s′ .passive) (s′ .z) (t .factorings) (omega arith) (was-kept h));
+    after = same-problem s′ s₀ a-same b-same;
+  }
 
   -- s₂ after the turns, s₃ with z in x
   pub round-again : t .kept ≡ true → past < k → (f′ : ℕ) (s₂ s₃ : State)
-      → Turned (turns n (solveIn m n s′) n (s′ .x) (s′ .z) (s′ .passive) (t .factorings)) (t .factorings + n) f′ s′ s₂
+      → TurnsTaken (turns n (solveIn m n s′) n (s′ .x) (s′ .z) (s′ .passive) (t .factorings)) (t .factorings + n) f′ s′ s₂
       → s₃ ≡ put (s₂ .z) (s₂ .z) (s₂ .dual) (s₂ .passive) (s₂ .rejected) s₂
       → Going m n k s₀ s₃ (past + 1) f′
   round-again h l f′ s₂ s₃ T′ e =

@@ -1,4 +1,4 @@
--- The state that stands in the workspaces, after a solve, a clearing and a copy. Assumes nothing.
+-- The state that stands in the workspaces, after a solve, a clearing and a copy.
 use mathlib.Core.Path.{_≡_, refl, sym, ap, _∙_}
 use mathlib.Core.Bool.{Bool}
 use mathlib.Core.List.{List}
@@ -8,11 +8,11 @@ use lib.ListN.{length, set, replicate}
 use lib.Ieee.{Float}
 use Rattle.numbers.specs.Numbers.{+0, at, nth, tab}
 use Rattle.numbers.proofs.Lists.{tab-replicate}
-use Rattle.workspace.specs.Readings.{vec, mat, nums, Block, Span}
+use Rattle.workspace.specs.inner.Readings.{vec, mat, nums, Block, Span}
 use Rattle.workspace.proofs.Readings.{vec-is, vec-same, mat-same, nums-same}
 use Rattle.workspace.proofs.Writes.{block-vec, span-nums}
-use Rattle.nnls_passive.specs.Work.{Solves}
-use Rattle.nnls.specs.State.{State, read, put, solveIn}
+use Rattle.nnls_passive.specs.inner.Work.{PassiveSolved}
+use Rattle.nnls.specs.inner.State.{State, read, put, solveIn}
 
 pub states : {a a′ b b′ x x′ z z′ d d′ : List Float} {p p′ r r′ : List ℕ} → a ≡ a′ → b ≡ b′ → x ≡ x′ → z ≡ z′ → d ≡ d′ → p ≡ p′ → r ≡ r′
     → _≡_ {A = State} (record { a = a; b = b; x = x; z = z; dual = d; passive = p; rejected = r }) (record { a = a′; b = b′; x = x′; z = z′; dual = d′; passive = p′; rejected = r′ })
@@ -34,7 +34,7 @@ same-marks n o l l′ n66 h = nums-same o n l l′ (λ i hi. h (o + i) (omega ar
 
 -- ---- a solve
 
-pub read-solve : (m n : ℕ) (r : Bool) (w w′ : List Float) (l l′ : List ℕ) → m ≤ 18 → n ≤ 66 → Solves m n r w w′ l l′
+pub read-solve : (m n : ℕ) (r : Bool) (w w′ : List Float) (l l′ : List ℕ) → m ≤ 18 → n ≤ 66 → PassiveSolved m n r w w′ l l′
     → read m n w′ l′ ≡ put (vec 1206 n w) (solveIn m n (read m n w l) (nums 0 n l) .z) (vec 1338 n w) (nums 0 n l) (nums 66 n l) (read m n w l)
 read-solve m n r w w′ l l′ m18 n66 h =
     states (same-a m n w w′ m18 n66 (λ x a. h .before x (omega arith))) (same-b m n w w′ m18 n66 (λ x a b. h .before x (omega arith)))

@@ -1,4 +1,4 @@
--- Every x on the way is +0, above zero or a NaN, so no ratio has a sign, and the accepted answer is a place on the way. Assumes nothing but what `Solver` asks of the solver.
+-- Every x on the way is +0, above zero or a NaN, so no ratio has a sign, and the accepted answer is a place on the way. It rests on what `Solver` asks of the solver.
 use mathlib.Core.Path.{_≡_, refl, sym, ap, _∙_, subst}
 use mathlib.Core.Logic.{inl, inr}
 use mathlib.Core.Bool.{Bool, true, false, not, cond, _&&_, _||_, true≢false}

@@ -1,4 +1,4 @@
--- A column that was tried: the state where it stays, and where it is turned back. Assumes nothing.
+-- A column that was tried: the state where it stays, and where it is turned back.
 use mathlib.Core.Path.{_≡_, refl, sym, ap, _∙_}
 use mathlib.Core.Bool.{Bool, true, false, _&&_, true≢false}
 use mathlib.Core.List.{List}
@@ -9,16 +9,16 @@ use lib.ListN.{length, set, length-set}
 use lib.Seq.{getD-set-other, set-set, set-getD}
 use lib.Ieee.{Float}
 use Rattle.numbers.specs.Numbers.{at, nth}
-use Rattle.workspace.specs.Readings.{vec, nums}
+use Rattle.workspace.specs.inner.Readings.{vec, nums}
 use Rattle.workspace.proofs.Readings.{at-vec, nums-set, nums-set-front, nth-front}
-use Rattle.nnls_passive.specs.Work.{Solves}
+use Rattle.nnls_passive.specs.inner.Work.{PassiveSolved}
 use Rattle.nnls.specs.Nnls.{above0, keeps}
-use Rattle.nnls.specs.State.{State, read, put, solveIn}
-use Rattle.nnls.specs.Work.{TriedColumn}
+use Rattle.nnls.specs.inner.State.{State, read, put, solveIn}
+use Rattle.nnls.specs.inner.Work.{TriedColumn}
 use Rattle.nnls.proofs.States.{states, same-marks, read-solve}
 
 module _ (m n t : ℕ) (full : Bool) (w w′ : List Float) (l l′ : List ℕ) (m18 : m ≤ 18) (n66 : n ≤ 66) (tn : t < n) (hl : 264 ≤ length l)
-    (h : Solves m n full w w′ (set l t 1) l′) where
+    (h : PassiveSolved m n full w w′ (set l t 1) l′) where
   marks₁ : nums 0 n (set l t 1) ≡ set (nums 0 n l) t 1
   marks₁ = nums-set-front n t l 1 tn (omega arith)
 

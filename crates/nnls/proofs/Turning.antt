@@ -1,11 +1,11 @@
--- The loop of the turns, over states. Assumes nothing.
+-- The loop of the turns, over states.
 use mathlib.Core.Path.{_≡_, refl, sym, ap, ap₂, _∙_}
 use Prim.Native.Nat.{ℕ, _+_, _-_, _≤_, _<_}
 use native.Mathlib.Omega.{arith}
 use lib.Ieee.{Float}
 use Rattle.nnls.specs.Nnls.{free, block, blocking, moveX, moveP, Settled, turns}
-use Rattle.nnls.specs.State.{State, put, solveIn}
-use Rattle.nnls.specs.Work.{Turned}
+use Rattle.nnls.specs.inner.State.{State, put, solveIn}
+use Rattle.nnls.specs.inner.Work.{TurnsTaken}
 use Rattle.nnls.proofs.Unroll.{turns-free, turns-out, turns-again}
 
 -- after `count` turns: the dual and the rejected marks are as they were, and what is left of the turns from here is the whole
@@ -24,7 +24,7 @@ turning-none m n f s =
 
 module _ (m n f : ℕ) (s₀ s : State) (count : ℕ) (g : Turning m n f s₀ s count) where
   turn-end : turns n (solveIn m n s₀) (n - count) (s .x) (s .z) (s .passive) (f + count) ≡ record { x = s .z; passive = s .passive; factorings = f + count }
-      → Turned (turns n (solveIn m n s₀) n (s₀ .x) (s₀ .z) (s₀ .passive) f) (f + n) (f + count) s₀ s
+      → TurnsTaken (turns n (solveIn m n s₀) n (s₀ .x) (s₀ .z) (s₀ .passive) f) (f + n) (f + count) s₀ s
   turn-end e =
       let h = g .rest ∙ e in
       record {
@@ -35,10 +35,10 @@ module _ (m n f : ℕ) (s₀ s : State) (count : ℕ) (g : Turning m n f s₀ s 
         few = let i = g .within in omega arith;
       }
 
-  pub turn-free : blocking (s .x) (s .z) (s .passive) n ≡ free → Turned (turns n (solveIn m n s₀) n (s₀ .x) (s₀ .z) (s₀ .passive) f) (f + n) (f + count) s₀ s
+  pub turn-free : blocking (s .x) (s .z) (s .passive) n ≡ free → TurnsTaken (turns n (solveIn m n s₀) n (s₀ .x) (s₀ .z) (s₀ .passive) f) (f + n) (f + count) s₀ s
   turn-free e = turn-end (turns-free n (solveIn m n s₀) (s .x) (s .z) (s .passive) (f + count) (n - count) e)
 
-  pub turn-out : n ≤ count → Turned (turns n (solveIn m n s₀) n (s₀ .x) (s₀ .z) (s₀ .passive) f) (f + n) (f + count) s₀ s
+  pub turn-out : n ≤ count → TurnsTaken (turns n (solveIn m n s₀) n (s₀ .x) (s₀ .z) (s₀ .passive) f) (f + n) (f + count) s₀ s
   turn-out l = turn-end (turns-out n (solveIn m n s₀) (s .x) (s .z) (s .passive) (f + count) (n - count) (omega arith))
 
   -- s₁ is s moved, s₂ with the solve

@@ -1,4 +1,4 @@
--- One step of each loop of the definition, as equations: what the kernel's loops go by. Assumes nothing.
+-- One step of each loop of the definition, as equations: what the kernel's loops go by.
 use mathlib.Core.Path.{_≡_, refl, ap, _∙_}
 use mathlib.Core.Bool.{Bool, true, false}
 use mathlib.Core.List.{List}

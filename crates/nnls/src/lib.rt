@@ -1,16 +1,13 @@
 // Nonnegative least squares in one part of each workspace.
-//
-// f64: column j of A at 18 j, b at 1188, x at 1206, z at 1272, the dual at 1338, the residual at
-// 1404, a QR part from 1422 to 3036. u32: the passive marks at 0, the rejected at 66, the columns to
-// solve on at 132, the QR part from 198 to 264.
 ghost use mathlib.Core.Path.{_≡_};
 ghost use Prim.Native.Nat.{ℕ, _+_, _*_, _<_, _≤_};
 ghost use lib.ListN.{length};
 ghost use Rattle.numbers.specs.Numbers.{Σ, at, nth, _⊖_, _⊗_};
-ghost use Rattle.workspace.specs.Readings.{vec, mat, nums, Block};
+ghost use Rattle.workspace.specs.inner.Readings.{vec, mat, nums, Block};
 ghost use Rattle.nnls.specs.Nnls as Nnls;
-ghost use Rattle.nnls.specs.State.{read, solveIn, dualIn, Rounded};
-ghost use Rattle.nnls.specs.Work.{betterOf, trialOf, nearerOf, blockOf, Moved, TriedColumn, Passed, Turned};
+ghost use Rattle.nnls.specs.inner.State.{read, solveIn, dualIn, Rounded};
+ghost use Rattle.nnls.specs.inner.Work.{betterOf, trialOf, nearerOf, blockOf, Moved, TriedColumn, Passed, TurnsTaken};
+ghost use Rattle.nnls_passive.specs.inner.Places.{NNLS_DUAL, NNLS_REJECTED, NNLS_RESIDUAL, NNLS_ROOM, NNLS_SIDE, NNLS_WORDS, NNLS_X, NNLS_Z};
 
 // ---- which column to try
 
@@ -54,8 +51,8 @@ fn better(best: Candidate, j: usize, dual: f64, passive: u32, rejected: u32) -> 
 
 // The column of largest dual among those that may be tried, the last of equals.
 fn choose(w: &[f64], iw: &[u32], n: usize) -> Trial
-    requires { ⌜ (n ≤ 66) × (3036 ≤ length (now w)) × (264 ≤ length (now iw)) ⌝ }
-    ensures { λ r. ⌜ trialOf r ≡ Nnls.choose (vec 1338 n (now (w .entry))) (nums 0 n (now (iw .entry))) (nums 66 n (now (iw .entry))) n ⌝ }
+    requires { ⌜ (n ≤ 66) × (NNLS_ROOM ≤ length (now w)) × (NNLS_WORDS ≤ length (now iw)) ⌝ }
+    ensures { λ r. ⌜ trialOf r ≡ Nnls.choose (vec NNLS_DUAL n (now (w .entry))) (nums 0 n (now (iw .entry))) (nums NNLS_REJECTED n (now (iw .entry))) n ⌝ }
 {
     let mut best = Candidate {
         index: 0,
@@ -63,7 +60,13 @@ fn choose(w: &[f64], iw: &[u32], n: usize) -> Trial
         any: false,
     };
     for j in 0..n {
-        best = better(best, j, w[1338 + j], iw[j], iw[66 + j]);
+        best = better(
+            best,
+            j,
+            w[nnls_passive::NNLS_DUAL + j],
+            iw[j],
+            iw[nnls_passive::NNLS_REJECTED + j],
+        );
     }
     if best.any {
         Trial::Column(best.index)
@@ -134,8 +137,8 @@ fn nearer(best: Nearest, j: usize, x: f64, z: f64, passive: u32) -> Nearest
 
 // The passive column with a trial value <= 0 whose ratio is smallest, the first of equals.
 fn blocking(w: &[f64], iw: &[u32], n: usize) -> Blocker
-    requires { ⌜ (n ≤ 66) × (3036 ≤ length (now w)) × (264 ≤ length (now iw)) ⌝ }
-    ensures { λ r. ⌜ blockOf r ≡ Nnls.blocking (vec 1206 n (now (w .entry))) (vec 1272 n (now (w .entry))) (nums 0 n (now (iw .entry))) n ⌝ }
+    requires { ⌜ (n ≤ 66) × (NNLS_ROOM ≤ length (now w)) × (NNLS_WORDS ≤ length (now iw)) ⌝ }
+    ensures { λ r. ⌜ blockOf r ≡ Nnls.blocking (vec NNLS_X n (now (w .entry))) (vec NNLS_Z n (now (w .entry))) (nums 0 n (now (iw .entry))) n ⌝ }
 {
     let mut best = Nearest {
         index: 0,
@@ -143,7 +146,13 @@ fn blocking(w: &[f64], iw: &[u32], n: usize) -> Blocker
         any: false,
     };
     for j in 0..n {
-        best = nearer(best, j, w[1206 + j], w[1272 + j], iw[j]);
+        best = nearer(
+            best,
+            j,
+            w[nnls_passive::NNLS_X + j],
+            w[nnls_passive::NNLS_Z + j],
+            iw[j],
+        );
     }
     if best.any {
         Blocker::At(best.index, best.ratio)
@@ -179,12 +188,19 @@ fn move_one(q: usize, j: usize, ratio: f64, x: f64, z: f64, mark: u32) -> Next
 
 // Each passive column moved; column q and those that come to <= 0 leave.
 fn move_all(w: &mut [f64], iw: &mut [u32], n: usize, q: usize, ratio: f64)
-    requires { ⌜ (n ≤ 66) × (3036 ≤ length (now w)) × (264 ≤ length (now iw)) ⌝ }
+    requires { ⌜ (n ≤ 66) × (NNLS_ROOM ≤ length (now w)) × (NNLS_WORDS ≤ length (now iw)) ⌝ }
     ensures { λ _. ⌜ Moved n q ratio (now (w .entry)) (now (w .exit)) (now (iw .entry)) (now (iw .exit)) ⌝ }
 {
     for j in 0..n {
-        let next = move_one(q, j, ratio, w[1206 + j], w[1272 + j], iw[j]);
-        w[1206 + j] = next.x;
+        let next = move_one(
+            q,
+            j,
+            ratio,
+            w[nnls_passive::NNLS_X + j],
+            w[nnls_passive::NNLS_Z + j],
+            iw[j],
+        );
+        w[nnls_passive::NNLS_X + j] = next.x;
         iw[j] = next.mark;
     }
 }
@@ -193,32 +209,32 @@ fn move_all(w: &mut [f64], iw: &mut [u32], n: usize, q: usize, ratio: f64)
 
 // Entry i of b - A x.
 fn residual_at(w: &[f64], i: usize, n: usize) -> f64
-    requires { ⌜ (i < 18) × (n ≤ 66) × (3036 ≤ length (now w)) ⌝ }
-    ensures { λ r. ⌜ r ≡ at (now (w .entry)) (1188 + i) ⊖ Σ n (λ j. at (now (w .entry)) (i + j * 18) ⊗ at (now (w .entry)) (1206 + j * 1)) ⌝ }
+    requires { ⌜ (i < 18) × (n ≤ 66) × (NNLS_ROOM ≤ length (now w)) ⌝ }
+    ensures { λ r. ⌜ r ≡ at (now (w .entry)) (NNLS_SIDE + i) ⊖ Σ n (λ j. at (now (w .entry)) (i + j * 18) ⊗ at (now (w .entry)) (NNLS_X + j * 1)) ⌝ }
 {
-    let t = numbers::dot_strided(w, i, 18, w, 1206, 1, n);
-    w[1188 + i] - t
+    let t = numbers::dot_strided(w, i, 18, w, nnls_passive::NNLS_X, 1, n);
+    w[nnls_passive::NNLS_SIDE + i] - t
 }
 
-// b - A x, to 1404 on.
+// b - A x, the residual.
 fn write_residual(w: &mut [f64], m: usize, n: usize)
-    requires { ⌜ (m ≤ 18) × (n ≤ 66) × (3036 ≤ length (now w)) ⌝ }
-    ensures { λ _. ⌜ Block 1404 m (λ i. at (now (w .entry)) (1188 + i) ⊖ Σ n (λ j. at (now (w .entry)) (i + j * 18) ⊗ at (now (w .entry)) (1206 + j * 1))) (now (w .entry)) (now (w .exit)) ⌝ }
+    requires { ⌜ (m ≤ 18) × (n ≤ 66) × (NNLS_ROOM ≤ length (now w)) ⌝ }
+    ensures { λ _. ⌜ Block NNLS_RESIDUAL m (λ i. at (now (w .entry)) (NNLS_SIDE + i) ⊖ Σ n (λ j. at (now (w .entry)) (i + j * 18) ⊗ at (now (w .entry)) (NNLS_X + j * 1))) (now (w .entry)) (now (w .exit)) ⌝ }
 {
     for i in 0..m {
         let v = residual_at(w, i, n);
-        w[1404 + i] = v;
+        w[nnls_passive::NNLS_RESIDUAL + i] = v;
     }
 }
 
-// A' times the residual, to 1338 on.
+// A' times the residual, the dual.
 fn write_dual(w: &mut [f64], m: usize, n: usize)
-    requires { ⌜ (m ≤ 18) × (n ≤ 66) × (3036 ≤ length (now w)) ⌝ }
-    ensures { λ _. ⌜ Block 1338 n (λ j. Σ m (λ i. at (now (w .entry)) (j * 18 + i) ⊗ at (now (w .entry)) (1404 + i))) (now (w .entry)) (now (w .exit)) ⌝ }
+    requires { ⌜ (m ≤ 18) × (n ≤ 66) × (NNLS_ROOM ≤ length (now w)) ⌝ }
+    ensures { λ _. ⌜ Block NNLS_DUAL n (λ j. Σ m (λ i. at (now (w .entry)) (j * 18 + i) ⊗ at (now (w .entry)) (NNLS_RESIDUAL + i))) (now (w .entry)) (now (w .exit)) ⌝ }
 {
     for j in 0..n {
-        let v = numbers::dot_within(w, j * 18, 1404, m);
-        w[1338 + j] = v;
+        let v = numbers::dot_within(w, j * 18, nnls_passive::NNLS_RESIDUAL, m);
+        w[nnls_passive::NNLS_DUAL + j] = v;
     }
 }
 
@@ -226,18 +242,18 @@ fn write_dual(w: &mut [f64], m: usize, n: usize)
 
 // Tries column t: it stays among the passive, and the answer is true; or it is turned back and marked.
 fn try_column(w: &mut [f64], iw: &mut [u32], m: usize, n: usize, t: usize) -> bool
-    requires { ⌜ (m ≤ 18) × (n ≤ 66) × (t < n) × (3036 ≤ length (now w)) × (264 ≤ length (now iw)) × (nth (now iw) t ≡ 0) ⌝ }
+    requires { ⌜ (m ≤ 18) × (n ≤ 66) × (t < n) × (NNLS_ROOM ≤ length (now w)) × (NNLS_WORDS ≤ length (now iw)) × (nth (now iw) t ≡ 0) ⌝ }
     ensures { λ r. ⌜ TriedColumn m n t r (read m n (now (w .entry)) (now (iw .entry))) (read m n (now (w .exit)) (now (iw .exit))) ⌝ }
 {
     iw[t] = 1;
     let full = nnls_passive::solve_passive(w, iw, m, n);
     if full {
-        if w[1272 + t] > 0.0 {
+        if w[nnls_passive::NNLS_Z + t] > 0.0 {
             return true;
         }
     }
     iw[t] = 0;
-    iw[66 + t] = 1;
+    iw[nnls_passive::NNLS_REJECTED + t] = 1;
     false
 }
 
@@ -249,8 +265,8 @@ pub struct Pass {
 
 // Tries columns until one is kept or none is left.
 fn try_all(w: &mut [f64], iw: &mut [u32], m: usize, n: usize, f: usize) -> Pass
-    requires { ⌜ (m ≤ 18) × (n ≤ 66) × (3036 ≤ length (now w)) × (264 ≤ length (now iw)) × (f ≤ 1000000) ⌝ }
-    ensures { λ r. ⌜ Passed (Nnls.tries n (solveIn m n (read m n (now (w .entry)) (now (iw .entry)))) n (vec 1338 n (now (w .entry))) (nums 0 n (now (iw .entry))) (nums 66 n (now (iw .entry))) f)
+    requires { ⌜ (m ≤ 18) × (n ≤ 66) × (NNLS_ROOM ≤ length (now w)) × (NNLS_WORDS ≤ length (now iw)) × (f ≤ 1000000) ⌝ }
+    ensures { λ r. ⌜ Passed (Nnls.tries n (solveIn m n (read m n (now (w .entry)) (now (iw .entry)))) n (vec NNLS_DUAL n (now (w .entry))) (nums 0 n (now (iw .entry))) (nums NNLS_REJECTED n (now (iw .entry))) f)
         (f + n) r (read m n (now (w .entry)) (now (iw .entry))) (read m n (now (w .exit)) (now (iw .exit))) ⌝ }
 {
     let mut count = 0usize;
@@ -279,13 +295,13 @@ fn try_all(w: &mut [f64], iw: &mut [u32], m: usize, n: usize, f: usize) -> Pass
 
 // One pass: the dual at x, no column rejected, and the tries.
 fn one_pass(w: &mut [f64], iw: &mut [u32], m: usize, n: usize, f: usize) -> Pass
-    requires { ⌜ (m ≤ 18) × (n ≤ 66) × (3036 ≤ length (now w)) × (264 ≤ length (now iw)) × (f ≤ 1000000) ⌝ }
-    ensures { λ r. ⌜ Passed (Nnls.pass n (dualIn m n (read m n (now (w .entry)) (now (iw .entry)))) (solveIn m n (read m n (now (w .entry)) (now (iw .entry)))) (vec 1206 n (now (w .entry))) (nums 0 n (now (iw .entry))) f)
+    requires { ⌜ (m ≤ 18) × (n ≤ 66) × (NNLS_ROOM ≤ length (now w)) × (NNLS_WORDS ≤ length (now iw)) × (f ≤ 1000000) ⌝ }
+    ensures { λ r. ⌜ Passed (Nnls.pass n (dualIn m n (read m n (now (w .entry)) (now (iw .entry)))) (solveIn m n (read m n (now (w .entry)) (now (iw .entry)))) (vec NNLS_X n (now (w .entry))) (nums 0 n (now (iw .entry))) f)
         (f + n) r (read m n (now (w .entry)) (now (iw .entry))) (read m n (now (w .exit)) (now (iw .exit))) ⌝ }
 {
     write_residual(w, m, n);
     write_dual(w, m, n);
-    workspace::blank_words(iw, 66, n);
+    workspace::blank_words(iw, nnls_passive::NNLS_REJECTED, n);
     try_all(w, iw, m, n, f)
 }
 
@@ -293,8 +309,8 @@ fn one_pass(w: &mut [f64], iw: &mut [u32], m: usize, n: usize, f: usize) -> Pass
 
 // Moves, lets columns leave and solves again until none blocks. The answer is the factorings so far.
 fn turn_all(w: &mut [f64], iw: &mut [u32], m: usize, n: usize, f: usize) -> usize
-    requires { ⌜ (m ≤ 18) × (n ≤ 66) × (3036 ≤ length (now w)) × (264 ≤ length (now iw)) × (f ≤ 1000000) ⌝ }
-    ensures { λ r. ⌜ Turned (Nnls.turns n (solveIn m n (read m n (now (w .entry)) (now (iw .entry)))) n (vec 1206 n (now (w .entry))) (vec 1272 n (now (w .entry))) (nums 0 n (now (iw .entry))) f)
+    requires { ⌜ (m ≤ 18) × (n ≤ 66) × (NNLS_ROOM ≤ length (now w)) × (NNLS_WORDS ≤ length (now iw)) × (f ≤ 1000000) ⌝ }
+    ensures { λ r. ⌜ TurnsTaken (Nnls.turns n (solveIn m n (read m n (now (w .entry)) (now (iw .entry)))) n (vec NNLS_X n (now (w .entry))) (vec NNLS_Z n (now (w .entry))) (nums 0 n (now (iw .entry))) f)
         (f + n) r (read m n (now (w .entry)) (now (iw .entry))) (read m n (now (w .exit)) (now (iw .exit))) ⌝ }
 {
     let mut count = 0usize;
@@ -312,17 +328,16 @@ fn turn_all(w: &mut [f64], iw: &mut [u32], m: usize, n: usize, f: usize) -> usiz
 
 // ---- the rounds
 
-// How the rounds ended: accepted or not, with the counts.
-pub struct Ended {
-    pub accepted: bool,
-    pub rounds: usize,
-    pub factorings: usize,
+// How the rounds ended, accepted or at their limit, with the rounds and the factorings that were taken.
+pub enum Ended {
+    Accepted(usize, usize),
+    Capped(usize, usize),
 }
 
 // Rounds, at most k, from x and the passive marks on.
 fn run_rounds(w: &mut [f64], iw: &mut [u32], m: usize, n: usize, k: usize) -> Ended
-    requires { ⌜ (m ≤ 18) × (n ≤ 66) × (3036 ≤ length (now w)) × (264 ≤ length (now iw)) × (k ≤ 198) ⌝ }
-    ensures { λ r. ⌜ Rounded (Nnls.rounds n (dualIn m n (read m n (now (w .entry)) (now (iw .entry)))) (solveIn m n (read m n (now (w .entry)) (now (iw .entry)))) k (vec 1206 n (now (w .entry))) (nums 0 n (now (iw .entry))) 0 0)
+    requires { ⌜ (m ≤ 18) × (n ≤ 66) × (NNLS_ROOM ≤ length (now w)) × (NNLS_WORDS ≤ length (now iw)) × (k ≤ 198) ⌝ }
+    ensures { λ r. ⌜ Rounded (Nnls.rounds n (dualIn m n (read m n (now (w .entry)) (now (iw .entry)))) (solveIn m n (read m n (now (w .entry)) (now (iw .entry)))) k (vec NNLS_X n (now (w .entry))) (nums 0 n (now (iw .entry))) 0 0)
         r (read m n (now (w .entry)) (now (iw .entry))) (read m n (now (w .exit)) (now (iw .exit))) ⌝ }
 {
     let mut past = 0usize;
@@ -331,32 +346,27 @@ fn run_rounds(w: &mut [f64], iw: &mut [u32], m: usize, n: usize, k: usize) -> En
         let pass = one_pass(w, iw, m, n, f);
         let g = pass.factorings;
         if !pass.kept {
-            return Ended {
-                accepted: true,
-                rounds: past,
-                factorings: g,
-            };
+            return Ended::Accepted(past, g);
         }
         f = turn_all(w, iw, m, n, g);
-        workspace::copy_down(w, 1272, 1206, n);
+        workspace::copy_down(w, nnls_passive::NNLS_Z, nnls_passive::NNLS_X, n);
         past += 1;
     }
     let pass = one_pass(w, iw, m, n, f);
     let g = pass.factorings;
-    Ended {
-        accepted: !pass.kept,
-        rounds: past,
-        factorings: g,
+    if pass.kept {
+        return Ended::Capped(past, g);
     }
+    Ended::Accepted(past, g)
 }
 
 // Nonnegative least squares of the A and b in the workspace, with k rounds allowed; both stay.
 pub fn solve_in(w: &mut [f64], iw: &mut [u32], m: usize, n: usize, k: usize) -> Ended
-    requires { ⌜ (m ≤ 18) × (n ≤ 66) × (3036 ≤ length (now w)) × (264 ≤ length (now iw)) × (k ≤ 198) ⌝ }
-    ensures { λ r. ⌜ Rounded (Nnls.nnls m n (mat 0 m n (now (w .entry))) (vec 1188 m (now (w .entry))) k)
+    requires { ⌜ (m ≤ 18) × (n ≤ 66) × (NNLS_ROOM ≤ length (now w)) × (NNLS_WORDS ≤ length (now iw)) × (k ≤ 198) ⌝ }
+    ensures { λ r. ⌜ Rounded (Nnls.nnls m n (mat 0 m n (now (w .entry))) (vec NNLS_SIDE m (now (w .entry))) k)
         r (read m n (now (w .entry)) (now (iw .entry))) (read m n (now (w .exit)) (now (iw .exit))) ⌝ }
 {
-    workspace::blank(w, 1206, n);
+    workspace::blank(w, nnls_passive::NNLS_X, n);
     workspace::blank_words(iw, 0, n);
     run_rounds(w, iw, m, n, k)
 }

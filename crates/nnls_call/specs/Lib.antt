@@ -1,2 +1,3 @@
 -- How the public answer reads as docs/RULES.md's numbers and values. Definitions only.
-pub mod Outcomes
+pub mod Promise
+pub mod Claims

@@ -4,27 +4,24 @@ ghost use mathlib.Core.Bool.{_&&_};
 ghost use Prim.Native.Nat.{ℕ, _+_, _*_, _≤_};
 ghost use lib.Dec.{leb, eqb};
 ghost use lib.ListN.{length};
-ghost use Rattle.workspace.specs.Tables.{isDual};
+ghost use Rattle.workspace.specs.Tables.{isMatrix};
 ghost use Rattle.nnls.specs.Nnls as Definition;
-ghost use Rattle.nnls.specs.State.{read, answerOf};
-ghost use Rattle.nnls.specs.Promise as Promise;
-ghost use Rattle.nnls_call.specs.Outcomes.{numberOf, roundsOf, factoringsOf};
+ghost use Rattle.nnls.specs.inner.State.{read, endedAnswer};
+ghost use Rattle.nnls_call.specs.Promise as Promise;
+ghost use Rattle.nnls_passive.specs.inner.Places.{NNLS_ROOM, NNLS_WORDS};
+use workspace::Refusal;
 
-// What a call answers: done, with rounds and factorings; a size or k outside the table; a wrong
-// length; a workspace too short; or a round past the limit.
+// What a call answers: its rounds and factorings, or why it is refused.
 pub enum Outcome {
     Done(usize, usize),
-    Size,
-    Length,
-    Room,
-    Capped,
+    Refused(Refusal),
 }
 
 // The sizes, and k within three rounds a column.
 fn is_problem(m: usize, n: usize, k: usize) -> bool
-    ensures { λ r. ⌜ r ≡ (isDual m n && leb k (3 * n)) ⌝ }
+    ensures { λ r. ⌜ r ≡ (isMatrix m n && leb k (3 * n)) ⌝ }
 {
-    if !workspace::is_dual(m, n) {
+    if !workspace::is_matrix(m, n) {
         return false;
     }
     k <= 3 * n
@@ -44,7 +41,7 @@ fn are_lengths(m: usize, n: usize, a: usize, b: usize, x: usize) -> bool
     x == n
 }
 
-// Loads A and b and runs the kernel; the answer's x stands at 1206.
+// Loads A and b and runs the kernel; the answer's x stands in the part.
 fn run(
     a: &[f64],
     b: &[f64],
@@ -54,11 +51,11 @@ fn run(
     n: usize,
     k: usize,
 ) -> nnls::Ended
-    requires { ⌜ (m ≤ 18) × (n ≤ 66) × (k ≤ 198) × (length (now a) ≡ m * n) × (length (now b) ≡ m) × (3036 ≤ length (now w)) × (264 ≤ length (now iw)) ⌝ }
-    ensures { λ e. ⌜ answerOf e (read m n (now (w .exit)) (now (iw .exit))) ≡ Definition.nnls m n (now (a .entry)) (now (b .entry)) k ⌝ }
+    requires { ⌜ (m ≤ 18) × (n ≤ 66) × (k ≤ 198) × (length (now a) ≡ m * n) × (length (now b) ≡ m) × (NNLS_ROOM ≤ length (now w)) × (NNLS_WORDS ≤ length (now iw)) ⌝ }
+    ensures { λ e. ⌜ endedAnswer e (read m n (now (w .exit)) (now (iw .exit))) ≡ Definition.nnls m n (now (a .entry)) (now (b .entry)) k ⌝ }
 {
     workspace::load_matrix(a, w, 0, m, n);
-    workspace::load(b, w, 1188, m);
+    workspace::load(b, w, nnls_passive::NNLS_SIDE, m);
     nnls::solve_in(w, iw, m, n, k)
 }
 
@@ -74,17 +71,16 @@ fn solve_all(
     k: usize,
 ) -> Outcome
     requires { ⌜ (m ≤ 18) × (n ≤ 66) × (k ≤ 198) × (length (now a) ≡ m * n) × (length (now b) ≡ m) × (length (now x) ≡ n) × (8192 ≤ length (now w)) × (512 ≤ length (now iw)) ⌝ }
-    ensures { λ r. ⌜ Promise.Nnls (Promise.tell (Definition.nnls m n (now (a .entry)) (now (b .entry)) k)) (numberOf r) (roundsOf r) (factoringsOf r)
-        (now (x .entry)) (now (x .exit)) (now (w .entry)) (now (w .exit)) (now (iw .entry)) (now (iw .exit)) ⌝ }
+    ensures { λ r. ⌜ Promise.Nnls (Promise.tell (Definition.nnls m n (now (a .entry)) (now (b .entry)) k)) r (now (x .entry)) (now (x .exit)) (now (w .entry)) (now (w .exit)) (now (iw .entry)) (now (iw .exit)) ⌝ }
 {
     let ended = run(a, b, &mut w[..8192], &mut iw[..512], m, n, k);
-    if !ended.accepted {
+    let nnls::Ended::Accepted(rounds, factorings) = ended else {
         workspace::clear(w, iw);
-        return Outcome::Capped;
-    }
-    workspace::unload(w, x, 1206, n);
+        return Outcome::Refused(Refusal::Capped);
+    };
+    workspace::unload(w, x, nnls_passive::NNLS_X, n);
     workspace::clear(w, iw);
-    Outcome::Done(ended.rounds, ended.factorings)
+    Outcome::Done(rounds, factorings)
 }
 
 // The solver.
@@ -102,17 +98,16 @@ impl Nnls {
         w: &mut [f64],
         iw: &mut [u32],
     ) -> Outcome
-        ensures { λ r. ⌜ Promise.Nnls (Promise.nnlsCall m n k (now (a .entry)) (now (b .entry)) (now (x .entry)) (now (w .entry)) (now (iw .entry))) (numberOf r) (roundsOf r) (factoringsOf r)
-            (now (x .entry)) (now (x .exit)) (now (w .entry)) (now (w .exit)) (now (iw .entry)) (now (iw .exit)) ⌝ }
+        ensures { λ r. ⌜ Promise.Nnls (Promise.nnlsCall m n k (now (a .entry)) (now (b .entry)) (now (x .entry)) (now (w .entry)) (now (iw .entry))) r (now (x .entry)) (now (x .exit)) (now (w .entry)) (now (w .exit)) (now (iw .entry)) (now (iw .exit)) ⌝ }
     {
         if !is_problem(m, n, k) {
-            return Outcome::Size;
+            return Outcome::Refused(Refusal::Size);
         }
         if !are_lengths(m, n, a.len(), b.len(), x.len()) {
-            return Outcome::Length;
+            return Outcome::Refused(Refusal::Length);
         }
         if !workspace::is_room(w.len(), iw.len()) {
-            return Outcome::Room;
+            return Outcome::Refused(Refusal::Room);
         }
         solve_all(a, b, x, w, iw, m, n, k)
     }

@@ -1,4 +1,4 @@
--- The loop that copies the listed columns side by side. Assumes nothing.
+-- The loop that copies the listed columns side by side.
 use mathlib.Core.Path.{_≡_, refl, sym, ap, _∙_}
 use mathlib.Core.List.{List}
 use mathlib.Core.Logic.{⊎-elim}
@@ -7,9 +7,9 @@ use native.Mathlib.Omega.{arith}
 use lib.Ieee.{Float}
 use Rattle.numbers.specs.Numbers.{at, nth, entry, grid}
 use Rattle.numbers.proofs.Cases.{lt-or-ge}
-use Rattle.workspace.specs.Readings.{mat, Block}
+use Rattle.workspace.specs.inner.Readings.{mat, Block}
 use Rattle.workspace.proofs.Readings.{mat-is, entry-mat}
-use Rattle.nnls_passive.specs.Work.{Collected}
+use Rattle.nnls_passive.specs.inner.Work.{Collected}
 
 pub collected-none : (m : ℕ) (l : List ℕ) (w : List Float) → Collected m 0 l w w
 collected-none m l w = record { copied = λ t i h. absurd (omega arith); front = λ x h. refl }

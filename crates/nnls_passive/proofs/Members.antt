@@ -1,4 +1,4 @@
--- The marked columns, and the loop that lists them. Assumes nothing.
+-- The marked columns, and the loop that lists them.
 use mathlib.Core.Path.{_≡_, refl, sym, ap, _∙_}
 use mathlib.Core.Bool.{Bool, true, false, not, cond}
 use mathlib.Core.List.{List, [], _∷_, _++_}
@@ -12,7 +12,7 @@ use lib.Seq.{getD-set-same, getD-set-other, getD-append-add}
 use Rattle.numbers.specs.Numbers.{nth}
 use Rattle.numbers.proofs.Cases.{lt-or-ge}
 use Rattle.nnls_passive.specs.Passive.{isIn, members}
-use Rattle.nnls_passive.specs.Work.{Listed}
+use Rattle.nnls_passive.specs.inner.Work.{Listed}
 
 -- ---- members
 

@@ -1,4 +1,4 @@
--- The QR part, lent and back: the factors, and the solution for b. Assumes nothing.
+-- The QR part, lent and back: the factors, and the solution for b.
 use mathlib.Core.Path.{_≡_, refl, sym, ap, ap₂, _∙_}
 use mathlib.Core.List.{List}
 use Prim.Native.Nat.{ℕ, _+_, _-_, _≤_}
@@ -8,18 +8,18 @@ use lib.Seq.{getD-drop}
 use lib.Ieee.{Float, nan}
 use borrow.Rule.Slice.PartMut.{midOf, putMid}
 use Rattle.numbers.specs.Numbers.{at}
-use Rattle.workspace.specs.Readings.{vec, mat, Block}
+use Rattle.workspace.specs.inner.Readings.{vec, mat, Block}
 use Rattle.workspace.proofs.Readings.{vec-is, vec-part, mat-part}
 use Rattle.workspace.proofs.Writes.{block-vec}
 use Rattle.workspace.proofs.Parts.{lent-is, back-part, back-get}
 use Rattle.householder.specs.Qr.{factor, solve}
-use Rattle.householder.specs.Work.{held}
+use Rattle.householder.specs.inner.Work.{held}
 use Rattle.householder.proofs.Held.{held-same}
-use Rattle.nnls_passive.specs.Work.{Factored, SolvedPart}
+use Rattle.nnls_passive.specs.inner.Work.{PartFactored, SolvedPart}
 
 pub factored-is : (m c k : ℕ) (w v : List Float) (l u : List ℕ) → 1422 ≤ length w → 198 ≤ length l
     → held m c k v u ≡ factor m c (mat 426 m c (midOf 1422 (length w - 1422) w))
-    → Factored m c k w (putMid 1422 (length w - 1422) w v) l (putMid 198 (length l - 198) l u)
+    → PartFactored m c k w (putMid 1422 (length w - 1422) w v) l (putMid 198 (length l - 198) l u)
 factored-is m c k w v l u hw hl e = record {
   factors =
       rw (back-part 1422 w v hw, back-part 198 l u hl)

@@ -1,4 +1,4 @@
--- The loop that puts the solution into z. Assumes nothing.
+-- The loop that puts the solution into z.
 use mathlib.Core.Path.{refl, sym, ap₂, _∙_}
 use mathlib.Core.List.{List}
 use Prim.Native.Nat.{ℕ, _+_, _≤_, _<_}
@@ -9,7 +9,7 @@ use lib.Seq.{getD-set-other}
 use lib.Ieee.{Float, nan}
 use Rattle.numbers.specs.Numbers.{at, nth, scatter}
 use Rattle.workspace.proofs.Readings.{at-vec, vec-set, nth-nums}
-use Rattle.nnls_passive.specs.Work.{Spread}
+use Rattle.nnls_passive.specs.inner.Work.{Spread}
 
 pub spread-none : (n c : ℕ) (l : List ℕ) (w : List Float) → Spread n 0 c l w w
 unfolding scatter

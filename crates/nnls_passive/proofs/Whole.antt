@@ -1,4 +1,4 @@
--- The whole solve, of its steps. Assumes nothing.
+-- The whole solve, of its steps.
 use mathlib.Core.Path.{_≡_, refl, ap, _∙_}
 use mathlib.Core.Bool.{Bool}
 use mathlib.Core.List.{List}
@@ -10,18 +10,18 @@ use lib.ListN.{drop, replicate}
 use lib.Ieee.{Float}
 use Rattle.numbers.specs.Numbers.{+0, at, nth, scatter, entry, grid}
 use Rattle.numbers.proofs.Lists.{tab-replicate, scatter-same}
-use Rattle.workspace.specs.Readings.{vec, mat, nums, Block}
+use Rattle.workspace.specs.inner.Readings.{vec, mat, nums, Block}
 use Rattle.workspace.proofs.Readings.{vec-same, length-mat, nth-nums}
 use Rattle.workspace.proofs.Writes.{block-vec}
 use Rattle.householder.specs.Qr.{Factors, factor, solve}
 use Rattle.householder.proofs.Held.{held-rank, held-below}
 use Rattle.nnls_passive.specs.Passive.{members, solveOf}
-use Rattle.nnls_passive.specs.Work.{Listed, Collected, Factored, SolvedPart, Spread, Solves}
+use Rattle.nnls_passive.specs.inner.Work.{Listed, Collected, PartFactored, SolvedPart, Spread, PassiveSolved}
 use Rattle.nnls_passive.proofs.Members.{members-same, members-all, listed-most}
 use Rattle.nnls_passive.proofs.Columns.{collected-mat}
 
 -- what a rank and a permutation in the QR part are
-module _ (m c k : ℕ) (w w′ : List Float) (l l′ : List ℕ) (f : Factored m c k w w′ l l′) where
+module _ (m c k : ℕ) (w w′ : List Float) (l l′ : List ℕ) (f : PartFactored m c k w w′ l l′) where
   pub rank-most : k ≤ min m c
   rank-most = held-rank m c k (drop 1422 w′) (drop 198 l′) (mat 1848 m c w) (length-mat 1848 m c w) (f .factors)
 
@@ -29,7 +29,7 @@ module _ (m c k : ℕ) (w w′ : List Float) (l l′ : List ℕ) (f : Factored m
   perm-below = held-below m c k (drop 1422 w′) (drop 198 l′) (mat 1848 m c w) (length-mat 1848 m c w) (f .factors)
 
 module _ (m n c k : ℕ) (full : Bool) (w w₁ w₂ w₃ w₄ w₅ : List Float) (l l₁ l₂ : List ℕ) (m18 : m ≤ 18) (n66 : n ≤ 66)
-    (L : Listed n c l l₁) (C : Collected m c l₁ w w₁) (F : Factored m c k w₁ w₂ l₁ l₂) (S : SolvedPart m c k w₂ w₃ l₂)
+    (L : Listed n c l l₁) (C : Collected m c l₁ w w₁) (F : PartFactored m c k w₁ w₂ l₁ l₂) (S : SolvedPart m c k w₂ w₃ l₂)
     (B : Block 1272 n (λ _. +0) w₃ w₄) (D : Spread n c c l₂ w₄ w₅) (e : full ≡ eqb k c) where
   abbrev columns : List Float
   columns = grid m c (λ i t. entry n (mat 0 m n w) i (nth (members l n) t))
@@ -62,7 +62,7 @@ module _ (m n c k : ℕ) (full : Bool) (w w₁ w₂ w₃ w₄ w₅ : List Float)
       (scatter-same c (nums 132 c l₂) (members l n) _ _ (replicate n +0)
       (λ t a. nth-nums 132 c l₂ t a ∙ F .chosen (132 + t) (omega (arith, listed-most n c l l₁ L)) ∙ L .columns t a) (λ t a. refl))
 
-  pub solves-is : Solves m n full w w₅ l l₂
+  pub solves-is : PassiveSolved m n full w w₅ l l₂
   unfolding solveOf
   solves-is = record {
     rank = rw (js-is, ← L .count) full-is;

@@ -1,3 +1,3 @@
 -- The solve on the passive columns, and what its steps do to the workspaces. Definitions only.
 pub mod Passive
-pub mod Work
+pub mod inner

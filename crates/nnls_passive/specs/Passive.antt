@@ -1,4 +1,4 @@
--- The solve on the passive columns of nonnegative least squares (docs/RULES.md, step 3). Definitions only. Assumes nothing.
+-- The solve on the passive columns of nonnegative least squares (docs/RULES.md, "Nonnegative least squares"). Definitions only.
 -- Columns are numbered from 0 to n - 1. A list of marks has 0 for each column that is out, and 1 for each that is in.
 use Prim.Native.Nat.{ℕ, zero, suc}
 use mathlib.Core.Bool.{Bool, not, cond}

@@ -1,4 +1,4 @@
--- Two sums that are clearly apart have roots that differ: the statement is in `specs/Ordered.antt`. Assumes nothing.
+-- Two sums that are clearly apart have roots that differ: the statement is in `specs/Ordered.antt`.
 use mathlib.Core.Path.{_≡_, refl, sym, ap, _∙_, subst}
 use mathlib.Core.Logic.{_⊎_, inl, inr, ⊎-elim}
 use Prim.Native.Nat.{ℕ, zero, suc, _+_, _-_, _*_, _/_, _^_, _≤_, _<_, zero-le, suc-le-suc}

@@ -1,4 +1,4 @@
--- Two numbers compared, by cases. Assumes nothing.
+-- Two numbers compared, by cases.
 use mathlib.Core.Path.{_≡_}
 use mathlib.Core.Logic.{⊎-elim, _⊎_, inl, inr}
 use Prim.Native.Nat.{ℕ, zero, suc, _≤_, _<_, zero-le, suc-le-suc}

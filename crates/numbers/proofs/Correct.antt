@@ -1,4 +1,4 @@
--- `sqrtOf` is correctly rounded, and what is correctly rounded is one value only: the statements are in `specs/Rounded.antt`. Assumes nothing.
+-- `sqrtOf` is correctly rounded, and what is correctly rounded is one value only: the statements are in `specs/Rounded.antt`.
 use mathlib.Core.Path.{_≡_, refl, sym, ap, _∙_, subst}
 use mathlib.Core.Logic.{_⊎_, inl, inr, ⊎-elim}
 use Prim.Native.Nat.{ℕ, zero, suc, _+_, _-_, _*_, _/_, _%_, _^_, _≤_, _<_, zero-le}

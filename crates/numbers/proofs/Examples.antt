@@ -1,4 +1,4 @@
--- The definition on some numbers, by computing. Assumes nothing.
+-- The definition on some numbers, by computing.
 use mathlib.Core.Path.{_≡_, refl}
 use mathlib.Core.Bool.{true, false}
 use mathlib.Core.List.{[], _∷_}

@@ -1,4 +1,4 @@
--- Loops that write a list or a matrix from the front. Assumes nothing.
+-- Loops that write a list or a matrix from the front.
 use mathlib.Core.Path.{_≡_, refl, ap, _∙_}
 use mathlib.Core.List.{List, _++_, append-assoc, append-nil}
 use Prim.Native.Nat.{ℕ, suc, _+_, _*_, _-_, _≤_, _<_}

@@ -1,4 +1,4 @@
--- Laws of lists made by a rule, of matrices, and of scattered vectors. Assumes nothing.
+-- Laws of lists made by a rule, of matrices, and of scattered vectors.
 use mathlib.Core.Path.{_≡_, refl, sym, ap, _∙_}
 use mathlib.Core.List.{List, [], _∷_, _++_, append-assoc, append-nil}
 use Prim.Native.Nat.{ℕ, zero, suc, _+_, _*_, _-_, _≤_, _<_}

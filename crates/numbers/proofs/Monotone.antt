@@ -1,4 +1,4 @@
--- The root keeps the order: the statement is in `specs/Ordered.antt`. Assumes nothing.
+-- The root keeps the order: the statement is in `specs/Ordered.antt`.
 use mathlib.Core.Path.{_≡_, refl, sym, ap, _∙_, subst}
 use mathlib.Core.Logic.{_⊎_, inl, inr}
 use Prim.Native.Nat.{ℕ, zero, suc, _+_, _-_, _*_, _/_, _^_, _≤_, _<_, zero-le, suc-le-suc}

@@ -1,4 +1,4 @@
--- Laws of `Σ`: what a loop that sums needs, and sums of equal terms. Assumes nothing.
+-- Laws of `Σ`: what a loop that sums needs, and sums of equal terms.
 use mathlib.Core.Path.{_≡_, refl, sym, ap, _∙_}
 use Prim.Native.Nat.{ℕ, zero, suc, _+_, _≤_, _<_}
 use native.Mathlib.Nat.{le-antisymm}

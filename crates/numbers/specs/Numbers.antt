@@ -1,4 +1,4 @@
--- The words of every definition: the two zeros, rounded operations, sums, lists and matrices. Definitions only. Assumes nothing.
+-- The words of every definition: the two zeros, rounded operations, sums, lists and matrices. Definitions only.
 -- A vector is a list. A matrix is a list too, row by row, and whoever has it knows its sizes.
 use Prim.Native.Nat.{ℕ, zero, suc, _+_, _*_, _^_, _<_, _≤_}
 use mathlib.Core.Path.{_≡_}

@@ -1,4 +1,4 @@
--- The cases hold of the definitions. Assumes nothing.
+-- The cases hold of the definitions.
 use mathlib.Core.Path.{_≡_, refl}
 use mathlib.Core.List.{map}
 use lib.Ieee.{add, sub, mul, div, neg, lt, le, eq, isNan, sum, round, size, units, odd, span, climb, ofBits, ofFields, toBits}
@@ -7,14 +7,15 @@ use Rattle.numbers.specs.Numbers.{Σ, tab, dot, gather, scatter, rows, grid, ro
 use Rattle.numbers.specs.Root.{floorRoot, rootOf, sqrtOf, norm}
 use Rattle.nnls.specs.Nnls.{residual, dualOf, choose, ratioOf, ranksBefore, blocking, stepTo, nextX, nextMark, moveX, moveP, judge, tryNext, tries, turnNext, turns, lastly, pass, roundNext, rounds, activeSet, nnls}
 use Rattle.step_rows.specs.Problem.{matrixOf, sidesOf, each, unit, boundRows, equalityRows, inequalityRows, opposedRows, loosenedRow, deltaRows, relaxedRows}
-use Rattle.step_rows.specs.Step.{target, inOrder, exactStep, exact, relaxedMatrix, paired, clamped, relaxedStep, relaxed, step}
-use Rattle.record_read.specs.Input.{little, spareZero, isInside, given, isSound, problemOf, areGiven, isComplete, walk, isHead, decode}
+use Rattle.step.specs.Step.{target, inOrder, exactStep, exact, relaxedMatrix, paired, clamped, relaxedStep, relaxed, step}
+use Rattle.endian.specs.Little.{little, bytes}
+use Rattle.record_read.specs.Input.{spareZero, isInside, given, isSound, problemFrom, areGiven, isComplete, walk, isHead, decode}
 use Rattle.nnls_passive.specs.Passive.{members, solveOf}
 use Rattle.householder.specs.Qr.{along, image, columnNorm, pivot, swapped, reflector, pinned, advance, steps, factor, forth, back, applyQt, applyQ, upward, solveR, downward, solveRt, solve}
 use Rattle.lsei.specs.Lsei.{dualMatrix, dualSide, dualResidual, primal, ldp, reducedRows, reducedSides, restored, lsiFrom, lsi, fixed, turned, tailOf, shifted, gradient, equalityMultipliers, rejoined, lseiFrom, lsei}
 use Rattle.record_answer.specs.Text.{ascii, decimalFrom, decimalText, floatText, lineText, linesText}
 use Rattle.record_answer.specs.Program.{faultText, refusedText, doneText, output}
-use Rattle.record_answer.specs.Cases.{stepped, answered, bytes, spared, example, faults, outside}
+use Rattle.record_answer.specs.Cases.{stepped, answered, spared, example, faults, outside}
 
 pub faults-hold : map answered faults ≡ faults
 unfolding bytes spared output decode isHead spareZero little walk isSound isInside given isComplete areGiven tab ascii decimalFrom decimalText faultText
@@ -25,9 +26,9 @@ unfolding bytes spared output decode isHead spareZero little tab ascii decimalFr
 outside-hold = refl
 
 pub example-holds : answered example ≡ example
-unfolding add sub mul div neg lt le eq isNan sum round size units odd span climb trailingZeros ofBits ofFields toBits Σ tab dot gather scatter rows grid row column transposed floorRoot rootOf sqrtOf norm along image columnNorm pivot swapped reflector pinned advance steps factor forth back applyQt applyQ upward solveR downward solveRt solve residual dualOf members solveOf choose ratioOf ranksBefore blocking stepTo nextX nextMark moveX moveP judge tryNext tries turnNext turns lastly pass roundNext rounds activeSet nnls dualMatrix dualSide dualResidual primal ldp reducedRows reducedSides restored lsiFrom lsi fixed turned tailOf shifted gradient equalityMultipliers rejoined lseiFrom lsei matrixOf sidesOf each unit boundRows equalityRows inequalityRows opposedRows loosenedRow deltaRows relaxedRows target inOrder exactStep exact relaxedMatrix paired clamped relaxedStep relaxed step bytes spared output decode isHead spareZero little walk isSound isInside given isComplete areGiven problemOf ascii decimalFrom decimalText floatText lineText linesText refusedText doneText
+unfolding add sub mul div neg lt le eq isNan sum round size units odd span climb trailingZeros ofBits ofFields toBits Σ tab dot gather scatter rows grid row column transposed floorRoot rootOf sqrtOf norm along image columnNorm pivot swapped reflector pinned advance steps factor forth back applyQt applyQ upward solveR downward solveRt solve residual dualOf members solveOf choose ratioOf ranksBefore blocking stepTo nextX nextMark moveX moveP judge tryNext tries turnNext turns lastly pass roundNext rounds activeSet nnls dualMatrix dualSide dualResidual primal ldp reducedRows reducedSides restored lsiFrom lsi fixed turned tailOf shifted gradient equalityMultipliers rejoined lseiFrom lsei matrixOf sidesOf each unit boundRows equalityRows inequalityRows opposedRows loosenedRow deltaRows relaxedRows target inOrder exactStep exact relaxedMatrix paired clamped relaxedStep relaxed step bytes spared output decode isHead spareZero little walk isSound isInside given isComplete areGiven problemFrom ascii decimalFrom decimalText floatText lineText linesText refusedText doneText
 example-holds = refl
 
 pub stepped-hold : map answered stepped ≡ stepped
-unfolding add sub mul div neg lt le eq isNan sum round size units odd span climb trailingZeros ofBits ofFields toBits Σ tab dot gather scatter rows grid row column transposed floorRoot rootOf sqrtOf norm along image columnNorm pivot swapped reflector pinned advance steps factor forth back applyQt applyQ upward solveR downward solveRt solve residual dualOf members solveOf choose ratioOf ranksBefore blocking stepTo nextX nextMark moveX moveP judge tryNext tries turnNext turns lastly pass roundNext rounds activeSet nnls dualMatrix dualSide dualResidual primal ldp reducedRows reducedSides restored lsiFrom lsi fixed turned tailOf shifted gradient equalityMultipliers rejoined lseiFrom lsei matrixOf sidesOf each unit boundRows equalityRows inequalityRows opposedRows loosenedRow deltaRows relaxedRows target inOrder exactStep exact relaxedMatrix paired clamped relaxedStep relaxed step bytes spared output decode isHead spareZero little walk isSound isInside given isComplete areGiven problemOf ascii decimalFrom decimalText floatText lineText linesText refusedText doneText
+unfolding add sub mul div neg lt le eq isNan sum round size units odd span climb trailingZeros ofBits ofFields toBits Σ tab dot gather scatter rows grid row column transposed floorRoot rootOf sqrtOf norm along image columnNorm pivot swapped reflector pinned advance steps factor forth back applyQt applyQ upward solveR downward solveRt solve residual dualOf members solveOf choose ratioOf ranksBefore blocking stepTo nextX nextMark moveX moveP judge tryNext tries turnNext turns lastly pass roundNext rounds activeSet nnls dualMatrix dualSide dualResidual primal ldp reducedRows reducedSides restored lsiFrom lsi fixed turned tailOf shifted gradient equalityMultipliers rejoined lseiFrom lsei matrixOf sidesOf each unit boundRows equalityRows inequalityRows opposedRows loosenedRow deltaRows relaxedRows target inOrder exactStep exact relaxedMatrix paired clamped relaxedStep relaxed step bytes spared output decode isHead spareZero little walk isSound isInside given isComplete areGiven problemFrom ascii decimalFrom decimalText floatText lineText linesText refusedText doneText
 stepped-hold = refl

@@ -1,4 +1,4 @@
--- The first 9,248 bytes decide what the program writes. Assumes nothing.
+-- The first 9,248 bytes decide what the program writes.
 use mathlib.Core.Path.{ap}
 use Rattle.record_answer.specs.Program.{decodedText, output}
 use Rattle.record_answer.specs.Claims.{FirstBytesDecide}

@@ -1,4 +1,4 @@
--- The texts of the program, put together from what its functions write. Assumes nothing.
+-- The texts of the program, put together from what its functions write.
 use mathlib.Core.Path.{_≡_, refl, ap, _∙_}
 use mathlib.Core.List.{List, [], _∷_, _++_}
 use Prim.Native.Nat.{ℕ, suc, _+_, _≤_, _<_}
@@ -9,7 +9,7 @@ use lib.Ieee.{Float, nan}
 use Rattle.numbers.specs.Numbers.{tab}
 use Rattle.record_answer.specs.Text.{ascii, decimalText, floatText, lineText, linesText}
 use Rattle.record_answer.specs.Program.{faultText, refusedText, doneText}
-use Rattle.record_answer.specs.Work.{stepFrom}
+use Rattle.record_answer.specs.inner.Work.{stepFrom}
 
 pub line-is : (tag i : ℕ) (x : Float) → tag ∷ 32 ∷ (decimalText i ++ (32 ∷ (floatText x ++ (10 ∷ [])))) ≡ lineText tag i x
 unfolding lineText ascii tab

@@ -1,4 +1,4 @@
--- Numbers and floats as text, by the digits that `io` makes of them. Assumes nothing.
+-- Numbers and floats as text, by the digits that `io` makes of them.
 use mathlib.Core.Path.{_≡_, refl, sym, ap, _∙_, subst}
 use mathlib.Core.Logic.{⊎-elim}
 use mathlib.Core.Bool.{Bool, true, false, not}
@@ -10,9 +10,10 @@ use borrow.Author.Tests.{lt-ltb, le-ltb}
 use lib.Dec.{T}
 use lib.Ieee.{Float, nan, inf, fin, binary64, fits, isNan, ne, toBits}
 use lib.Ieee.Bits.{toBits-lt}
-use lib.Ieee.Compare.{differs-from-itself, nan-differs}
+use lib.Ieee.Compare.{differs-from-itself}
 use Rattle.io.specs.Digits.{glyph, digits, Fewest}
 use Rattle.numbers.specs.Numbers.{tab}
+use Rattle.record_read.proofs.Bytes.{not-nan}
 use Rattle.numbers.proofs.Cases.{lt-or-ge}
 use Rattle.record_answer.specs.Text.{ascii, decimalFrom, decimalText, floatText}
 
@@ -70,18 +71,8 @@ hex-places r b f h =
 pub hex-is : (r b : ℕ) → r ≡ 16 → digits 16 r b ≡ digits 16 16 b
 hex-is r b e = rw e
 
-not-nan : (x : Float) → ne x x ≡ false → isNan x ≡ false
-unfolding isNan
-not-nan nan e = let z : _≡_ {A = Bool} true false = sym nan-differs ∙ e in cc
-not-nan (inf s) e = refl
-not-nan (fin s m k) e = refl
-
 pub bits-lt : (x : Float) → fits binary64 x ≡ true → toBits binary64 x < 2 ^ 64
 bits-lt x e = toBits-lt binary64 x (subst T (sym e) tt)
-
--- a number has bits
-pub some-bits : (x : Float) → ne x x ≡ false → T (not (isNan x))
-some-bits x e = rw (not-nan x e) tt
 
 pub float-nan : (x : Float) → ne x x ≡ true → 110 ∷ 97 ∷ 110 ∷ [] ≡ floatText x
 unfolding floatText isNan ascii tab

@@ -1,4 +1,4 @@
--- On the parts of the tables no test of the step refuses, so that its call answers what its definition says. Assumes nothing.
+-- On the parts of the tables no test of the step refuses, so that its call answers what its definition says.
 use mathlib.Core.Path.{_≡_, refl}
 use mathlib.Core.Bool.{Bool, true, false, cond, _&&_}
 use mathlib.Core.List.{List}
@@ -11,10 +11,10 @@ use lib.Seq.{length-take-le}
 use lib.Ieee.{Float}
 use Rattle.numbers.specs.Numbers.{tab}
 use Rattle.numbers.proofs.Lists.{length-tab}
-use Rattle.workspace.specs.Tables.{Answer, call, isDimension, isEqualities, isRoom}
-use Rattle.step_rows.specs.Step.{step}
-use Rattle.step_rows.specs.Promise.{areKinds, areLengths, stepCall}
-use Rattle.record_read.specs.Work.{kindAt, problemIn}
+use Rattle.workspace.specs.Tables.{Answer, call, isDimension, isConstraints, isRoom}
+use Rattle.step.specs.Step.{step}
+use Rattle.step_call.specs.Promise.{areKinds, areLengths, stepCall}
+use Rattle.record_read.specs.inner.Tables.{kindAt, problemIn}
 use Rattle.record_read.proofs.Blocks.{square}
 use Rattle.record_read.proofs.Heads.{InTable}
 
@@ -50,7 +50,7 @@ passes m n marks vals d l w iw t hv hd hl hw hi =
     let e = part-length vals 288 (m * n) (omega (arith, mn)) in
     let f = part-length vals 544 n (omega (arith, t .most)) in
     let g = part-length vals 560 n (omega (arith, t .most)) in
-    let s : (isDimension n && isEqualities m) ≡ true = simp (le-leb 1 n (t .some), le-leb n 16 (t .most), le-leb m 16 (t .few)) in
+    let s : (isDimension n && isConstraints m) ≡ true = simp (le-leb 1 n (t .some), le-leb n 16 (t .most), le-leb m 16 (t .few)) in
     let r : isRoom w iw ≡ true = simp (le-leb 8192 (length w) hw, le-leb 512 (length iw) hi) in
     let k : areKinds (tab m (kindAt marks)) ≡ true = kinds-of m (kindAt marks) (λ i. kind-of marks i) in
     let z : areLengths (problemIn m n marks vals) d l ≡ true =

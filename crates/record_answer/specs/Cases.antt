@@ -1,7 +1,8 @@
--- Inputs of the record program, and what it writes for each. proofs/Cases.antt shows that the definitions answer so. Assumes nothing.
+-- Inputs of the record program, and what it writes for each. proofs/Cases.antt shows that the definitions answer so.
 use mathlib.Core.List.{List, [], _∷_, _++_}
-use Prim.Native.Nat.{ℕ, zero, suc, _/_, _%_}
+use Prim.Native.Nat.{ℕ}
 use Prim.Native.Char.{Char, code}
+use Rattle.endian.specs.Little.{bytes}
 use Rattle.record_answer.specs.Text.{ascii}
 use Rattle.record_answer.specs.Program.{output}
 
@@ -17,11 +18,6 @@ abbrev pub answered : Case → Case
 answered c = case (c .input) (output (c .input))
 
 -- ---- records
-
--- x in k bytes, little-endian
-unfoldable pub bytes : (k x : ℕ) → List ℕ
-bytes zero x = []
-bytes (suc k) x = x % 256 ∷ bytes k (x / 256)
 
 -- a record with its two spare places
 unfoldable pub spared : Char → (first row column last bits : ℕ) → List ℕ

@@ -1,9 +1,9 @@
--- What the record program writes for what it reads (docs/RULES.md, "The record program"). Definitions only. Assumes nothing.
+-- What the record program writes for what it reads (docs/RULES.md, "The record program"). Definitions only.
 use mathlib.Core.List.{List, _++_}
 use Prim.Native.Nat.{ℕ}
 use Prim.Native.Char.{code}
-use Rattle.workspace.specs.Tables.{Answer, done, refused}
-use Rattle.step_rows.specs.Step.{Step, step}
+use Rattle.workspace.specs.Tables.{Answer, done, refused, numberOf}
+use Rattle.step.specs.Step.{Step, step}
 use Rattle.record_read.specs.Input.{Decoded, fault, tooLarge, problem, decode}
 use Rattle.record_answer.specs.Text.{ascii, decimalText, floatText, linesText}
 
@@ -23,7 +23,7 @@ doneText s =
 
 abbrev pub stepText : Answer Step → List ℕ
 stepText (done s) = doneText s
-stepText (refused k) = refusedText k
+stepText (refused r) = refusedText (numberOf r)
 
 abbrev pub decodedText : Decoded → List ℕ
 decodedText (fault k) = faultText k

@@ -1,4 +1,4 @@
--- Numbers and lines as bytes (docs/RULES.md, "The record program"). Definitions only. Assumes nothing.
+-- Numbers and lines as bytes (docs/RULES.md, "The record program"). Definitions only.
 use mathlib.Core.Bool.{cond}
 use mathlib.Core.List.{List, [], _∷_, _++_}
 use Prim.Native.Nat.{ℕ, zero, suc, _+_, _/_, _%_}

@@ -1,20 +1,23 @@
 // The record program's answer: from the bytes read to the bytes written, on slices alone.
 mod text;
 
+use record_read::tables;
 ghost use mathlib.Core.Path.{_≡_};
-ghost use Prim.Native.Nat.{_+_, _*_, _≤_, _<_};
+ghost use Prim.Native.Nat.{_+_, _≤_, _<_};
 ghost use lib.ListN.{length, take};
-ghost use Rattle.numbers.specs.Numbers.{tab};
 ghost use Rattle.nnls.specs.Counted.{Counted};
-ghost use Rattle.step_rows.specs.Step.{step};
-ghost use Rattle.record_read.specs.Work.{kindAt, problemIn};
-ghost use Rattle.record_answer.specs.Program.{faultText, refusedText, doneText, stepText, output};
-ghost use Rattle.record_answer.specs.Work.{Wrote, answered, stepFrom};
+ghost use Rattle.workspace.specs.Tables.{numberOf};
+ghost use Rattle.step.specs.Step.{step};
+ghost use Rattle.record_read.specs.inner.Tables.{PLACES, problemIn};
+ghost use Rattle.record_answer.specs.Program.{faultText, refusedText, doneText, stepText};
+ghost use Rattle.record_answer.specs.Promise.{Responds};
+ghost use Rattle.record_answer.specs.inner.Work.{Wrote, outcomeAnswer, stepFrom};
 use crate::text::put_byte;
 use crate::text::put_decimal;
 use crate::text::put_float;
 use crate::text::put_lines;
 use crate::text::put_text;
+use workspace::Refusal;
 
 // ---- the text
 
@@ -38,6 +41,14 @@ fn put_refused(out: &mut [u8], k: usize) -> usize
     put_byte(out, b, b'\n')
 }
 
+// `refused N` of a refusal of the step.
+fn put_refusal(out: &mut [u8], why: Refusal) -> usize
+    requires { ⌜ 2048 ≤ length (now out) ⌝ }
+    ensures { λ r. ⌜ Wrote (now (out .entry)) 0 (refusedText (numberOf why)) (now (out .exit)) r ⌝ }
+{
+    put_refused(out, why.number() as usize)
+}
+
 // `ok` and all that follows.
 fn put_done(out: &mut [u8], relaxation: f64, d: &[f64], multipliers: &[f64]) -> usize
     requires { ⌜ (2048 ≤ length (now out)) × (length (now d) ≤ 16) × (length (now multipliers) ≤ 16) ⌝ }
@@ -52,33 +63,15 @@ fn put_done(out: &mut [u8], relaxation: f64, d: &[f64], multipliers: &[f64]) -> 
 
 // ---- the step
 
-// The kind of constraint i, by its mark.
-fn kind(marks: &[u8], i: usize) -> u8
-    requires { ⌜ (length (now marks) ≡ 576) × (i < 16) ⌝ }
-    ensures { λ r. ⌜ r ≡ kindAt (now (marks .entry)) i ⌝ }
-{
-    if marks[272 + i] == 2 { 1 } else { 0 }
-}
-
-// The kinds of the constraints.
-fn kinds(marks: &[u8], out: &mut [u8])
-    requires { ⌜ (length (now marks) ≡ 576) × (length (now out) ≤ 16) ⌝ }
-    ensures { λ _. ⌜ now (out .exit) ≡ tab (length (now (out .entry))) (kindAt (now (marks .entry))) ⌝ }
-{
-    for i in 0..out.len() {
-        out[i] = kind(marks, i);
-    }
-}
-
-// An f64 workspace.
-fn floats() -> [f64; 8192]
+// A blank f64 workspace.
+pub fn float_room() -> [f64; 8192]
     ensures { λ r. ⌜ 8192 ≡ length r ⌝ }
 {
     [0.0; 8192]
 }
 
-// A u32 workspace.
-fn words() -> [u32; 512]
+// A blank u32 workspace.
+pub fn word_room() -> [u32; 512]
     ensures { λ r. ⌜ 512 ≡ length r ⌝ }
 {
     [0; 512]
@@ -92,26 +85,26 @@ fn solve(
     vals: &[f64],
     d: &mut [f64],
     multipliers: &mut [f64],
-) -> step::Outcome
-    requires { ⌜ (m ≤ 16) × (0 < n) × (n ≤ 16) × (length (now marks) ≡ 576) × (length (now vals) ≡ 576) ⌝ }
+) -> step_call::Outcome
+    requires { ⌜ (m ≤ 16) × (0 < n) × (n ≤ 16) × (length (now marks) ≡ PLACES) × (length (now vals) ≡ PLACES) ⌝ }
     requires { ⌜ (length (now d) ≡ n) × (length (now multipliers) ≡ m) ⌝ }
-    ensures { λ r. ⌜ answered r (now (d .exit)) (now (multipliers .exit)) ≡ step (problemIn m n (now (marks .entry)) (now (vals .entry))) .answer ⌝ }
+    ensures { λ r. ⌜ outcomeAnswer r (now (d .exit)) (now (multipliers .exit)) ≡ step (problemIn m n (now (marks .entry)) (now (vals .entry))) .answer ⌝ }
 {
-    let mut w = floats();
-    let mut iw = words();
+    let mut w = float_room();
+    let mut iw = word_room();
     let mut space = [0u8; 16];
     let ks = &mut space[..m];
-    kinds(marks, ks);
-    step::Step::solve(
+    tables::load_kinds(marks, ks);
+    step_call::Step::solve(
         n,
         m,
-        &vals[..n * n],
-        &vals[256..256 + n],
+        tables::factor(n, vals),
+        tables::gradient(n, vals),
         ks,
-        &vals[272..272 + m],
-        &vals[288..288 + m * n],
-        &vals[544..544 + n],
-        &vals[560..560 + n],
+        tables::values(m, vals),
+        tables::jacobian(m, n, vals),
+        tables::lower(n, vals),
+        tables::upper(n, vals),
         d,
         multipliers,
         &mut w,
@@ -128,7 +121,7 @@ fn sixteen() -> [f64; 16]
 
 // What the step answers, as text.
 fn put_step(m: usize, n: usize, marks: &[u8], vals: &[f64], out: &mut [u8]) -> usize
-    requires { ⌜ (m ≤ 16) × (0 < n) × (n ≤ 16) × (length (now marks) ≡ 576) × (length (now vals) ≡ 576) × (2048 ≤ length (now out)) ⌝ }
+    requires { ⌜ (m ≤ 16) × (0 < n) × (n ≤ 16) × (length (now marks) ≡ PLACES) × (length (now vals) ≡ PLACES) × (2048 ≤ length (now out)) ⌝ }
     ensures { λ r. ⌜ Wrote (now (out .entry)) 0 (stepText (step (problemIn m n (now (marks .entry)) (now (vals .entry))) .answer)) (now (out .exit)) r ⌝ }
 {
     let mut d = sixteen();
@@ -136,34 +129,20 @@ fn put_step(m: usize, n: usize, marks: &[u8], vals: &[f64], out: &mut [u8]) -> u
     let ds = &mut d[..n];
     let ls = &mut l[..m];
     match solve(m, n, marks, vals, ds, ls) {
-        step::Outcome::Refused(k) => put_refused(out, k as usize),
-        step::Outcome::Done(relaxation) => put_done(out, relaxation, ds, ls),
+        step_call::Outcome::Refused(k) => put_refusal(out, k),
+        step_call::Outcome::Done(relaxation) => put_done(out, relaxation, ds, ls),
     }
 }
 
 // ---- the program
 
-// The table of marks.
-fn no_marks() -> [u8; 576]
-    ensures { λ r. ⌜ 576 ≡ length r ⌝ }
-{
-    [0; 576]
-}
-
-// The table of values.
-fn no_values() -> [f64; 576]
-    ensures { λ r. ⌜ 576 ≡ length r ⌝ }
-{
-    [0.0; 576]
-}
-
-// The program's output for its input: r bytes at the start of `out`.
+// The program's output for its input, at the start of `out`: so many bytes, and the others stay.
 pub fn respond(bytes: &[u8], out: &mut [u8; 2048]) -> usize
-    ensures { λ r. ⌜ take r (now (out .exit)) ≡ output (now (bytes .entry)) ⌝ }
+    ensures { λ r. ⌜ Responds (now (bytes .entry)) r (now (out .entry)) (now (out .exit)) ⌝ }
     ensures { λ r. ⌜ (r ≤ length (now (out .exit))) × (r ≡ length (take r (now (out .exit)))) ⌝ }
 {
-    let mut marks = no_marks();
-    let mut vals = no_values();
+    let mut marks = tables::blank_marks();
+    let mut vals = tables::blank_values();
     match record_read::decode(bytes, &mut marks, &mut vals) {
         record_read::Input::Fault(k) => put_fault(out, k),
         record_read::Input::Large => put_refused(out, 1),

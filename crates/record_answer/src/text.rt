@@ -4,7 +4,7 @@ ghost use mathlib.Core.List.{[], _∷_};
 ghost use Prim.Native.Nat.{_+_, _*_, _≤_, _<_};
 ghost use lib.ListN.{length};
 ghost use Rattle.record_answer.specs.Text.{floatText, decimalText, lineText, linesText};
-ghost use Rattle.record_answer.specs.Work.{Wrote};
+ghost use Rattle.record_answer.specs.inner.Work.{Wrote};
 
 // One byte.
 pub fn put_byte(out: &mut [u8], at: usize, b: u8) -> usize

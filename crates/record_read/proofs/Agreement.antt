@@ -1,4 +1,4 @@
--- The tables tell what specs/Input.antt says. Assumes nothing.
+-- The tables tell what specs/Input.antt says.
 use mathlib.Core.Path.{_≡_, refl, sym, ap, _∙_}
 use mathlib.Core.Logic.{⊎-elim}
 use mathlib.Core.Bool.{Bool, true, false, not, cond, _&&_}
@@ -16,14 +16,16 @@ use lib.Ieee.{Float, nan, inf}
 use Rattle.numbers.specs.Numbers.{+0, one, tab, grid, entry}
 use Rattle.numbers.proofs.Cases.{lt-or-ge, eq-or-ne}
 use Rattle.numbers.proofs.Lists.{length-tab, getD-tab, tab-same, tab-of, grid-of, grid-same, index-lt}
-use Rattle.workspace.specs.Tables.{isDimension, isEqualities}
+use Rattle.workspace.specs.Tables.{isDimension, isConstraints}
 use Rattle.workspace.proofs.Tests.{and-true}
 use Rattle.record_read.specs.declared.Block.{Block}
 use Rattle.record_read.specs.declared.Spot.{Spot}
 use Rattle.record_read.specs.declared.Spot.the-variants.{Outside, At}
 use Rattle.record_read.specs.declared.Head.the-variants.{Unsound, TooLarge, Sizes}
-use Rattle.record_read.specs.Input.{tagOf, rowOf, columnOf, valueOf, spareZero, recordAt, is, field, gives, given, isSome, isSound, orElse, kindOf, problemOf, areGiven, isComplete, Decoded, fault, tooLarge, problem, walk, isHead, decode}
-use Rattle.record_read.specs.Work.{block, blockOf, ifSpot, within, spotOf, markOf, entryOf, next, ifEntered, put, entered, ifHead, sizesOf, headOf, defaultAt, noMarks, defaults, Filled, faultAt, outsideSizes, filled, ifFilled, onEntered, onHead, allMarked, closing, walkTables, decodeTables, kindAt, problemIn, saying}
+use Rattle.record_read.specs.declared.Input.the-variants.{Fault, Large, Whole}
+use Rattle.record_read.specs.Input.{tagOf, rowNumber, columnOf, valueOf, spareZero, recordAt, is, field, gives, given, isSome, isSound, orElse, kindOf, problemFrom, areGiven, isComplete, Decoded, fault, tooLarge, problem, walk, isHead, decode}
+use Rattle.record_read.specs.inner.Tables.{block, blockOf, ifSpot, within, spotOf, markOf, defaultAt, noMarks, defaults, kindAt, problemIn}
+use Rattle.record_read.specs.inner.Filling.{entryOf, kept, added, ifEntered, put, entered, ifHead, sizesOf, headOf, Filling, filling, ifFilling, onEntered, onHead, allMarked, closing, walkTables, decodeTables, stated}
 use Rattle.record_read.proofs.Entries.{mark-some}
 use Rattle.record_read.proofs.Blocks.{spot-within, room, within-in, square}
 use Rattle.record_read.proofs.Heads.{sizes-in, InTable}
@@ -66,12 +68,12 @@ given-skip : (r : List ℕ) (rs : List (List ℕ)) (t i j : ℕ) → gives r t i
 unfolding given
 given-skip r rs t i j e = rw e
 
-module _ (m n : ℕ) (hm : m ≤ 16) (hn : n ≤ 16) (r : List ℕ) (q : ℕ) (e : within (blockOf m n (tagOf r)) (rowOf r) (columnOf r) ≡ At q) where
+module _ (m n : ℕ) (hm : m ≤ 16) (hn : n ≤ 16) (r : List ℕ) (q : ℕ) (e : within (blockOf m n (tagOf r)) (rowNumber r) (columnOf r) ≡ At q) where
   -- an entry with the record's place is the one that it gives
   gives-here : (t i j : ℕ) → within (blockOf m n t) i j ≡ At q → gives r t i j ≡ true
   gives-here t i j h =
-      let o = one-entry m n (tagOf r) (rowOf r) (columnOf r) t i j q hm hn e h in
-      let f = one-field m n (tagOf r) (rowOf r) (columnOf r) t i j q hm hn e h in
+      let o = one-entry m n (tagOf r) (rowNumber r) (columnOf r) t i j q hm hn e h in
+      let f = one-field m n (tagOf r) (rowNumber r) (columnOf r) t i j q hm hn e h in
       simp (eq-eqb _ _ f, eq-eqb _ _ (o .rows), eq-eqb _ _ (o .cols))
 
   -- and no other is
@@ -80,11 +82,11 @@ module _ (m n : ℕ) (hm : m ≤ 16) (hn : n ≤ 16) (r : List ℕ) (q : ℕ) (e
     where
       go : (b : Bool) → gives r t i j ≡ b → b ≡ false
       go true g =
-          let u = and-true (eqb (field (tagOf r)) (field t)) (eqb (rowOf r) i && eqb (columnOf r) j) g in
-          let v = and-true (eqb (rowOf r) i) (eqb (columnOf r) j) (u .1) in
+          let u = and-true (eqb (field (tagOf r)) (field t)) (eqb (rowNumber r) i && eqb (columnOf r) j) g in
+          let v = and-true (eqb (rowNumber r) i) (eqb (columnOf r) j) (u .1) in
           let f : field (tagOf r) ≡ field t = eqb-true _ _ (u .0) in
           let b : blockOf m n (tagOf r) ≡ blockOf m n t = sym (block-field m n (tagOf r)) ∙ ap (blockOf m n) f ∙ block-field m n t in
-          let s : within (blockOf m n t) i j ≡ At q = rw (← b, ← eqb-true (rowOf r) i (v .0), ← eqb-true (columnOf r) j (v .1)) e in
+          let s : within (blockOf m n t) i j ≡ At q = rw (← b, ← eqb-true (rowNumber r) i (v .0), ← eqb-true (columnOf r) j (v .1)) e in
           let z : At p ≡ At q = sym h ∙ s in
           let w : p ≡ q = cc in
           absurd (x w)
@@ -92,7 +94,7 @@ module _ (m n : ℕ) (hm : m ≤ 16) (hn : n ≤ 16) (r : List ℕ) (q : ℕ) (e
 
   holds-more : (rs : List (List ℕ)) (marks : List ℕ) (vals : List Float) → Holds m n rs marks vals → Holds m n (r ∷ rs) (set marks q (markOf (tagOf r))) (set vals q (valueOf r))
   holds-more rs marks vals a =
-      let l : q < 576 = within-in (blockOf m n (tagOf r)) (rowOf r) (columnOf r) q (room m n (tagOf r) hm hn) e in
+      let l : q < 576 = within-in (blockOf m n (tagOf r)) (rowNumber r) (columnOf r) q (room m n (tagOf r) hm hn) e in
       record {
         marks-size = simp length-set (a .marks-size);
         vals-size = simp length-set (a .vals-size);
@@ -242,50 +244,50 @@ module _ (m n : ℕ) (w : InTable m n) (rs : List (List ℕ)) (marks : List ℕ)
       part-is nan vals 560 n _ (omega (arith, a .vals-size, w .most))
       (λ j h. row-val 84 560 refl j h ∙ ap (λ (v : Float). orElse (given rs 84 0 j) v) (default-upper n (560 + j) (omega arith)))
 
-  problem-agrees : problemIn m n marks vals ≡ problemOf m n rs
-  unfolding problemIn problemOf
+  problem-agrees : problemIn m n marks vals ≡ problemFrom m n rs
+  unfolding problemIn problemFrom
   problem-agrees = rw (factor-agrees, gradient-agrees, kinds-agree, values-agree, jacobian-agrees, lower-agrees, upper-agrees)
 
 -- ---- the walk
 
 module _ (m n : ℕ) (w : InTable m n) (bs : List ℕ) where
   end-agrees : (k : ℕ) (rs : List (List ℕ)) (marks : List ℕ) (vals : List Float) → Holds m n rs marks vals
-      → saying (closing m n bs k marks vals) ≡ cond (eqb (length bs % 16) 0 && isComplete m rs) (problem (problemOf m n rs)) (fault k)
+      → stated (closing m n bs k marks vals) ≡ cond (eqb (length bs % 16) 0 && isComplete m rs) (problem (problemFrom m n rs)) (fault k)
   unfolding closing
   end-agrees k rs marks vals a = rw (complete-agrees m n w rs marks vals a) (go (eqb (length bs % 16) 0) (isComplete m rs))
     where
-      go : (s t : Bool) → saying (ifFilled s (ifFilled t (filled m n marks vals) (faultAt k)) (faultAt k)) ≡ cond (s && t) (problem (problemOf m n rs)) (fault k)
+      go : (s t : Bool) → stated (ifFilling (s && t) (filling (Whole m n) marks vals) (filling (Fault k) marks vals)) ≡ cond (s && t) (problem (problemFrom m n rs)) (fault k)
       go true true = ap problem (problem-agrees m n w rs marks vals a)
       go true false = refl
       go false t = refl
 
   -- one record: f goes on with the tables, and d is what comes where the record is sound
-  turn : (r : List ℕ) (k : ℕ) (rs : List (List ℕ)) (marks : List ℕ) (vals : List Float) (f : List ℕ → List Float → Filled) (d : Decoded) → Holds m n rs marks vals
-      → ((marks′ : List ℕ) (vals′ : List Float) → Holds m n (r ∷ rs) marks′ vals′ → saying (f marks′ vals′) ≡ d)
-      → saying (onEntered (entered m n r marks vals) (faultAt k) f) ≡ cond (isSound m n rs r) d (fault k)
+  turn : (r : List ℕ) (k : ℕ) (rs : List (List ℕ)) (marks : List ℕ) (vals : List Float) (f : List ℕ → List Float → Filling) (d : Decoded) → Holds m n rs marks vals
+      → ((marks′ : List ℕ) (vals′ : List Float) → Holds m n (r ∷ rs) marks′ vals′ → stated (f marks′ vals′) ≡ d)
+      → stated (onEntered (entered m n r marks vals) k f) ≡ cond (isSound m n rs r) d (fault k)
   unfolding entered entryOf put isSound
-  turn r k rs marks vals f d a ih = rw (← inside-at m n (tagOf r) (rowOf r) (columnOf r)) (go (spareZero r) (spotOf m n (tagOf r) (rowOf r) (columnOf r)) refl)
+  turn r k rs marks vals f d a ih = rw (← inside-at m n (tagOf r) (rowNumber r) (columnOf r)) (go (spareZero r) (spotOf m n (tagOf r) (rowNumber r) (columnOf r)) refl)
     where
-      at : (p : ℕ) → within (blockOf m n (tagOf r)) (rowOf r) (columnOf r) ≡ At p → (o : Option (List ℕ)) → given rs (tagOf r) (rowOf r) (columnOf r) ≡ o
-          → saying (onEntered (ifEntered (eqb (getD marks p 0) 0) (next (set marks p (markOf (tagOf r))) (set vals p (valueOf r)))) (faultAt k) f)
+      at : (p : ℕ) → within (blockOf m n (tagOf r)) (rowNumber r) (columnOf r) ≡ At p → (o : Option (List ℕ)) → given rs (tagOf r) (rowNumber r) (columnOf r) ≡ o
+          → stated (onEntered (ifEntered (eqb (getD marks p 0) 0) (added (set marks p (markOf (tagOf r))) (set vals p (valueOf r))) (kept marks vals)) k f)
           ≡ cond (not (isSome o)) d (fault k)
       at p e none g =
-          let z : getD marks p 0 ≡ 0 = a .mark (tagOf r) (rowOf r) (columnOf r) p e ∙ ap markIn g in
+          let z : getD marks p 0 ≡ 0 = a .mark (tagOf r) (rowNumber r) (columnOf r) p e ∙ ap markIn g in
           rw (eq-eqb _ _ z) (ih (set marks p (markOf (tagOf r))) (set vals p (valueOf r)) (holds-more m n (w .few) (w .most) r p e rs marks vals a))
       at p e (some s) g =
-          let z : getD marks p 0 ≡ markOf (tagOf s) = a .mark (tagOf r) (rowOf r) (columnOf r) p e ∙ ap markIn g in
+          let z : getD marks p 0 ≡ markOf (tagOf s) = a .mark (tagOf r) (rowNumber r) (columnOf r) p e ∙ ap markIn g in
           rw (ne-eqb (getD marks p 0) 0 (λ y. mark-some (tagOf s) (sym z ∙ y)))
 
-      go : (z : Bool) (s : Spot) → spotOf m n (tagOf r) (rowOf r) (columnOf r) ≡ s
-          → saying (onEntered (put (ifSpot z s) (markOf (tagOf r)) (valueOf r) marks vals) (faultAt k) f)
-          ≡ cond (isAt s && (z && not (isSome (given rs (tagOf r) (rowOf r) (columnOf r))))) d (fault k)
+      go : (z : Bool) (s : Spot) → spotOf m n (tagOf r) (rowNumber r) (columnOf r) ≡ s
+          → stated (onEntered (put (ifSpot z s) (markOf (tagOf r)) (valueOf r) marks vals) k f)
+          ≡ cond (isAt s && (z && not (isSome (given rs (tagOf r) (rowNumber r) (columnOf r))))) d (fault k)
       go false Outside e = refl
       go false (At p) e = refl
       go true Outside e = refl
-      go true (At p) e = at p (spot-within m n (tagOf r) (rowOf r) (columnOf r) p e) (given rs (tagOf r) (rowOf r) (columnOf r)) refl
+      go true (At p) e = at p (spot-within m n (tagOf r) (rowNumber r) (columnOf r) p e) (given rs (tagOf r) (rowNumber r) (columnOf r)) refl
 
   walk-agrees : (left k : ℕ) (rs : List (List ℕ)) (marks : List ℕ) (vals : List Float) → Holds m n rs marks vals
-      → saying (walkTables m n bs left k marks vals) ≡ walk m n bs left k rs
+      → stated (walkTables m n bs left k marks vals) ≡ walk m n bs left k rs
   unfolding walk walkTables
   walk-agrees zero k rs marks vals a = end-agrees k rs marks vals a
   walk-agrees (suc left) k rs marks vals a =
@@ -294,22 +296,22 @@ module _ (m n : ℕ) (w : InTable m n) (bs : List ℕ) where
 
 -- ---- the whole input
 
-pub agreement : (bs : List ℕ) → saying (decodeTables bs) ≡ decode bs
+pub agreement : (bs marks : List ℕ) (vals : List Float) → stated (decodeTables bs marks vals) ≡ decode bs
 unfolding decode decodeTables headOf sizesOf
-agreement bs =
+agreement bs marks vals =
     ⊎-elim
     (λ (h : length bs < 16). simp (lt-ltb _ _ h, lt-leb _ _ h))
-    (λ (h : 16 ≤ length bs). simp (le-ltb _ _ h, le-leb _ _ h) (head (isHead (take 16 bs)) (isDimension (columnOf (take 16 bs)) && isEqualities (rowOf (take 16 bs))) refl))
+    (λ (h : 16 ≤ length bs). simp (le-ltb _ _ h, le-leb _ _ h) (head (isHead (take 16 bs)) (isDimension (columnOf (take 16 bs)) && isConstraints (rowNumber (take 16 bs))) refl))
     (lt-or-ge (length bs) 16)
   where
-    head : (s t : Bool) → (isDimension (columnOf (take 16 bs)) && isEqualities (rowOf (take 16 bs))) ≡ t
-        → saying
-        (onHead (ifHead s (ifHead t (Sizes (rowOf (take 16 bs)) (columnOf (take 16 bs))) TooLarge) Unsound) (faultAt 0) outsideSizes
+    head : (s t : Bool) → (isDimension (columnOf (take 16 bs)) && isConstraints (rowNumber (take 16 bs))) ≡ t
+        → stated
+        (onHead (ifHead s (ifHead t (Sizes (rowNumber (take 16 bs)) (columnOf (take 16 bs))) TooLarge) Unsound) (filling (Fault 0) marks vals) (filling Large marks vals)
         (λ m n. walkTables m n bs (length bs / 16 - 1) 1 noMarks (defaults n)))
-        ≡ cond s (cond t (walk (rowOf (take 16 bs)) (columnOf (take 16 bs)) bs (length bs / 16 - 1) 1 []) tooLarge) (fault 0)
+        ≡ cond s (cond t (walk (rowNumber (take 16 bs)) (columnOf (take 16 bs)) bs (length bs / 16 - 1) 1 []) tooLarge) (fault 0)
     head true true e =
-        let w = sizes-in (rowOf (take 16 bs)) (columnOf (take 16 bs)) e in
-        walk-agrees (rowOf (take 16 bs)) (columnOf (take 16 bs)) w bs (length bs / 16 - 1) 1 [] noMarks (defaults (columnOf (take 16 bs)))
-        (holds-none (rowOf (take 16 bs)) (columnOf (take 16 bs)) (w .few) (w .most))
+        let w = sizes-in (rowNumber (take 16 bs)) (columnOf (take 16 bs)) e in
+        walk-agrees (rowNumber (take 16 bs)) (columnOf (take 16 bs)) w bs (length bs / 16 - 1) 1 [] noMarks (defaults (columnOf (take 16 bs)))
+        (holds-none (rowNumber (take 16 bs)) (columnOf (take 16 bs)) (w .few) (w .most))
     head true false e = refl
     head false t e = refl

@@ -1,4 +1,4 @@
--- Every block lies in the tables, and so does every place in it. Assumes nothing.
+-- Every block lies in the tables, and so does every place in it.
 use mathlib.Core.Path.{_≡_, refl}
 use mathlib.Core.Bool.{Bool, true, false, _&&_, not}
 use mathlib.Core.List.{List}
@@ -11,8 +11,9 @@ use Rattle.numbers.proofs.Lists.{index-lt}
 use Rattle.record_read.specs.declared.Block.{Block}
 use Rattle.record_read.specs.declared.Spot.{Spot}
 use Rattle.record_read.specs.declared.Spot.the-variants.{Outside, At}
-use Rattle.record_read.specs.Work.{block, either, blockOf, within, spotOf, entryOf, ifSpot}
-use Rattle.record_read.specs.Input.{is, spareZero, tagOf, rowOf, columnOf}
+use Rattle.record_read.specs.inner.Tables.{block, either, blockOf, within, spotOf, ifSpot}
+use Rattle.record_read.specs.inner.Filling.{entryOf}
+use Rattle.record_read.specs.Input.{is, spareZero, tagOf, rowNumber, columnOf}
 
 -- where an `L` is not above the diagonal, the block decides
 pub spot-rest : (m n tag row col : ℕ) → (eqb tag 76 && ltb row col) ≡ false → spotOf m n tag row col ≡ within (blockOf m n tag) row col
@@ -69,8 +70,8 @@ pub entry-in : (m n : ℕ) (r : List ℕ) (p : ℕ) → m ≤ 16 → n ≤ 16 �
 unfolding entryOf spotOf
 entry-in m n r p hm hn e =
     let x = if-spot (spareZero r) _ p e in
-    let y = if-spot (not (eqb (tagOf r) 76 && ltb (rowOf r) (columnOf r))) _ p (x .1) in
-    within-in (blockOf m n (tagOf r)) (rowOf r) (columnOf r) p (room m n (tagOf r) hm hn) (y .1)
+    let y = if-spot (not (eqb (tagOf r) 76 && ltb (rowNumber r) (columnOf r))) _ p (x .1) in
+    within-in (blockOf m n (tagOf r)) (rowNumber r) (columnOf r) p (room m n (tagOf r) hm hn) (y .1)
 
 pub spot-within : (m n t i j p : ℕ) → spotOf m n t i j ≡ At p → within (blockOf m n t) i j ≡ At p
 unfolding spotOf

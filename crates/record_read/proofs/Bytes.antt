@@ -1,37 +1,12 @@
--- Bytes as numbers, and numbers as floats. Assumes nothing.
-use mathlib.Core.Path.{_≡_, refl, sym, ap, _∙_}
-use mathlib.Core.Bool.{Bool, true, false, _&&_}
-use mathlib.Core.List.{List}
-use Prim.Native.Nat.{ℕ, suc, _+_, _-_, _*_, _^_, _≤_, _<_, _/_, _%_}
-use native.Mathlib.Omega.{arith}
-use borrow.Author.Tests.{eq-eqb, ne-eqb}
-use lib.Dec.{eqb}
-use lib.ListN.{length, getD, drop}
-use lib.Seq.{drop-cons, drop-length}
-use lib.Pow.{pow-add}
-use lib.Ieee.{Float, nan, inf, fin, binary64, isNan, nanBits, ofBits, div}
-use lib.Ieee.Bits.{nanBits-is}
-use Rattle.record_read.specs.Input.{little}
-
-little-cons : (s : List ℕ) (i : ℕ) → i < length s → little (drop i s) ≡ getD s i 0 + 256 * little (drop (suc i) s)
-unfolding little
-little-cons s i h = ap little (drop-cons s i 0 h)
-
--- one turn of `number`: the byte before i, and 256 times what stands from i on
-pub little-step : (s : List ℕ) (i v w : ℕ) → 0 < i → i ≤ length s → v ≡ little (drop i s) → w ≡ getD s (i - 1) 0
-    → w + 256 * v ≡ little (drop (i - 1) s)
-little-step s i v w h l p q =
-    let e : suc (i - 1) ≡ i = omega arith in
-    let r : v ≡ little (drop (suc (i - 1)) s) = p ∙ ap (λ (k : ℕ). little (drop k s)) (sym e) in
-    let t : little (drop (i - 1) s) ≡ getD s (i - 1) 0 + 256 * little (drop (suc (i - 1)) s) = little-cons s (i - 1) (omega arith) in
-    rw (q, r, t)
-
-pub little-none : (s : List ℕ) → 0 ≡ little (drop (length s) s)
-unfolding little
-little-none s = ap little (sym (drop-length s))
-
-pub grown : (k w v : ℕ) → w < 256 → v < 2 ^ k → w + 256 * v < 2 ^ (k + 8)
-grown k w v h l = rw pow-add (omega arith)
+-- Floats by their bits, and the same float.
+use mathlib.Core.Path.{_≡_, refl, sym, ap, _∙_, subst}
+use mathlib.Core.Bool.{Bool, true, false, not, _&&_, true≢false}
+use Prim.Native.Nat.{ℕ, _^_, _/_, _%_}
+use borrow.Author.Tests.{eq-eqb, ne-eqb, eqb-true}
+use lib.Dec.{T, eqb}
+use lib.Ieee.{Float, nan, inf, fin, binary64, fits, isNan, nanBits, ofBits, toBits, div, ne}
+use lib.Ieee.Bits.{nanBits-is, ofBits-toBits}
+use lib.Ieee.Compare.{differs-from-itself, nan-differs}
 
 pub and-false : (a : Bool) → (a && false) ≡ false
 and-false true = refl
@@ -61,3 +36,37 @@ no-nan-field b p = simp (ne-eqb _ _ p)
 pub no-nan-digits : (b : ℕ) → b % 2 ^ 52 ≡ 0 → nanBits binary64 b ≡ false
 unfolding nanBits
 no-nan-digits b q = simp (eq-eqb _ _ q) (and-false (eqb (b % 2 ^ 63 / 2 ^ 52) 2047))
+
+-- ---- the same float
+
+pub never : {A : Type 0} → _≡_ {A = Bool} false true → A
+never e = absurd (true≢false (sym e))
+
+-- what differs from itself is NaN
+differs-nan : (x : Float) → ne x x ≡ true → x ≡ nan
+differs-nan x d = differs-from-itself x (subst T (sym d) tt)
+
+pub nan-same : (x y : Float) → ne x x ≡ true → ne y y ≡ true → x ≡ y
+nan-same x y d e = differs-nan x d ∙ sym (differs-nan y e)
+
+pub nan-alike : (x y : Float) → ne x x ≡ true → x ≡ y → ne y y ≡ true
+nan-alike x y d e = subst (λ (v : Float). ne v v ≡ true) e d
+
+pub nan-apart : (x y : Float) → ne x x ≡ false → ne y y ≡ true → x ≡ y → false ≡ true
+nan-apart x y d e f = sym d ∙ subst (λ (v : Float). ne v v ≡ true) (sym f) e
+
+pub not-nan : (x : Float) → ne x x ≡ false → isNan x ≡ false
+unfolding isNan
+not-nan nan d = absurd (true≢false (sym nan-differs ∙ d))
+not-nan (inf s) d = refl
+not-nan (fin s m e) d = refl
+
+-- a number has bits
+pub some-bits : (x : Float) → ne x x ≡ false → T (not (isNan x))
+some-bits x d = rw (not-nan x d) tt
+
+pub same-bits : (x y : Float) → fits binary64 x ≡ true → fits binary64 y ≡ true → eqb (toBits binary64 x) (toBits binary64 y) ≡ true → x ≡ y
+same-bits x y f g e =
+    sym (ofBits-toBits binary64 x (subst T (sym f) tt))
+    ∙ ap (ofBits binary64) (eqb-true _ _ e)
+    ∙ ofBits-toBits binary64 y (subst T (sym g) tt)

@@ -1,4 +1,4 @@
--- The sizes of a problem that was decoded are in the table. Assumes nothing.
+-- The sizes of a problem that was decoded are in the table, and one answer is promised.
 use mathlib.Core.Path.{_∙_, subst, sym, _≡_, refl, ap}
 use mathlib.Core.Bool.{Bool, true, false, cond, _&&_}
 use mathlib.Core.List.{List, [], _∷_}
@@ -7,12 +7,14 @@ use native.Mathlib.Omega.{arith}
 use lib.Dec.{leb, eqb}
 use lib.ListN.{length}
 use lib.Ieee.{Float}
-use Rattle.workspace.specs.Tables.{isDimension, isEqualities}
+use Rattle.workspace.specs.Tables.{isDimension, isConstraints}
 use Rattle.step_rows.specs.Problem.{Problem}
 use Rattle.record_read.specs.declared.Input.{Input}
 use Rattle.record_read.specs.declared.Input.the-variants.{Whole}
-use Rattle.record_read.specs.Work.{problemIn, says, AreTables}
-use Rattle.record_read.specs.Input.{rowOf, columnOf, recordAt, isSound, problemOf, isComplete, fault, tooLarge, problem, walk, isHead, decode}
+use Rattle.record_read.specs.inner.Tables.{problemIn, decodedIn}
+use Rattle.record_read.specs.inner.Filling.{Filling, filling}
+use Rattle.record_read.specs.Claims.{OneDecoding}
+use Rattle.record_read.specs.Input.{rowNumber, columnOf, recordAt, isSound, problemFrom, isComplete, fault, tooLarge, problem, walk, isHead, decode}
 use Rattle.record_read.proofs.Heads.{InTable, sizes-in}
 
 fault-not : {A : Type 0} (k : ℕ) (p : Problem) → fault k ≡ problem p → A
@@ -23,11 +25,11 @@ large-not p e = let z : _≡_ {A = ℕ} 0 1 = cc in absurd (omega arith)
 
 module _ (m n : ℕ) (bs : List ℕ) (p : Problem) where
   walk-sizes : (left k : ℕ) (rs : List (List ℕ)) → walk m n bs left k rs ≡ problem p → (m ≡ p .m) × (n ≡ p .n)
-  unfolding walk problemOf
+  unfolding walk problemFrom
   walk-sizes zero k rs e = go (eqb (length bs % 16) 0 && isComplete m rs) e
     where
-      go : (b : Bool) → cond b (problem (problemOf m n rs)) (fault k) ≡ problem p → (m ≡ p .m) × (n ≡ p .n)
-      go true q = let z : problemOf m n rs ≡ p = cc in (ap (λ (x : Problem). x .m) z, ap (λ (x : Problem). x .n) z)
+      go : (b : Bool) → cond b (problem (problemFrom m n rs)) (fault k) ≡ problem p → (m ≡ p .m) × (n ≡ p .n)
+      go true q = let z : problemFrom m n rs ≡ p = cc in (ap (λ (x : Problem). x .m) z, ap (λ (x : Problem). x .n) z)
       go false q = fault-not k p q
   walk-sizes (suc left) k rs e = go (isSound m n rs (recordAt bs k)) (λ q. walk-sizes left (k + 1) (recordAt bs k ∷ rs) q) e
     where
@@ -38,21 +40,24 @@ module _ (m n : ℕ) (bs : List ℕ) (p : Problem) where
 
 pub problem-sizes : (bs : List ℕ) (p : Problem) → decode bs ≡ problem p → InTable (p .m) (p .n)
 unfolding decode
-problem-sizes bs p e = go (leb 16 (length bs) && isHead (recordAt bs 0)) (isDimension (columnOf (recordAt bs 0)) && isEqualities (rowOf (recordAt bs 0))) refl e
+problem-sizes bs p e = go (leb 16 (length bs) && isHead (recordAt bs 0)) (isDimension (columnOf (recordAt bs 0)) && isConstraints (rowNumber (recordAt bs 0))) refl e
   where
-    go : (s t : Bool) → (isDimension (columnOf (recordAt bs 0)) && isEqualities (rowOf (recordAt bs 0))) ≡ t
-        → cond s (cond t (walk (rowOf (recordAt bs 0)) (columnOf (recordAt bs 0)) bs (length bs / 16 - 1) 1 []) tooLarge) (fault 0) ≡ problem p → InTable (p .m) (p .n)
+    go : (s t : Bool) → (isDimension (columnOf (recordAt bs 0)) && isConstraints (rowNumber (recordAt bs 0))) ≡ t
+        → cond s (cond t (walk (rowNumber (recordAt bs 0)) (columnOf (recordAt bs 0)) bs (length bs / 16 - 1) 1 []) tooLarge) (fault 0) ≡ problem p → InTable (p .m) (p .n)
     go true true h q =
-        let w = sizes-in (rowOf (recordAt bs 0)) (columnOf (recordAt bs 0)) h in
-        let s = walk-sizes (rowOf (recordAt bs 0)) (columnOf (recordAt bs 0)) bs p (length bs / 16 - 1) 1 [] q in
+        let w = sizes-in (rowNumber (recordAt bs 0)) (columnOf (recordAt bs 0)) h in
+        let s = walk-sizes (rowNumber (recordAt bs 0)) (columnOf (recordAt bs 0)) bs p (length bs / 16 - 1) 1 [] q in
         record { few = omega (arith, w .few, s .0); some = omega (arith, w .some, s .1); most = omega (arith, w .most, s .1) }
     go true false h q = large-not p q
     go false t h q = fault-not 0 p q
 
 -- of the code's answer, where it says that there is a problem
-pub whole-sizes : (bs : List ℕ) (r : Input) (m n : ℕ) (marks : List ℕ) (vals : List Float) → r ≡ Whole m n → says r marks vals ≡ decode bs → InTable m n
+pub whole-sizes : (bs : List ℕ) (r : Input) (m n : ℕ) (marks : List ℕ) (vals : List Float) → r ≡ Whole m n → decodedIn r marks vals ≡ decode bs → InTable m n
 unfolding problemIn
-whole-sizes bs r m n marks vals e h = problem-sizes bs (problemIn m n marks vals) (sym h ∙ ap (λ (q : Input). says q marks vals) e)
+whole-sizes bs r m n marks vals e h = problem-sizes bs (problemIn m n marks vals) (sym h ∙ ap (λ (q : Input). decodedIn q marks vals) e)
 
-pub whole-tables : (r : Input) (m n : ℕ) (marks : List ℕ) (vals : List Float) → r ≡ Whole m n → AreTables r marks vals → (length marks ≡ 576) × (length vals ≡ 576)
-whole-tables r m n marks vals e h = subst (λ (q : Input). AreTables q marks vals) e h
+-- the promise allows one answer only
+pub one-decoding : OneDecoding
+one-decoding bs r q marks marks₁ marks₂ vals vals₁ vals₂ h k =
+    let e : filling r marks₁ vals₁ ≡ filling q marks₂ vals₂ = h .the-tables ∙ sym (k .the-tables) in
+    (ap (λ (f : Filling). f .answer) e, ap (λ (f : Filling). f .marks) e, ap (λ (f : Filling). f .vals) e)

@@ -1,4 +1,4 @@
--- Each record taken marks a place that was free, so an input has at most 577 sound records, and the first 578 records decide. Assumes nothing.
+-- Each record taken marks a place that was free, so an input has at most 577 sound records, and the first 578 records decide.
 use mathlib.Core.Path.{_≡_, refl, sym, ap, _∙_}
 use mathlib.Core.Bool.{Bool, true, false, cond}
 use mathlib.Core.List.{List, [], _∷_, _++_}
@@ -14,8 +14,10 @@ use Rattle.record_read.specs.declared.Spot.{Spot}
 use Rattle.record_read.specs.declared.Spot.the-variants.{Outside, At}
 use Rattle.record_read.specs.declared.Head.{Head}
 use Rattle.record_read.specs.declared.Head.the-variants.{Unsound, TooLarge, Sizes}
+use Rattle.record_read.specs.declared.Input.the-variants.{Fault, Large}
 use Rattle.record_read.specs.Input.{tagOf, bitsOf, recordAt}
-use Rattle.record_read.specs.Work.{markOf, entryOf, Entered, bad, next, ifEntered, put, entered, faultAt, outsideSizes, onEntered, onHead, walkTables, decodeTables, headOf, noMarks, defaults, saying}
+use Rattle.record_read.specs.inner.Tables.{markOf, noMarks, defaults}
+use Rattle.record_read.specs.inner.Filling.{entryOf, Entered, kept, added, ifEntered, put, entered, filling, onEntered, onHead, walkTables, decodeTables, headOf, stated}
 use Rattle.record_read.specs.Claims.{FirstBytesDecide}
 use Rattle.record_read.proofs.Agreement.{agreement}
 use Rattle.record_read.proofs.Entries.{mark-some}
@@ -47,27 +49,27 @@ record Marked (marks marks′ : List ℕ) : Type 0 where
   size : length marks′ ≡ length marks
   more : used marks′ ≡ suc (used marks)
 
-bad-not : {A : Type 0} (a : List ℕ) (b : List Float) → bad ≡ next a b → A
-bad-not a b e = let z : _≡_ {A = ℕ} 0 1 = cc in absurd (omega arith)
+kept-not : {A : Type 0} (a c : List ℕ) (b d : List Float) → kept c d ≡ added a b → A
+kept-not a c b d e = let z : _≡_ {A = ℕ} 0 1 = cc in absurd (omega arith)
 
 put-marks : (p k : ℕ) (v : Float) (marks marks′ : List ℕ) (vals vals′ : List Float) → p < length marks → (k ≡ 0 → ⊥)
-    → put (At p) k v marks vals ≡ next marks′ vals′ → Marked marks marks′
+    → put (At p) k v marks vals ≡ added marks′ vals′ → Marked marks marks′
 unfolding put
 put-marks p k v marks marks′ vals vals′ h n e = go (eqb (getD marks p 0) 0) refl e
   where
-    go : (b : Bool) → eqb (getD marks p 0) 0 ≡ b → ifEntered b (next (set marks p k) (set vals p v)) ≡ next marks′ vals′ → Marked marks marks′
+    go : (b : Bool) → eqb (getD marks p 0) 0 ≡ b → ifEntered b (added (set marks p k) (set vals p v)) (kept marks vals) ≡ added marks′ vals′ → Marked marks marks′
     go true t q =
         let s : set marks p k ≡ marks′ = cc in
         record { size = ap length (sym s) ∙ length-set marks p k; more = ap used (sym s) ∙ used-set marks p k h (eqb-true _ _ t) n }
-    go false t q = bad-not marks′ vals′ q
+    go false t q = kept-not marks′ marks vals′ vals q
 
 entered-marks : (m n : ℕ) (r marks marks′ : List ℕ) (vals vals′ : List Float) → m ≤ 16 → n ≤ 16 → length marks ≡ 576
-    → entered m n r marks vals ≡ next marks′ vals′ → Marked marks marks′
+    → entered m n r marks vals ≡ added marks′ vals′ → Marked marks marks′
 unfolding entered put
 entered-marks m n r marks marks′ vals vals′ hm hn l e = go (entryOf m n r) refl e
   where
-    go : (s : Spot) → entryOf m n r ≡ s → put s (markOf (tagOf r)) (ofBits binary64 (bitsOf r)) marks vals ≡ next marks′ vals′ → Marked marks marks′
-    go Outside t q = bad-not marks′ vals′ q
+    go : (s : Spot) → entryOf m n r ≡ s → put s (markOf (tagOf r)) (ofBits binary64 (bitsOf r)) marks vals ≡ added marks′ vals′ → Marked marks marks′
+    go Outside t q = kept-not marks′ marks vals′ vals q
     go (At p) t q =
         let h : p < 576 = entry-in m n r p hm hn t in
         put-marks p (markOf (tagOf r)) (ofBits binary64 (bitsOf r)) marks marks′ vals vals′ (omega arith) (mark-some (tagOf r)) q
@@ -93,10 +95,10 @@ walk-same m n p q (suc left) (suc more) k marks vals hm hn l u lp e f =
     go : (s : Entered) → entered m n (recordAt p k) marks vals ≡ s
         → ((marks′ : List ℕ) (vals′ : List Float) → length marks′ ≡ 576 → used marks′ + 1 ≡ k + 1
         → walkTables m n (p ++ q) more (k + 1) marks′ vals′ ≡ walkTables m n p left (k + 1) marks′ vals′)
-        → onEntered s (faultAt k) (λ marks′ vals′. walkTables m n (p ++ q) more (k + 1) marks′ vals′)
-        ≡ onEntered s (faultAt k) (λ marks′ vals′. walkTables m n p left (k + 1) marks′ vals′)
-    go bad t ih = refl
-    go (next marks′ vals′) t ih =
+        → onEntered s k (λ marks′ vals′. walkTables m n (p ++ q) more (k + 1) marks′ vals′)
+        ≡ onEntered s k (λ marks′ vals′. walkTables m n p left (k + 1) marks′ vals′)
+    go (kept marks′ vals′) t ih = refl
+    go (added marks′ vals′) t ih =
         let w : Marked marks marks′ = entered-marks m n (recordAt p k) marks marks′ vals vals′ hm hn l t in
         ih marks′ vals′ (w .size ∙ l) (omega (arith, w .more))
 
@@ -110,7 +112,7 @@ unfolding noMarks
 no-marks = (length-replicate {A = ℕ} 576 0, omega (arith, used-none 576))
 
 -- the first 9,248 bytes decide what the tables hold
-enough : (p q : List ℕ) → length p ≡ 9248 → decodeTables (p ++ q) ≡ decodeTables p
+enough : (p q : List ℕ) → length p ≡ 9248 → decodeTables (p ++ q) [] [] ≡ decodeTables p [] []
 unfolding decodeTables
 enough p q lp =
     let h : 16 ≤ length p = omega arith in
@@ -118,8 +120,8 @@ enough p q lp =
     simp (le-ltb _ _ h, le-ltb _ _ g, take-append-le 16 p q h) (at (headOf (take 16 p)) refl)
   where
     at : (h : Head) → headOf (take 16 p) ≡ h
-        → onHead h (faultAt 0) outsideSizes (λ m n. walkTables m n (p ++ q) (length (p ++ q) / 16 - 1) 1 noMarks (defaults n))
-        ≡ onHead h (faultAt 0) outsideSizes (λ m n. walkTables m n p (length p / 16 - 1) 1 noMarks (defaults n))
+        → onHead h (filling (Fault 0) [] []) (filling Large [] []) (λ m n. walkTables m n (p ++ q) (length (p ++ q) / 16 - 1) 1 noMarks (defaults n))
+        ≡ onHead h (filling (Fault 0) [] []) (filling Large [] []) (λ m n. walkTables m n p (length p / 16 - 1) 1 noMarks (defaults n))
     at Unsound t = refl
     at TooLarge t = refl
     at (Sizes m n) t =
@@ -128,4 +130,4 @@ enough p q lp =
         (omega arith) (omega (arith, length-append p q))
 
 pub first-bytes : FirstBytesDecide
-first-bytes p q lp = sym (agreement (p ++ q)) ∙ ap saying (enough p q lp) ∙ agreement p
+first-bytes p q lp = sym (agreement (p ++ q) [] []) ∙ ap stated (enough p q lp) ∙ agreement p [] []

@@ -1,4 +1,4 @@
--- One record, entered in the tables. Assumes nothing.
+-- One record, entered in the tables.
 use mathlib.Core.Path.{_≡_}
 use mathlib.Core.Bool.{cond, Bool, true, false}
 use mathlib.Core.List.{List}
@@ -7,8 +7,9 @@ use native.Mathlib.Omega.{arith}
 use lib.Dec.{eqb}
 use lib.Ieee.{Float, binary64, ofBits}
 use Rattle.record_read.specs.declared.Spot.the-variants.{Outside, At}
-use Rattle.record_read.specs.Work.{spotOf, entryOf, markOf, bad, put, entered}
-use Rattle.record_read.specs.Input.{spareZero, tagOf, rowOf, columnOf, bitsOf}
+use Rattle.record_read.specs.inner.Tables.{spotOf, markOf}
+use Rattle.record_read.specs.inner.Filling.{entryOf, kept, put, entered}
+use Rattle.record_read.specs.Input.{spareZero, tagOf, rowNumber, columnOf, bitsOf}
 
 -- a mark is not 0
 pub mark-some : (tag : ℕ) → markOf tag ≡ 0 → ⊥
@@ -23,11 +24,11 @@ pub entry-spare : (m n : ℕ) (r : List ℕ) → spareZero r ≡ false → Outsi
 unfolding entryOf
 entry-spare m n r e = simp e
 
-pub entry-at : (m n : ℕ) (r : List ℕ) → spareZero r ≡ true → spotOf m n (tagOf r) (rowOf r) (columnOf r) ≡ entryOf m n r
+pub entry-at : (m n : ℕ) (r : List ℕ) → spareZero r ≡ true → spotOf m n (tagOf r) (rowNumber r) (columnOf r) ≡ entryOf m n r
 unfolding entryOf
 entry-at m n r e = simp e
 
-pub enter-bad : (m n : ℕ) (r marks : List ℕ) (vals : List Float) → entryOf m n r ≡ Outside → bad ≡ entered m n r marks vals
+pub enter-bad : (m n : ℕ) (r marks : List ℕ) (vals : List Float) → entryOf m n r ≡ Outside → kept marks vals ≡ entered m n r marks vals
 unfolding entered put
 enter-bad m n r marks vals e = simp e
 

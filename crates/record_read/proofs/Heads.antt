@@ -1,16 +1,16 @@
--- The first record and its sizes. Assumes nothing.
+-- The first record and its sizes.
 use mathlib.Core.Path.{_≡_, refl}
 use mathlib.Core.Bool.{Bool, true, false, _&&_}
 use mathlib.Core.List.{List}
 use Prim.Native.Nat.{ℕ, _≤_, _<_}
 use native.Mathlib.Omega.{arith}
 use borrow.Author.Tests.{eq-eqb, ne-eqb}
-use Rattle.workspace.specs.Tables.{isDimension, isEqualities}
-use Rattle.workspace.proofs.Tests.{and-true, dimension-le, dimension-ge, equalities-le}
+use Rattle.workspace.specs.Tables.{isDimension, isConstraints}
+use Rattle.workspace.proofs.Tests.{and-true, dimension-le, dimension-ge, constraints-le}
 use Rattle.record_read.specs.declared.Head.{Head}
 use Rattle.record_read.specs.declared.Head.the-variants.{Unsound, TooLarge, Sizes}
-use Rattle.record_read.specs.Work.{ifHead, headOf, sizesOf}
-use Rattle.record_read.specs.Input.{isHead, spareZero, tagOf, rowOf, columnOf, bitsOf}
+use Rattle.record_read.specs.inner.Filling.{ifHead, headOf, sizesOf}
+use Rattle.record_read.specs.Input.{isHead, spareZero, tagOf, rowNumber, columnOf, bitsOf}
 
 pub head-tag : (r : List ℕ) → (tagOf r ≡ 68 → ⊥) → Unsound ≡ headOf r
 unfolding headOf isHead
@@ -24,7 +24,7 @@ pub head-bits : (r : List ℕ) → tagOf r ≡ 68 → spareZero r ≡ true → (
 unfolding headOf isHead
 head-bits r h e b = simp (eq-eqb _ _ h, e, ne-eqb _ _ b)
 
-pub head-sound : (r : List ℕ) → tagOf r ≡ 68 → spareZero r ≡ true → bitsOf r ≡ 0 → sizesOf (rowOf r) (columnOf r) ≡ headOf r
+pub head-sound : (r : List ℕ) → tagOf r ≡ 68 → spareZero r ≡ true → bitsOf r ≡ 0 → sizesOf (rowNumber r) (columnOf r) ≡ headOf r
 unfolding headOf isHead
 head-sound r h e b = simp (eq-eqb _ _ h, e, eq-eqb _ _ b)
 
@@ -43,15 +43,15 @@ pub record InTable (m n : ℕ) : Type 0 where
   pub some : 0 < n
   pub most : n ≤ 16
 
-pub sizes-in : (m n : ℕ) → (isDimension n && isEqualities m) ≡ true → InTable m n
+pub sizes-in : (m n : ℕ) → (isDimension n && isConstraints m) ≡ true → InTable m n
 sizes-in m n e =
-    let x = and-true (isDimension n) (isEqualities m) e in
-    record { few = equalities-le m (x .1); some = dimension-ge n (x .0); most = dimension-le n (x .0) }
+    let x = and-true (isDimension n) (isConstraints m) e in
+    record { few = constraints-le m (x .1); some = dimension-ge n (x .0); most = dimension-le n (x .0) }
 
 sizes-of : (a b m n : ℕ) → sizesOf a b ≡ Sizes m n → InTable m n
 unfolding sizesOf
 sizes-of a b m n e =
-    let x = if-head (isDimension b && isEqualities a) (Sizes a b) TooLarge m n (large-not m n) e in
+    let x = if-head (isDimension b && isConstraints a) (Sizes a b) TooLarge m n (large-not m n) e in
     let w = sizes-in a b (x .0) in
     let p : a ≡ m = cc (x .1) in
     let q : b ≡ n = cc (x .1) in
@@ -60,17 +60,17 @@ sizes-of a b m n e =
 pub head-in : (r : List ℕ) (m n : ℕ) → headOf r ≡ Sizes m n → InTable m n
 unfolding headOf
 head-in r m n e =
-    let x = if-head (isHead r) (sizesOf (rowOf r) (columnOf r)) Unsound m n (unsound-not m n) e in
-    sizes-of (rowOf r) (columnOf r) m n (x .1)
+    let x = if-head (isHead r) (sizesOf (rowNumber r) (columnOf r)) Unsound m n (unsound-not m n) e in
+    sizes-of (rowNumber r) (columnOf r) m n (x .1)
 
 pub sizes-not : (m n : ℕ) → isDimension n ≡ false → TooLarge ≡ sizesOf m n
 unfolding sizesOf
 sizes-not m n e = rw e
 
-pub sizes-many : (m n : ℕ) → isDimension n ≡ true → isEqualities m ≡ false → TooLarge ≡ sizesOf m n
+pub sizes-many : (m n : ℕ) → isDimension n ≡ true → isConstraints m ≡ false → TooLarge ≡ sizesOf m n
 unfolding sizesOf
 sizes-many m n e f = rw (e, f)
 
-pub sizes-good : (m n : ℕ) → isDimension n ≡ true → isEqualities m ≡ true → Sizes m n ≡ sizesOf m n
+pub sizes-good : (m n : ℕ) → isDimension n ≡ true → isConstraints m ≡ true → Sizes m n ≡ sizesOf m n
 unfolding sizesOf
 sizes-good m n e f = rw (e, f)

@@ -1,4 +1,4 @@
--- An index lies inside, as specs/Input.antt says, exactly where its entry has a place in the tables. Assumes nothing.
+-- An index lies inside, as specs/Input.antt says, exactly where its entry has a place in the tables.
 use mathlib.Core.Path.{_≡_, refl, sym, _∙_}
 use mathlib.Core.Logic.{⊎-elim}
 use mathlib.Core.Bool.{Bool, true, false, not, cond, _&&_, _||_}
@@ -11,7 +11,7 @@ use Rattle.record_read.specs.declared.Block.{Block}
 use Rattle.record_read.specs.declared.Spot.{Spot}
 use Rattle.record_read.specs.declared.Spot.the-variants.{Outside, At}
 use Rattle.record_read.specs.Input.{is, isInside}
-use Rattle.record_read.specs.Work.{block, either, blockOf, ifSpot, within, spotOf}
+use Rattle.record_read.specs.inner.Tables.{block, either, blockOf, ifSpot, within, spotOf}
 use Rattle.record_read.proofs.Bytes.{and-false}
 
 abbrev pub isAt : Spot → Bool

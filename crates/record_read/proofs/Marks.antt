@@ -1,4 +1,4 @@
--- The tables before the second record, and the constraints' marks at the end. Assumes nothing.
+-- The tables before the second record, and the constraints' marks at the end.
 use mathlib.Core.Path.{_≡_}
 use mathlib.Core.Bool.{true, false}
 use mathlib.Core.List.{List, _∷_, append-nil}
@@ -9,7 +9,8 @@ use borrow.Author.Tests.{eq-eqb, ne-eqb}
 use lib.ListN.{replicate, length, getD, drop, take, drop-of-length-le}
 use lib.Seq.{drop-cons}
 use Rattle.workspace.specs.Tables.{cleared}
-use Rattle.record_read.specs.Work.{noMarks, allMarked}
+use Rattle.record_read.specs.inner.Tables.{noMarks}
+use Rattle.record_read.specs.inner.Filling.{allMarked}
 
 cleared-all : (k : ℕ) (d : List ℕ) → length d ≡ k → cleared 0 k d ≡ replicate k 0
 unfolding cleared

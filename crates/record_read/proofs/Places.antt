@@ -1,4 +1,4 @@
--- Two entries share a place only if they are one entry: the same block, row and column. Assumes nothing.
+-- Two entries share a place only if they are one entry: the same block, row and column.
 use mathlib.Core.Path.{_≡_, refl, sym, ap, _∙_}
 use mathlib.Core.Bool.{Bool, true, false, cond}
 use Prim.Native.Nat.{ℕ, _+_, _*_, _/_, _%_, _≤_, _<_}
@@ -11,7 +11,7 @@ use Rattle.numbers.proofs.Lists.{index-lt}
 use Rattle.record_read.specs.declared.Block.{Block}
 use Rattle.record_read.specs.declared.Spot.the-variants.{At}
 use Rattle.record_read.specs.Input.{is, field}
-use Rattle.record_read.specs.Work.{block, either, blockOf, within}
+use Rattle.record_read.specs.inner.Tables.{block, either, blockOf, within}
 use Rattle.record_read.proofs.Blocks.{if-spot, square}
 
 -- a place in a block

@@ -1,4 +1,4 @@
--- Laws of the walkTables over the records: one record taken, and the end. Assumes nothing.
+-- Laws of the walk over the records: one record taken, the end, and the whole input.
 use mathlib.Core.Path.{_≡_, sym, ap, _∙_}
 use mathlib.Core.Bool.{Bool, true, false}
 use mathlib.Core.List.{List}
@@ -12,7 +12,10 @@ use Rattle.record_read.specs.declared.Head.the-variants.{Unsound, TooLar
 use Rattle.record_read.specs.declared.Input.{Input}
 use Rattle.record_read.specs.declared.Input.the-variants.{Fault, Large, Whole}
 use Rattle.record_read.specs.Input.{recordAt}
-use Rattle.record_read.specs.Work.{AreTables, Filled, bad, next, entered, gave, faultAt, outsideSizes, filled, allMarked, closing, walkTables, decodeTables, headOf, noMarks, defaults}
+use Rattle.record_read.specs.inner.Tables.{VALUES, noMarks, defaults}
+use Rattle.record_read.specs.inner.Filling.{filling, Filling, kept, added, entered, enteredBy, allMarked, closing, walkTables, decodeTables, headOf, stated}
+use Rattle.record_read.specs.Promise.{Decodes}
+use Rattle.record_read.proofs.Agreement.{agreement}
 
 module _ (m n : ℕ) (bs : List ℕ) where
   -- a turn's part of the input is the record
@@ -20,26 +23,26 @@ module _ (m n : ℕ) (bs : List ℕ) where
   part k = ap (λ (j : ℕ). take j (drop (16 * k) bs)) (add-sub-cancel-left (16 * k) 16)
 
   taken : (marks marks′ : List ℕ) (vals vals′ : List Float) (k : ℕ) (b : Bool)
-      → gave b marks′ vals′ ≡ entered m n (take (16 * k + 16 - 16 * k) (drop (16 * k) bs)) marks vals
-      → gave b marks′ vals′ ≡ entered m n (recordAt bs k) marks vals
+      → enteredBy b marks′ vals′ ≡ entered m n (take (16 * k + 16 - 16 * k) (drop (16 * k) bs)) marks vals
+      → enteredBy b marks′ vals′ ≡ entered m n (recordAt bs k) marks vals
   taken marks marks′ vals vals′ k b e = rw (part k) at e
 
   pub walk-bad : (marks marks′ : List ℕ) (vals vals′ : List Float) (whole k : ℕ) (b : Bool) → k < whole → b ≡ false
-      → gave b marks′ vals′ ≡ entered m n (take (16 * k + 16 - 16 * k) (drop (16 * k) bs)) marks vals
-      → faultAt k ≡ walkTables m n bs (whole - k) k marks vals
+      → enteredBy b marks′ vals′ ≡ entered m n (take (16 * k + 16 - 16 * k) (drop (16 * k) bs)) marks vals
+      → filling (Fault k) marks′ vals′ ≡ walkTables m n bs (whole - k) k marks vals
   unfolding walkTables
   walk-bad marks marks′ vals vals′ whole k b h f e =
       let s : whole - k ≡ suc (whole - (k + 1)) = omega arith in
-      let q : entered m n (recordAt bs k) marks vals ≡ bad = sym (taken marks marks′ vals vals′ k b e) ∙ ap (λ (t : Bool). gave t marks′ vals′) f in
+      let q : entered m n (recordAt bs k) marks vals ≡ kept marks′ vals′ = sym (taken marks marks′ vals vals′ k b e) ∙ ap (λ (t : Bool). enteredBy t marks′ vals′) f in
       rw s (simp q)
 
   pub walk-next : (marks marks′ : List ℕ) (vals vals′ : List Float) (whole k : ℕ) (b : Bool) → k < whole → b ≡ true
-      → gave b marks′ vals′ ≡ entered m n (take (16 * k + 16 - 16 * k) (drop (16 * k) bs)) marks vals
+      → enteredBy b marks′ vals′ ≡ entered m n (take (16 * k + 16 - 16 * k) (drop (16 * k) bs)) marks vals
       → walkTables m n bs (whole - (k + 1)) (k + 1) marks′ vals′ ≡ walkTables m n bs (whole - k) k marks vals
   unfolding walkTables
   walk-next marks marks′ vals vals′ whole k b h f e =
       let s : whole - k ≡ suc (whole - (k + 1)) = omega arith in
-      let q : entered m n (recordAt bs k) marks vals ≡ next marks′ vals′ = sym (taken marks marks′ vals vals′ k b e) ∙ ap (λ (t : Bool). gave t marks′ vals′) f in
+      let q : entered m n (recordAt bs k) marks vals ≡ added marks′ vals′ = sym (taken marks marks′ vals vals′ k b e) ∙ ap (λ (t : Bool). enteredBy t marks′ vals′) f in
       rw s (simp q)
 
   module _ (marks : List ℕ) (vals : List Float) (whole k : ℕ) (done : whole ≤ k) where
@@ -47,15 +50,15 @@ module _ (m n : ℕ) (bs : List ℕ) where
     unfolding walkTables
     walk-end = let s : whole - k ≡ zero = omega arith in rw s
 
-    pub walk-short : (length bs % 16 ≡ 0 → ⊥) → faultAt k ≡ walkTables m n bs (whole - k) k marks vals
+    pub walk-short : (length bs % 16 ≡ 0 → ⊥) → filling (Fault k) marks vals ≡ walkTables m n bs (whole - k) k marks vals
     unfolding closing
     walk-short h = simp (ne-eqb _ _ h) at walk-end
 
-    pub walk-missing : length bs % 16 ≡ 0 → allMarked (take m (drop 272 marks)) ≡ false → faultAt k ≡ walkTables m n bs (whole - k) k marks vals
+    pub walk-missing : length bs % 16 ≡ 0 → allMarked (take m (drop VALUES marks)) ≡ false → filling (Fault k) marks vals ≡ walkTables m n bs (whole - k) k marks vals
     unfolding closing
     walk-missing h e = simp (eq-eqb _ _ h, e) at walk-end
 
-    pub walk-done : length bs % 16 ≡ 0 → allMarked (take m (drop 272 marks)) ≡ true → filled m n marks vals ≡ walkTables m n bs (whole - k) k marks vals
+    pub walk-done : length bs % 16 ≡ 0 → allMarked (take m (drop VALUES marks)) ≡ true → filling (Whole m n) marks vals ≡ walkTables m n bs (whole - k) k marks vals
     unfolding closing
     walk-done h e = simp (eq-eqb _ _ h, e) at walk-end
 
@@ -64,29 +67,32 @@ part-length bs k h = simp (length-take, length-drop) (omega arith)
 
 -- ---- the whole input
 
-pub decode-short : (bs : List ℕ) → length bs < 16 → faultAt 0 ≡ decodeTables bs
-unfolding decodeTables
-decode-short bs h = simp (lt-ltb _ _ h)
-
-module _ (bs : List ℕ) (h : 16 ≤ length bs) where
-  pub decode-unsound : headOf (take 16 bs) ≡ Unsound → faultAt 0 ≡ decodeTables bs
+module _ (bs marks : List ℕ) (vals : List Float) where
+  pub decode-short : length bs < 16 → filling (Fault 0) marks vals ≡ decodeTables bs marks vals
   unfolding decodeTables
-  decode-unsound e = simp (le-ltb _ _ h, e)
+  decode-short h = simp (lt-ltb _ _ h)
 
-  pub decode-large : headOf (take 16 bs) ≡ TooLarge → outsideSizes ≡ decodeTables bs
-  unfolding decodeTables
-  decode-large e = simp (le-ltb _ _ h, e)
+  module _ (h : 16 ≤ length bs) where
+    pub decode-unsound : headOf (take 16 bs) ≡ Unsound → filling (Fault 0) marks vals ≡ decodeTables bs marks vals
+    unfolding decodeTables
+    decode-unsound e = simp (le-ltb _ _ h, e)
 
-  pub decode-walk : (m n : ℕ) → headOf (take 16 bs) ≡ Sizes m n → walkTables m n bs (length bs / 16 - 1) 1 noMarks (defaults n) ≡ decodeTables bs
-  unfolding decodeTables
-  decode-walk m n e = simp (le-ltb _ _ h, e)
+    pub decode-large : headOf (take 16 bs) ≡ TooLarge → filling Large marks vals ≡ decodeTables bs marks vals
+    unfolding decodeTables
+    decode-large e = simp (le-ltb _ _ h, e)
 
-  -- the walk's answer x, with the tables that it begins with
-  pub decode-from : (m n : ℕ) → headOf (take 16 bs) ≡ Sizes m n → (x : Filled) (marks : List ℕ) (vals : List Float) → marks ≡ noMarks → vals ≡ defaults n
-      → x ≡ walkTables m n bs (length bs / 16 - 1) 1 marks vals → x ≡ decodeTables bs
-  decode-from m n e x marks vals a b q = q ∙ rw (a, b) (decode-walk m n e)
+    decode-walk : (m n : ℕ) → headOf (take 16 bs) ≡ Sizes m n → walkTables m n bs (length bs / 16 - 1) 1 noMarks (defaults n) ≡ decodeTables bs marks vals
+    unfolding decodeTables
+    decode-walk m n e = simp (le-ltb _ _ h, e)
 
-pub are-tables : (r : Input) (marks : List ℕ) (vals : List Float) → length marks ≡ 576 → length vals ≡ 576 → AreTables r marks vals
-are-tables (Fault k) marks vals a b = tt
-are-tables Large marks vals a b = tt
-are-tables (Whole m n) marks vals a b = (a, b)
+    -- the walk's answer x, with the tables that it begins with
+    pub decode-from : (m n : ℕ) → headOf (take 16 bs) ≡ Sizes m n → (x : Filling) (marks₁ : List ℕ) (vals₁ : List Float) → marks₁ ≡ noMarks → vals₁ ≡ defaults n
+        → x ≡ walkTables m n bs (length bs / 16 - 1) 1 marks₁ vals₁ → x ≡ decodeTables bs marks vals
+    decode-from m n e x marks₁ vals₁ a b q = q ∙ rw (a, b) (decode-walk m n e)
+
+-- ---- the promise, from all that is left
+
+pub decodes : (bs : List ℕ) (r : Input) (marks marks′ : List ℕ) (vals vals′ : List Float) → filling r marks′ vals′ ≡ decodeTables bs marks vals
+    → length marks′ ≡ length marks → length vals′ ≡ length vals → Decodes bs r marks marks′ vals vals′
+decodes bs r marks marks′ vals vals′ e a b =
+    record { the-input = ap stated e ∙ agreement bs marks vals; the-tables = e; marks-size = a; vals-size = b }

@@ -1,9 +1,19 @@
--- What is promised of the input: its first 9,248 bytes, 578 records, decide what it says. Definitions only. Assumes nothing.
+-- What is promised of the input: its first 9,248 bytes, 578 records, decide what it says; and of `decode`: its promise allows one answer only.
+-- Definitions only.
 use mathlib.Core.Path.{_≡_}
 use mathlib.Core.List.{List, _++_}
 use Prim.Native.Nat.{ℕ}
 use lib.ListN.{length}
+use lib.Ieee.{Float}
+use Rattle.record_read.specs.declared.Input.{Input}
 use Rattle.record_read.specs.Input.{decode}
+use Rattle.record_read.specs.Promise.{Decodes}
 
 abbrev pub FirstBytesDecide : Type 0
 FirstBytesDecide = (p q : List ℕ) → length p ≡ 9248 → decode (p ++ q) ≡ decode p
+
+-- two calls on the same bytes and tables answer and leave the same
+abbrev pub OneDecoding : Type 0
+OneDecoding =
+    (bs : List ℕ) (r q : Input) (marks marks₁ marks₂ : List ℕ) (vals vals₁ vals₂ : List Float)
+    → Decodes bs r marks marks₁ vals vals₁ → Decodes bs q marks marks₂ vals vals₂ → (r ≡ q) × (marks₁ ≡ marks₂) × (vals₁ ≡ vals₂)

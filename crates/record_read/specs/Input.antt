@@ -1,5 +1,5 @@
 -- What the record program reads (docs/RULES.md, "The record program"): 16-byte records, to the first fault, to sizes outside the table, or to a problem.
--- Definitions only. Assumes nothing.
+-- Definitions only.
 use mathlib.Core.Bool.{Bool, true, false, not, cond, _&&_, _||_}
 use mathlib.Core.List.{List, [], _∷_}
 use mathlib.Core.Option.{Option, none, some}
@@ -9,27 +9,23 @@ use lib.Dec.{ltb, leb, eqb}
 use lib.ListN.{length, getD, take, drop}
 use lib.Ieee.{Float, inf, binary64, ofBits}
 use Rattle.numbers.specs.Numbers.{+0, one, tab, grid}
-use Rattle.workspace.specs.Tables.{isDimension, isEqualities}
-use Rattle.step_rows.specs.Problem.{Problem}
+use Rattle.endian.specs.Little.{numberAt}
+use Rattle.workspace.specs.Tables.{isDimension, isConstraints}
+use Rattle.step_rows.specs.Problem.{Problem, problemOf}
 
--- ---- one record: byte 0 tag, byte 1 zero, bytes 2-3 row, 4-5 column, 6-7 zero, 8-15 the value's bits
-
--- the number that some bytes stand for, little-endian
-unfoldable pub little : List ℕ → ℕ
-little [] = 0
-little (b ∷ bs) = b + 256 * little bs
+-- ---- one record: byte 0 tag, byte 1 zero, bytes 2-3 row, 4-5 column, 6-7 zero, 8-15 the value's bits; numbers little-endian
 
 abbrev pub tagOf : List ℕ → ℕ
 tagOf r = getD r 0 0
 
-abbrev pub rowOf : List ℕ → ℕ
-rowOf r = little (take 2 (drop 2 r))
+abbrev pub rowNumber : List ℕ → ℕ
+rowNumber r = numberAt 2 2 r
 
 abbrev pub columnOf : List ℕ → ℕ
-columnOf r = little (take 2 (drop 4 r))
+columnOf r = numberAt 2 4 r
 
 abbrev pub bitsOf : List ℕ → ℕ
-bitsOf r = little (take 8 (drop 8 r))
+bitsOf r = numberAt 8 8 r
 
 abbrev pub valueOf : List ℕ → Float
 valueOf r = ofBits binary64 (bitsOf r)
@@ -63,7 +59,7 @@ field t = cond (is "I" t) (code "E") t
 
 -- the record r gives the entry of tag t at (row, column)
 abbrev pub gives : List ℕ → (t row column : ℕ) → Bool
-gives r t row column = eqb (field (tagOf r)) (field t) && (eqb (rowOf r) row && eqb (columnOf r) column)
+gives r t row column = eqb (field (tagOf r)) (field t) && (eqb (rowNumber r) row && eqb (columnOf r) column)
 
 -- the one among some records that gives an entry
 unfoldable pub given : List (List ℕ) → (t row column : ℕ) → Option (List ℕ)
@@ -78,11 +74,11 @@ isSome (some r) = true
 
 -- a repeated entry, or `E` and `I` for one row
 abbrev pub repeats : List (List ℕ) → List ℕ → Bool
-repeats rs r = isSome (given rs (tagOf r) (rowOf r) (columnOf r))
+repeats rs r = isSome (given rs (tagOf r) (rowNumber r) (columnOf r))
 
 -- a bad tag or an index outside, a nonzero spare byte, a repeated entry
 unfoldable pub isSound : (m n : ℕ) → List (List ℕ) → List ℕ → Bool
-isSound m n rs r = isInside m n (tagOf r) (rowOf r) (columnOf r) && (spareZero r && not (repeats rs r))
+isSound m n rs r = isInside m n (tagOf r) (rowNumber r) (columnOf r) && (spareZero r && not (repeats rs r))
 
 -- ---- the problem that some records give
 
@@ -97,19 +93,16 @@ kindOf none = 0
 kindOf (some r) = cond (is "I" (tagOf r)) 1 0
 
 -- missing: 1 on the factor's diagonal, +0 elsewhere, -infinity for a lower bound, +infinity for an upper
-unfoldable pub problemOf : (m n : ℕ) → List (List ℕ) → Problem
-problemOf m n rs =
-    record {
-      n = n;
-      m = m;
-      factor = grid n n (λ i j. orElse (given rs (code "L") i j) (cond (eqb i j) one +0));
-      gradient = tab n (λ j. orElse (given rs (code "G") 0 j) +0);
-      kinds = tab m (λ i. kindOf (given rs (code "E") i 0));
-      values = tab m (λ i. orElse (given rs (code "E") i 0) +0);
-      jacobian = grid m n (λ i j. orElse (given rs (code "A") i j) +0);
-      lower = tab n (λ j. orElse (given rs (code "B") 0 j) (inf true));
-      upper = tab n (λ j. orElse (given rs (code "T") 0 j) (inf false));
-    }
+unfoldable pub problemFrom : (m n : ℕ) → List (List ℕ) → Problem
+problemFrom m n rs =
+    problemOf n m
+    (grid n n (λ i j. orElse (given rs (code "L") i j) (cond (eqb i j) one +0)))
+    (tab n (λ j. orElse (given rs (code "G") 0 j) +0))
+    (tab m (λ i. kindOf (given rs (code "E") i 0)))
+    (tab m (λ i. orElse (given rs (code "E") i 0) +0))
+    (grid m n (λ i j. orElse (given rs (code "A") i j) +0))
+    (tab n (λ j. orElse (given rs (code "B") 0 j) (inf true)))
+    (tab n (λ j. orElse (given rs (code "T") 0 j) (inf false)))
 
 -- a constraint's value may not be missing
 unfoldable pub areGiven : List (Option (List ℕ)) → Bool
@@ -130,7 +123,7 @@ pub data Decoded : Type 0 where
 -- From record k on, of which `left` more are whole; rs are those before it, the last first.
 -- Behind them a short record is a fault, and so, last, is a missing constraint.
 unfoldable pub walk : (m n : ℕ) → List ℕ → (left k : ℕ) → List (List ℕ) → Decoded
-walk m n bs zero k rs = cond (eqb (length bs % 16) 0 && isComplete m rs) (problem (problemOf m n rs)) (fault k)
+walk m n bs zero k rs = cond (eqb (length bs % 16) 0 && isComplete m rs) (problem (problemFrom m n rs)) (fault k)
 walk m n bs (suc left) k rs =
     let r = recordAt bs k in
     cond (isSound m n rs r) (walk m n bs left (k + 1) (r ∷ rs)) (fault k)
@@ -143,6 +136,6 @@ isHead r = is "D" (tagOf r) && (spareZero r && eqb (bitsOf r) 0)
 unfoldable pub decode : List ℕ → Decoded
 decode bs =
     let r = recordAt bs 0 in
-    let m = rowOf r in
+    let m = rowNumber r in
     let n = columnOf r in
-    cond (leb 16 (length bs) && isHead r) (cond (isDimension n && isEqualities m) (walk m n bs (length bs / 16 - 1) 1 []) tooLarge) (fault 0)
+    cond (leb 16 (length bs) && isHead r) (cond (isDimension n && isConstraints m) (walk m n bs (length bs / 16 - 1) 1 []) tooLarge) (fault 0)

@@ -1,4 +1,5 @@
 -- What the record program reads. Definitions only.
 pub mod Input
+pub mod Promise
 pub mod Claims
-pub mod Work
+pub mod inner

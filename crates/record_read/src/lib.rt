@@ -1,11 +1,30 @@
-// Decodes the record program's input into two tables of 576 places, on slices alone.
+// Decodes the record program's input into two tables, a mark and a value for each entry that a problem can have, on slices
+// alone.
+mod floats;
+pub mod tables;
+
+pub use floats::is_same;
+pub use floats::value;
 ghost use mathlib.Core.Path.{_≡_};
-ghost use mathlib.Core.Bool.{Bool, true, false};
 ghost use Prim.Native.Nat.{_+_, _-_, _*_, _/_, _≤_, _<_};
-ghost use lib.ListN.{length, take, drop, getD, replicate};
-ghost use lib.Ieee.{binary64, ofBits};
-ghost use Rattle.record_read.specs.Input.{little, spareZero, decode as Input·decode};
-ghost use Rattle.record_read.specs.Work.{blockOf, within as Work·within, spotOf, markOf, put as Work·put, entryOf, entered, gave, headOf, sizesOf, defaultAt, noMarks, defaults as Work·defaults, allMarked, walkTables, told, says, AreTables};
+ghost use lib.ListN.{length, take, drop};
+ghost use Rattle.record_read.specs.Input.{spareZero};
+ghost use Rattle.record_read.specs.Promise.{Decodes};
+ghost use Rattle.record_read.specs.inner.Tables.{PLACES, VALUES as Tables·VALUES, blockOf, within as Tables·within, spotOf, markOf, defaultAt, noMarks, defaults as Tables·defaults};
+ghost use Rattle.record_read.specs.inner.Filling.{entryOf, put as Filling·put, entered, enteredBy, headOf, sizesOf, allMarked, walkTables, filling};
+
+// Where the blocks of the tables start, after the factor's at 0, and how many places a table has.
+const GRADIENT: usize = 256;
+
+const VALUES: usize = GRADIENT + 16;
+
+const JACOBIAN: usize = VALUES + 16;
+
+const LOWER: usize = JACOBIAN + 256;
+
+const UPPER: usize = LOWER + 16;
+
+const PLACES: usize = UPPER + 16;
 
 // A block of the tables: where it starts, and its shape.
 pub struct Block {
@@ -34,27 +53,6 @@ pub enum Input {
     Whole(usize, usize),
 }
 
-// A byte as a number.
-fn wide(x: u8) -> u64
-    ensures { λ r. ⌜ r ≡ x ⌝ }
-{
-    x as u64
-}
-
-// The number that at most eight bytes stand for, little-endian.
-fn number(s: &[u8]) -> u64
-    requires { ⌜ length (now s) ≤ 8 ⌝ }
-    ensures { λ r. ⌜ r ≡ little (now (s .entry)) ⌝ }
-{
-    let mut v: u64 = 0;
-    let mut i = s.len();
-    while i > 0 {
-        i -= 1;
-        v = wide(s[i]) + 256 * v;
-    }
-    v
-}
-
 // Whether the spare bytes of a record are zero.
 fn spare_zero(r: &[u8]) -> bool
     requires { ⌜ length (now r) ≡ 16 ⌝ }
@@ -79,32 +77,32 @@ fn block_of(m: usize, n: usize, tag: u8) -> Block
             cols: n,
         },
         b'G' => Block {
-            base: 256,
+            base: GRADIENT,
             rows: 1,
             cols: n,
         },
         b'E' => Block {
-            base: 272,
+            base: VALUES,
             rows: m,
             cols: 1,
         },
         b'I' => Block {
-            base: 272,
+            base: VALUES,
             rows: m,
             cols: 1,
         },
         b'A' => Block {
-            base: 288,
+            base: JACOBIAN,
             rows: m,
             cols: n,
         },
         b'B' => Block {
-            base: 544,
+            base: LOWER,
             rows: 1,
             cols: n,
         },
         b'T' => Block {
-            base: 560,
+            base: UPPER,
             rows: 1,
             cols: n,
         },
@@ -123,24 +121,10 @@ fn mark(tag: u8) -> u8
     if tag == b'I' { 2 } else { 1 }
 }
 
-// A float by its bits. Every NaN pattern gives the one NaN.
-pub fn value(bits: u64) -> f64
-    ensures { λ r. ⌜ r ≡ ofBits binary64 bits ⌝ }
-{
-    let e = bits % 9223372036854775808 / 4503599627370496;
-    let t = bits % 4503599627370496;
-    if e == 2047 {
-        if t != 0 {
-            return 0.0 / 0.0;
-        }
-    }
-    f64::from_bits(bits)
-}
-
 // The place of (row, col) in a block that lies in the tables.
 fn within(b: Block, row: usize, col: usize) -> Spot
-    requires { ⌜ (b .base ≤ 576) × (b .rows ≤ 16) × (b .cols ≤ 16) ⌝ }
-    ensures { λ r. ⌜ r ≡ Work·within b row col ⌝ }
+    requires { ⌜ (b .base ≤ PLACES) × (b .rows ≤ 16) × (b .cols ≤ 16) ⌝ }
+    ensures { λ r. ⌜ r ≡ Tables·within b row col ⌝ }
 {
     let base = b.base;
     let cols = b.cols;
@@ -168,7 +152,7 @@ fn spot_of(m: usize, n: usize, tag: u8, row: usize, col: usize) -> Spot
 // Puts an entry at a place, unless the place is marked.
 fn put(p: usize, mark: u8, v: f64, marks: &mut [u8], vals: &mut [f64]) -> bool
     requires { ⌜ (p < length (now marks)) × (p < length (now vals)) ⌝ }
-    ensures { λ r. ⌜ gave r (now (marks .exit)) (now (vals .exit)) ≡ Work·put (Spot.At p) mark v (now (marks .entry)) (now (vals .entry)) ⌝ }
+    ensures { λ r. ⌜ enteredBy r (now (marks .exit)) (now (vals .exit)) ≡ Filling·put (Spot.At p) mark v (now (marks .entry)) (now (vals .entry)) ⌝ }
 {
     if marks[p] != 0 {
         return false;
@@ -186,19 +170,19 @@ fn entry(r: &[u8], m: usize, n: usize) -> Spot
     if !spare_zero(r) {
         return Spot::Outside;
     }
-    let row = number(&r[2..4]) as usize;
-    let col = number(&r[4..6]) as usize;
+    let row = endian::read_u16(r, 2) as usize;
+    let col = endian::read_u16(r, 4) as usize;
     spot_of(m, n, r[0], row, col)
 }
 
 // One record after the first.
 fn enter(r: &[u8], m: usize, n: usize, marks: &mut [u8], vals: &mut [f64]) -> bool
     requires { ⌜ (length (now r) ≡ 16) × (m ≤ 16) × (n ≤ 16) ⌝ }
-    requires { ⌜ (length (now marks) ≡ 576) × (length (now vals) ≡ 576) ⌝ }
-    ensures { λ b. ⌜ gave b (now (marks .exit)) (now (vals .exit)) ≡ entered m n (now (r .entry)) (now (marks .entry)) (now (vals .entry)) ⌝ }
+    requires { ⌜ (length (now marks) ≡ PLACES) × (length (now vals) ≡ PLACES) ⌝ }
+    ensures { λ b. ⌜ enteredBy b (now (marks .exit)) (now (vals .exit)) ≡ entered m n (now (r .entry)) (now (marks .entry)) (now (vals .entry)) ⌝ }
 {
     let k = mark(r[0]);
-    let v = value(number(&r[8..16]));
+    let v = value(endian::read_u64(r, 8));
     let Spot::At(p) = entry(r, m, n) else {
         return false;
     };
@@ -216,10 +200,13 @@ fn first(r: &[u8]) -> Head
     if !spare_zero(r) {
         return Head::Unsound;
     }
-    if number(&r[8..16]) != 0 {
+    if endian::read_u64(r, 8) != 0 {
         return Head::Unsound;
     }
-    sizes(number(&r[2..4]) as usize, number(&r[4..6]) as usize)
+    sizes(
+        endian::read_u16(r, 2) as usize,
+        endian::read_u16(r, 4) as usize,
+    )
 }
 
 // The sizes, if they are in the table.
@@ -229,7 +216,7 @@ fn sizes(m: usize, n: usize) -> Head
     if !workspace::is_dimension(n) {
         return Head::TooLarge;
     }
-    if !workspace::is_equalities(m) {
+    if !workspace::is_constraints(m) {
         return Head::TooLarge;
     }
     Head::Sizes(m, n)
@@ -237,10 +224,10 @@ fn sizes(m: usize, n: usize) -> Head
 
 // No mark anywhere.
 fn unmark(marks: &mut [u8])
-    requires { ⌜ length (now marks) ≡ 576 ⌝ }
+    requires { ⌜ length (now marks) ≡ PLACES ⌝ }
     ensures { λ _. ⌜ now (marks .exit) ≡ noMarks ⌝ }
 {
-    for i in 0..576 {
+    for i in 0..PLACES {
         marks[i] = 0;
     }
 }
@@ -250,16 +237,16 @@ fn default_at(n: usize, p: usize) -> f64
     requires { ⌜ 0 < n ⌝ }
     ensures { λ r. ⌜ r ≡ defaultAt n p ⌝ }
 {
-    if p < 256 {
+    if p < GRADIENT {
         if p / n == p % n {
             return 1.0;
         }
         return 0.0;
     }
-    if p < 544 {
+    if p < LOWER {
         return 0.0;
     }
-    if p < 560 {
+    if p < UPPER {
         return f64::from_bits(0xfff0_0000_0000_0000);
     }
     f64::from_bits(0x7ff0_0000_0000_0000)
@@ -267,21 +254,21 @@ fn default_at(n: usize, p: usize) -> f64
 
 // Every place at its default.
 fn defaults(n: usize, vals: &mut [f64])
-    requires { ⌜ (0 < n) × (length (now vals) ≡ 576) ⌝ }
-    ensures { λ _. ⌜ now (vals .exit) ≡ Work·defaults n ⌝ }
+    requires { ⌜ (0 < n) × (length (now vals) ≡ PLACES) ⌝ }
+    ensures { λ _. ⌜ now (vals .exit) ≡ Tables·defaults n ⌝ }
 {
-    for i in 0..576 {
+    for i in 0..PLACES {
         vals[i] = default_at(n, i);
     }
 }
 
 // Whether each of m constraints has its mark.
 fn complete(m: usize, marks: &[u8]) -> bool
-    requires { ⌜ (m ≤ 16) × (length (now marks) ≡ 576) ⌝ }
-    ensures { λ r. ⌜ r ≡ allMarked (take m (drop 272 (now (marks .entry)))) ⌝ }
+    requires { ⌜ (m ≤ 16) × (length (now marks) ≡ PLACES) ⌝ }
+    ensures { λ r. ⌜ r ≡ allMarked (take m (drop Tables·VALUES (now (marks .entry)))) ⌝ }
 {
     for i in 0..m {
-        if marks[272 + i] == 0 {
+        if marks[VALUES + i] == 0 {
             return false;
         }
     }
@@ -291,8 +278,8 @@ fn complete(m: usize, marks: &[u8]) -> bool
 // The records after the first.
 fn walk(bytes: &[u8], m: usize, n: usize, marks: &mut [u8], vals: &mut [f64]) -> Input
     requires { ⌜ (16 ≤ length (now bytes)) × (m ≤ 16) × (n ≤ 16) ⌝ }
-    requires { ⌜ (length (now marks) ≡ 576) × (length (now vals) ≡ 576) ⌝ }
-    ensures { λ r. ⌜ told r (now (marks .exit)) (now (vals .exit))
+    requires { ⌜ (length (now marks) ≡ PLACES) × (length (now vals) ≡ PLACES) ⌝ }
+    ensures { λ r. ⌜ filling r (now (marks .exit)) (now (vals .exit))
         ≡ walkTables m n (now (bytes .entry)) (length (now (bytes .entry)) / 16 - 1) 1 (now (marks .entry)) (now (vals .entry)) ⌝ }
 {
     let whole = bytes.len() / 16;
@@ -313,9 +300,8 @@ fn walk(bytes: &[u8], m: usize, n: usize, marks: &mut [u8], vals: &mut [f64]) ->
 }
 
 // The whole input, into the two tables.
-pub fn decode(bytes: &[u8], marks: &mut [u8; 576], vals: &mut [f64; 576]) -> Input
-    ensures { λ r. ⌜ says r (now (marks .exit)) (now (vals .exit)) ≡ Input·decode (now (bytes .entry)) ⌝ }
-    ensures { λ r. ⌜ AreTables r (now (marks .exit)) (now (vals .exit)) ⌝ }
+pub fn decode(bytes: &[u8], marks: &mut [u8; PLACES], vals: &mut [f64; PLACES]) -> Input
+    ensures { λ r. ⌜ Decodes (now (bytes .entry)) r (now (marks .entry)) (now (marks .exit)) (now (vals .entry)) (now (vals .exit)) ⌝ }
 {
     if bytes.len() < 16 {
         return Input::Fault(0);

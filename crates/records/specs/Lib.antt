@@ -1,2 +1,2 @@
 -- The record program. Definitions only.
-pub mod Reading
+pub mod inner

@@ -1,4 +1,4 @@
--- What is due at an index, by the two cases. Assumes nothing.
+-- What is due at an index, by the two cases.
 use mathlib.Core.Path.{_≡_, refl, sym, _∙_}
 use mathlib.Core.List.{List}
 use Prim.Native.Nat.{ℕ, _+_, _-_, _*_, _%_, _≤_, _<_}

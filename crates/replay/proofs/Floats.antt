@@ -1,4 +1,4 @@
--- Two floats are the same by their bits, or as NaNs. Assumes nothing.
+-- Two floats are the same by their bits, or as NaNs.
 use mathlib.Core.Path.{_≡_, refl, sym, ap, _∙_, subst}
 use mathlib.Core.Bool.{Bool, true, false, not, true≢false}
 use lib.Dec.{T, eqb}

@@ -1,4 +1,4 @@
--- What memory holds before a call, and what is due in it afterwards. Definitions only. Assumes nothing.
+-- What memory holds before a call, and what is due in it afterwards. Definitions only.
 use mathlib.Core.Bool.{cond, _&&_}
 use mathlib.Core.List.{List}
 use mathlib.Core.Path.{_≡_}

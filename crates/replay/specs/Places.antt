@@ -1,4 +1,4 @@
--- Where the parts of a stored call stand (oracle/README.md, "The stored list"). Definitions only. Assumes nothing.
+-- Where the parts of a stored call stand (oracle/README.md, "The stored list"). Definitions only.
 use mathlib.Core.List.{List}
 use Prim.Native.Nat.{ℕ, _+_, _*_, _≤_}
 use lib.ListN.{getD}

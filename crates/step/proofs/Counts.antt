@@ -1,4 +1,4 @@
--- How many rounds LSI and LSEI take at most, refused or not. Assumes nothing.
+-- How many rounds LSI and LSEI take at most, refused or not.
 use mathlib.Core.Bool.{Bool, true, false}
 use mathlib.Core.List.{List}
 use Prim.Native.Nat.{ℕ, _+_, _-_, _*_, _≤_}

@@ -1,18 +1,19 @@
--- The exact problem: what is written for LSEI, and what its answer becomes. Assumes nothing.
+-- The exact problem: what is written for LSEI, and what its answer becomes.
 use mathlib.Core.Path.{_≡_, refl, sym, ap, ap₂, _∙_}
 use mathlib.Core.Bool.{true}
 use mathlib.Core.List.{List, [], _∷_, _++_}
 use Prim.Native.Nat.{ℕ, _+_, _*_, _-_, _≤_, _<_}
 use native.Mathlib.Nat.{mul-le-mul}
 use native.Mathlib.Omega.{arith}
-use types.Run.{OneOf}
-use denote.Enum.Declared.{tagOf}
 use lib.Dec.{eqb}
 use lib.ListN.{length, drop}
 use lib.Ieee.{Float, neg}
 use borrow.Rule.Slice.PartMut.{midOf, putMid}
 use Rattle.numbers.specs.Numbers.{+0, at, nth, row, transposed}
-use Rattle.workspace.specs.Readings.{vec, stack, Block, Loaded}
+use Rattle.workspace.specs.Tables.{outcomeOf}
+use Rattle.workspace.specs.declared.Refusal.{Refusal}
+use Rattle.workspace.specs.declared.Outcome.the-variants as Outcome
+use Rattle.workspace.specs.inner.Readings.{vec, stack, Block, Loaded}
 use Rattle.workspace.proofs.Readings.{vec-is, vec-same, vec-part, stack-same, stack-part}
 use Rattle.workspace.proofs.Writes.{block-vec}
 use Rattle.workspace.proofs.Parts.{lent-is}
@@ -20,20 +21,17 @@ use Rattle.nnls.specs.Counted.{Counted}
 use Rattle.lsei.specs.Lsei.{Solution, lsei}
 use Rattle.lsei.proofs.Costs.{lsei-most}
 use Rattle.lsei.proofs.Together.{sides-part}
-use Rattle.step_rows.specs.Problem.{Problem, rowOf, matrixOf, sidesOf, each, boundRows, equalityRows, inequalityRows}
-use Rattle.step_rows.specs.Step.{Step, inOrder, exactStep, exact}
-use Rattle.step_rows.specs.Claims.{withFactor}
-use Rattle.step_rows.specs.Work.{Pushed, picked, bare, equalitiesAmong, inequalitiesAmong}
+use Rattle.step_rows.specs.Problem.{problemOf, Problem, rowOf, matrixOf, sidesOf, each, boundRows, equalityRows, inequalityRows}
+use Rattle.step.specs.Step.{Step, inOrder, exactStep, exact}
+use Rattle.step_rows.specs.inner.Work.{Pushed, picked, equalitiesAmong, inequalitiesAmong}
 use Rattle.step_rows.proofs.Pushing.{pushed-count, pushed-matrix, pushed-sides}
 use Rattle.step_rows.proofs.Among.{all-equal, enough-exact}
-use Rattle.lsei.specs.Work.{told, sides}
-use Rattle.lsei_nullspace.specs.Work.{solutionIn}
-use Rattle.lsei.specs.declared.Ending.the-variants as Ending
+use Rattle.lsei.specs.inner.Work.{endingAnswer, endedSolution, sides}
+use Rattle.lsei_nullspace.specs.inner.Work.{solutionIn}
 use Rattle.lsei.specs.declared.Ended.{Ended}
 use Rattle.step.specs.declared.Sizes.{Sizes}
 use Rattle.step.specs.declared.Tried.the-variants.{Done, Refused}
-use Rattle.step.specs.Work.{ExactIn, Left, refusalOf, Tries}
-use Rattle.lsei.proofs.Ending.{the-type}
+use Rattle.step.specs.inner.Work.{ExactIn, Left, Tries}
 use Rattle.step.proofs.Counts.{lsei-rounds}
 use Rattle.step.proofs.Answers.{refusal-late, refused-is, done-is, rounds-are, factorings-are}
 use Rattle.step.proofs.Parts.{stack-mat, vec-back, front-back}
@@ -45,15 +43,15 @@ module _ (n m c g : ℕ) (factor : List Float) (kinds : List ℕ) (values jacobi
     (D : Block 732 c (λ t. at w₁ (444 + t * 18 + n)) w₁ w₂)
     (E : Loaded 750 n n factor w₂ w₃)
     (F : Block 1056 n (λ t. at w₃ (0 + t)) w₃ w₄)
-    (G : Pushed 1074 n 0 g (inequalityRows (bare n m kinds values jacobian lower upper)) w₄ w₅) where
+    (G : Pushed 1074 n 0 g (inequalityRows (problemOf n m [] [] kinds values jacobian lower upper)) w₄ w₅) where
   abbrev whole : Problem
-  whole = withFactor (bare n m kinds values jacobian lower upper) factor
+  whole = problemOf n m factor [] kinds values jacobian lower upper
 
   equalities-are : each m (λ j. picked true (eqb (nth kinds j) 0) (rowOf (row n j jacobian) (neg (at values j)))) ≡ equalityRows whole
   unfolding equalityRows
   equalities-are = refl
 
-  inequalities-are : inequalityRows (bare n m kinds values jacobian lower upper) ≡ inequalityRows whole
+  inequalities-are : inequalityRows (problemOf n m [] [] kinds values jacobian lower upper) ≡ inequalityRows whole
   unfolding inequalityRows boundRows
   inequalities-are = refl
 
@@ -110,7 +108,7 @@ lsei-same n me mc mc′ mg mg′ c c′ d d′ e e′ f f′ g g′ h h′ e₁ 
 -- w holds the problem, LSEI answers e and leaves v of its part
 module _ (p : Problem) (f : List Float) (c g : ℕ) (w v : List Float) (e : Ended) (n16 : p .n ≤ 16) (h : 18 ≤ length w)
     (X : ExactIn p f (record { equalities = c; inequalities = g }) w)
-    (L : told e (solutionIn (p .n) c g v)
+    (L : endedSolution e (solutionIn (p .n) c g v)
     ≡ lsei (p .n) c (p .n) g (stack 426 c (p .n) (midOf 18 (length w - 18) w)) (vec 714 c (midOf 18 (length w - 18) w)) (stack 732 (p .n) (p .n) (midOf 18 (length w - 18) w))
     (vec 1038 (p .n) (midOf 18 (length w - 18) w)) (stack 1056 g (p .n) (midOf 18 (length w - 18) w)) (sides 1056 g (p .n) (midOf 18 (length w - 18) w))) where
   abbrev eqs : Counted Solution
@@ -121,7 +119,7 @@ module _ (p : Problem) (f : List Float) (c g : ℕ) (w v : List Float) (e : Ende
   abbrev left : List Float
   left = putMid 18 (length w - 18) w v
 
-  solved : told e (solutionIn (p .n) c g v) ≡ eqs
+  solved : endedSolution e (solutionIn (p .n) c g v) ≡ eqs
   solved =
       L
       ∙ ap
@@ -149,18 +147,18 @@ module _ (p : Problem) (f : List Float) (c g : ℕ) (w v : List Float) (e : Ende
   front-left : vec 0 (p .n) left ≡ f
   front-left = front-back w v h (p .n) (omega arith) ∙ X .front
 
-  pub exact-refused : (w₀ : List Float) (k : ℕ) → f ≡ vec 0 (p .n) w₀ → k ≡ refusalOf (e .ending) → OneOf (1 ∷ 2 ∷ 3 ∷ []) (tagOf the-type (e .ending))
-      → Tries (exact p f) (p .n) (p .m) (Refused k (e .rounds) (e .factorings)) w₀ left
+  pub exact-refused : (w₀ : List Float) (r : Refusal) → f ≡ vec 0 (p .n) w₀ → Outcome.Refused r ≡ outcomeOf (endingAnswer (e .ending) (solutionIn (p .n) c g v))
+      → Tries (exact p f) (p .n) (p .m) (Refused r (e .rounds) (e .factorings)) w₀ left
   unfolding exact
-  exact-refused w₀ k q i o = record {
-    answer = refused-is e (solutionIn (p .n) c g v) eqs (exactStep p (length (equalityRows p))) solved o k [] [] i;
+  exact-refused w₀ r q i = record {
+    answer = refused-is e (solutionIn (p .n) c g v) eqs (exactStep p (length (equalityRows p))) solved r [] [] i;
     front = front-left ∙ q;
     rounds = few-rounds;
     factorings = few-factorings;
-    late = rw i (refusal-late (e .ending) o);
+    late = refusal-late (e .ending) (solutionIn (p .n) c g v) r i;
   }
 
-  pub exact-done : (w₀ w′ : List Float) → f ≡ vec 0 (p .n) w₀ → e .ending ≡ Ending.Done
+  pub exact-done : (w₀ w′ : List Float) → f ≡ vec 0 (p .n) w₀ → Outcome.Done ≡ outcomeOf (endingAnswer (e .ending) (solutionIn (p .n) c g v))
       → Left (p .n) (p .m) (vec 732 (p .n) left) (inOrder (p .kinds) 0 c (vec 378 c left ++ vec 4350 g left)) left w′
       → Tries (exact p f) (p .n) (p .m) (Done +0 (e .rounds) (e .factorings)) w₀ w′
   unfolding exact exactStep

@@ -6,4 +6,6 @@ pub mod Weight
 pub mod Relaxed
 pub mod Reading
 pub mod Both
-pub mod Calls
+pub mod Matrices
+pub mod Ordering
+pub mod Target

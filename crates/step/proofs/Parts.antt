@@ -1,4 +1,4 @@
--- Readings of LSEI's and LSI's part, which begins at 18, and of the workspace when it is back. Assumes nothing.
+-- Readings of LSEI's and LSI's part, which begins at 18, and of the workspace when it is back.
 use mathlib.Core.Path.{_≡_, refl, sym, ap, _∙_}
 use mathlib.Core.List.{List}
 use Prim.Native.Nat.{ℕ, _+_, _*_, _-_, _≤_, _<_}
@@ -8,7 +8,7 @@ use lib.Ieee.{Float, nan}
 use borrow.Rule.Slice.PartMut.{putMid}
 use Rattle.numbers.specs.Numbers.{at, transposed}
 use Rattle.numbers.proofs.Lists.{matrix-same, length-transposed, entry-transposed}
-use Rattle.workspace.specs.Readings.{vec, mat, stack}
+use Rattle.workspace.specs.inner.Readings.{vec, mat, stack}
 use Rattle.workspace.proofs.Readings.{vec-same, vec-part, length-stack, entry-stack, entry-mat}
 use Rattle.workspace.proofs.Parts.{back-part, back-get}
 

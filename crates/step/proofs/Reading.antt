@@ -1,4 +1,4 @@
--- What is left of an answer that is read: the multipliers at 36, and the step at 18. Assumes nothing.
+-- What is left of an answer that is read: the multipliers at 36, and the step at 18.
 use mathlib.Core.Path.{_≡_, refl, sym, ap, ap₂, _∙_}
 use mathlib.Core.List.{List, [], _∷_}
 use Prim.Native.Nat.{ℕ, zero, suc, _+_, _≤_, _<_}
@@ -8,11 +8,11 @@ use lib.Seq.{length-take-le, getD-take}
 use lib.Ieee.{Float, nan}
 use Rattle.numbers.specs.Numbers.{at, tab}
 use Rattle.numbers.proofs.Lists.{by-entries, tab-of}
-use Rattle.workspace.specs.Readings.{vec, Block}
+use Rattle.workspace.specs.inner.Readings.{vec, Block}
 use Rattle.workspace.proofs.Readings.{length-vec, at-vec, vec-same, vec-is}
 use Rattle.workspace.proofs.Writes.{block-vec}
-use Rattle.step_rows.specs.Step.{inOrder, paired}
-use Rattle.step.specs.Work.{Left}
+use Rattle.step.specs.Step.{inOrder, paired}
+use Rattle.step.specs.inner.Work.{Left}
 
 pub length-inOrder : (ks : List ℕ) (e i : ℕ) (l : List Float) → length (inOrder ks e i l) ≡ length ks
 unfolding inOrder

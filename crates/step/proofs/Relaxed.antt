@@ -1,18 +1,19 @@
--- The relaxed problem: what is written for LSI, and what its answer becomes. Assumes nothing.
+-- The relaxed problem: what is written for LSI, and what its answer becomes.
 use mathlib.Core.Path.{_≡_, refl, sym, ap, ap₂, _∙_}
 use mathlib.Core.List.{List, [], _∷_, _++_}
 use Prim.Native.Nat.{ℕ, _+_, _*_, _-_, _≤_, _<_}
 use native.Mathlib.Nat.{mul-le-mul}
 use native.Mathlib.Omega.{arith}
-use types.Run.{OneOf}
-use denote.Enum.Declared.{tagOf}
 use lib.ListN.{length, take, length-append}
 use lib.Seq.{length-take-le, getD-take}
 use lib.Ieee.{Float, nan}
 use borrow.Rule.Slice.PartMut.{midOf, putMid}
 use Rattle.numbers.specs.Numbers.{+0, at}
 use Rattle.numbers.proofs.Lists.{by-entries, tab-of}
-use Rattle.workspace.specs.Readings.{vec, mat, stack, Block, Loaded}
+use Rattle.workspace.specs.Tables.{outcomeOf}
+use Rattle.workspace.specs.declared.Refusal.{Refusal}
+use Rattle.workspace.specs.declared.Outcome.the-variants as Outcome
+use Rattle.workspace.specs.inner.Readings.{vec, mat, stack, Block, Loaded}
 use Rattle.workspace.proofs.Readings.{length-vec, at-vec, vec-same, vec-part, mat-same, mat-part, stack-part}
 use Rattle.workspace.proofs.Writes.{block-vec}
 use Rattle.workspace.proofs.Parts.{lent-is}
@@ -20,19 +21,16 @@ use Rattle.nnls.specs.Counted.{Counted}
 use Rattle.lsei.specs.Lsei.{Solution, lsi}
 use Rattle.lsei.proofs.Costs.{lsi-most}
 use Rattle.lsei.proofs.Together.{sides-part}
-use Rattle.step_rows.specs.Problem.{Problem, matrixOf, sidesOf, boundRows, relaxedRows}
-use Rattle.step_rows.specs.Step.{Step, rootWeight, relaxedMatrix, paired, clamped, relaxedStep, relaxed}
-use Rattle.step_rows.specs.Claims.{withFactor}
-use Rattle.step_rows.specs.Work.{Pushed, bare, relaxedAmong}
+use Rattle.step_rows.specs.Problem.{problemOf, Problem, matrixOf, sidesOf, boundRows, relaxedRows}
+use Rattle.step.specs.Step.{Step, rootWeight, relaxedMatrix, paired, clamped, relaxedStep, relaxed}
+use Rattle.step_rows.specs.inner.Work.{Pushed, relaxedAmong}
 use Rattle.step_rows.proofs.Pushing.{pushed-count, pushed-matrix, pushed-sides}
 use Rattle.step_rows.proofs.Among.{enough-relaxed}
-use Rattle.assembly.specs.Work.{cornered}
-use Rattle.lsei.specs.Work.{told, sides, squaresIn}
-use Rattle.lsei.specs.declared.Ending.the-variants as Ending
+use Rattle.step.specs.inner.Assembly.{cornered}
+use Rattle.lsei.specs.inner.Work.{endingAnswer, endedSolution, sides, squaresIn}
 use Rattle.lsei.specs.declared.Ended.{Ended}
 use Rattle.step.specs.declared.Tried.the-variants.{Done, Refused}
-use Rattle.step.specs.Work.{RelaxedIn, Left, refusalOf, Tries}
-use Rattle.lsei.proofs.Ending.{the-type}
+use Rattle.step.specs.inner.Work.{RelaxedIn, Left, Tries}
 use Rattle.step.proofs.Counts.{lsi-rounds}
 use Rattle.step.proofs.Answers.{refusal-late, refused-is, done-is, rounds-are, factorings-are}
 use Rattle.step.proofs.Parts.{vec-back, front-back}
@@ -42,11 +40,11 @@ use Rattle.step.proofs.Parts.{vec-back, front-back}
 module _ (n m g : ℕ) (r : Float) (factor : List Float) (kinds : List ℕ) (values jacobian lower upper w w₁ w₂ w₃ : List Float) (n16 : n ≤ 16) (g66 : g ≤ 66) (q : r ≡ rootWeight)
     (E : Loaded 444 (n + 1) (n + 1) (cornered n r factor) w w₁)
     (F : Block 750 (n + 1) (λ t. at (vec 0 n w₁ ++ (+0 ∷ [])) t) w₁ w₂)
-    (G : Pushed 768 (n + 1) 0 g (relaxedRows (bare n m kinds values jacobian lower upper)) w₂ w₃) where
+    (G : Pushed 768 (n + 1) 0 g (relaxedRows (problemOf n m [] [] kinds values jacobian lower upper)) w₂ w₃) where
   abbrev whole : Problem
-  whole = withFactor (bare n m kinds values jacobian lower upper) factor
+  whole = problemOf n m factor [] kinds values jacobian lower upper
 
-  rows-are : relaxedRows (bare n m kinds values jacobian lower upper) ≡ relaxedRows whole
+  rows-are : relaxedRows (problemOf n m [] [] kinds values jacobian lower upper) ≡ relaxedRows whole
   unfolding relaxedRows boundRows
   rows-are = refl
 
@@ -85,7 +83,7 @@ lsi-same n me mg mg′ e e′ f f′ g g′ h h′ e₁ e₂ e₃ e₄ e₅ = cc
 
 -- w holds the problem, LSI answers e and leaves v of its part
 module _ (p : Problem) (f : List Float) (g : ℕ) (w v : List Float) (e : Ended) (n16 : p .n ≤ 16) (h : 18 ≤ length w) (X : RelaxedIn p f g w)
-    (L : told e (squaresIn (p .n + 1) g v)
+    (L : endedSolution e (squaresIn (p .n + 1) g v)
     ≡ lsi (p .n + 1) (p .n + 1) g (mat 426 (p .n + 1) (p .n + 1) (midOf 18 (length w - 18) w)) (vec 732 (p .n + 1) (midOf 18 (length w - 18) w))
     (stack 750 g (p .n + 1) (midOf 18 (length w - 18) w)) (sides 750 g (p .n + 1) (midOf 18 (length w - 18) w))) where
   abbrev answer : Counted Solution
@@ -94,7 +92,7 @@ module _ (p : Problem) (f : List Float) (g : ℕ) (w v : List Float) (e : Ended)
   abbrev left : List Float
   left = putMid 18 (length w - 18) w v
 
-  solved : told e (squaresIn (p .n + 1) g v) ≡ answer
+  solved : endedSolution e (squaresIn (p .n + 1) g v) ≡ answer
   solved =
       L
       ∙ ap (λ (q : List Float). lsi (p .n + 1) (p .n + 1) g (mat 426 (p .n + 1) (p .n + 1) q) (vec 732 (p .n + 1) q) (stack 750 g (p .n + 1) q) (sides 750 g (p .n + 1) q))
@@ -118,18 +116,18 @@ module _ (p : Problem) (f : List Float) (g : ℕ) (w v : List Float) (e : Ended)
   front-left : vec 0 (p .n) left ≡ f
   front-left = front-back w v h (p .n) (omega arith) ∙ X .front
 
-  pub relaxed-refused : (w₀ : List Float) (k : ℕ) → f ≡ vec 0 (p .n) w₀ → k ≡ refusalOf (e .ending) → OneOf (1 ∷ 2 ∷ 3 ∷ []) (tagOf the-type (e .ending))
-      → Tries (relaxed p f) (p .n) (p .m) (Refused k (e .rounds) (e .factorings)) w₀ left
+  pub relaxed-refused : (w₀ : List Float) (r : Refusal) → f ≡ vec 0 (p .n) w₀ → Outcome.Refused r ≡ outcomeOf (endingAnswer (e .ending) (squaresIn (p .n + 1) g v))
+      → Tries (relaxed p f) (p .n) (p .m) (Refused r (e .rounds) (e .factorings)) w₀ left
   unfolding relaxed
-  relaxed-refused w₀ k q i o = record {
-    answer = refused-is e (squaresIn (p .n + 1) g v) answer (relaxedStep p) solved o k [] [] i;
+  relaxed-refused w₀ r q i = record {
+    answer = refused-is e (squaresIn (p .n + 1) g v) answer (relaxedStep p) solved r [] [] i;
     front = front-left ∙ q;
     rounds = few-rounds;
     factorings = few-factorings;
-    late = rw i (refusal-late (e .ending) o);
+    late = refusal-late (e .ending) (squaresIn (p .n + 1) g v) r i;
   }
 
-  pub relaxed-done : (w₀ w′ : List Float) (x : Float) → f ≡ vec 0 (p .n) w₀ → e .ending ≡ Ending.Done → x ≡ clamped (at (vec 378 (p .n + 1) left) (p .n))
+  pub relaxed-done : (w₀ w′ : List Float) (x : Float) → f ≡ vec 0 (p .n) w₀ → Outcome.Done ≡ outcomeOf (endingAnswer (e .ending) (squaresIn (p .n + 1) g v)) → x ≡ clamped (at (vec 378 (p .n + 1) left) (p .n))
       → Left (p .n) (p .m) (take (p .n) (vec 378 (p .n + 1) left)) (paired (p .kinds) 0 (vec 2106 g left)) left w′
       → Tries (relaxed p f) (p .n) (p .m) (Done x (e .rounds) (e .factorings)) w₀ w′
   unfolding relaxed relaxedStep

@@ -1,3 +1,3 @@
 -- The step's code: what its answers mean, and what its functions leave in the workspace. Definitions only.
-pub mod Outcomes
-pub mod Work
+pub mod Step
+pub mod inner

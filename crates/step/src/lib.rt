@@ -1,24 +1,61 @@
 // The step of one SQP iteration: the exact problem through LSEI, and where it fails the relaxed one through LSI.
-//
-// f64: f at 0; LSEI's part, or LSI's, from 18 on. The step d is left at 18 and its multipliers at 36.
+mod assembly;
+
 ghost use mathlib.Core.Path.{_≡_};
 ghost use mathlib.Core.Bool.{_&&_};
-ghost use mathlib.Core.List.{_++_, map};
+ghost use mathlib.Core.List.{[], _++_, map};
 ghost use Prim.Native.Nat.{ℕ, _+_, _*_, _≤_, _<_};
 ghost use lib.Dec.{eqb};
 ghost use lib.ListN.{length, take};
 ghost use Rattle.numbers.specs.Numbers.{at};
-ghost use Rattle.workspace.specs.Tables.{isDimension, isEqualities, has};
-ghost use Rattle.workspace.specs.Readings.{vec};
+ghost use Rattle.workspace.specs.inner.Readings.{vec};
 ghost use Rattle.nnls.specs.Counted.{Counted};
-ghost use Rattle.step_rows.specs.Claims.{withFactor};
-ghost use Rattle.step_rows.specs.Promise.{areKinds, stepCall, Steps};
-ghost use Rattle.step_rows.specs.Step.{inOrder, paired, clamped, exact, relaxed, step};
-ghost use Rattle.step_rows.specs.Work.{bare, equalitiesAmong, inequalitiesAmong, relaxedAmong};
-ghost use Rattle.step.specs.Outcomes.{numberOf, relaxationOf};
-ghost use Rattle.step.specs.Work.{problemOf, Ready, ExactIn, RelaxedIn, Readable, Left, refusalOf, takenIn, Tries, roundsOf, factoringsOf, later, IsLate, Lent, Given};
+ghost use Rattle.step.specs.Step.{inOrder, paired, clamped, exact, relaxed, step};
+ghost use Rattle.step_rows.specs.inner.Work.{equalitiesAmong, inequalitiesAmong, relaxedAmong};
+ghost use Rattle.step_rows.specs.Problem.{problemOf};
+ghost use Rattle.step.specs.inner.Work.{StepReady, ExactIn, RelaxedIn, Readable, Left, triedStepIn, Tries, roundsOf, factoringsOf, later, IsLate};
+ghost use Rattle.step.specs.inner.Places.{EXACT_EQUALITY_MULTIPLIERS, EXACT_MULTIPLIERS, EXACT_X, RELAXED_MULTIPLIERS, RELAXED_X, STEP_WORDS};
+use workspace::Outcome;
+use workspace::Refusal;
 
-// The solver of the step.
+// ---- where things stand in the part of the step
+
+// The target f stands at 0, and LSEI's part or LSI's behind it.
+pub const STEP_LENT: usize = 18;
+// The step d, when a problem is solved.
+pub const STEP_D: usize = STEP_LENT;
+// Its multipliers, one per constraint.
+pub const STEP_MULTIPLIERS: usize = STEP_D + 18;
+// The exact problem, in LSEI's part: its equalities, each with its side behind it at first.
+pub const EXACT_C: usize = STEP_LENT + lsei_nullspace::LSEI_C;
+// The equalities' sides, and then x.
+pub const EXACT_X: usize = STEP_LENT + lsei_nullspace::LSEI_X;
+
+pub const EXACT_E: usize = STEP_LENT + lsei_nullspace::LSEI_E;
+
+pub const EXACT_F: usize = STEP_LENT + lsei_nullspace::LSEI_F;
+
+pub const EXACT_G: usize = STEP_LENT + lsei_nullspace::LSEI_G;
+
+pub const EXACT_EQUALITY_MULTIPLIERS: usize = STEP_LENT + lsei_nullspace::LSEI_EQUALITY_MULTIPLIERS;
+
+pub const EXACT_MULTIPLIERS: usize = STEP_LENT + lsei_nullspace::LSEI_MULTIPLIERS;
+// The relaxed problem, in LSI's part.
+pub const RELAXED_E: usize = STEP_LENT + lsei::LSI_E;
+
+pub const RELAXED_F: usize = STEP_LENT + lsei::LSI_F;
+
+pub const RELAXED_G: usize = STEP_LENT + lsei::LSI_G;
+
+pub const RELAXED_X: usize = STEP_LENT + lsei::LSI_X;
+
+pub const RELAXED_MULTIPLIERS: usize = STEP_LENT + lsei::LSI_MULTIPLIERS;
+// How many f64 the step takes.
+pub const STEP_ROOM: usize = STEP_LENT + lsei_nullspace::LSEI_ROOM;
+// How many u32 it takes.
+pub const STEP_WORDS: usize = lsei_nullspace::LSEI_WORDS;
+
+// The relaxation's weight.
 pub struct Step {}
 
 impl Step {
@@ -26,16 +63,10 @@ impl Step {
     pub const RELAXATION_WEIGHT: f64 = 1e6;
 }
 
-// How a step ended: done with its relaxation, or refused by its number.
-pub enum Outcome {
-    Done(f64),
-    Refused(u32),
-}
-
-// The same of one of its problems, with the rounds and the factorings that it took.
+// How one of its problems ended, done with its relaxation or refused, with the rounds and the factorings that it took.
 pub enum Tried {
     Done(f64, usize, usize),
-    Refused(u32, usize, usize),
+    Refused(Refusal, usize, usize),
 }
 
 // ---- the exact problem
@@ -58,39 +89,27 @@ fn write_exact(
     n: usize,
     m: usize,
 ) -> Sizes
-    requires { ⌜ Ready n m (now factor) (now kinds) (now values) (now jacobian) (now lower) (now upper) (now w) ⌝ }
-    ensures { λ r. ⌜ ExactIn (withFactor (bare n m (now (kinds .entry)) (now (values .entry)) (now (jacobian .entry)) (now (lower .entry)) (now (upper .entry))) (now (factor .entry))) (vec 0 n (now (w .entry))) r (now (w .exit)) ⌝ }
+    requires { ⌜ StepReady n m (now factor) (now kinds) (now values) (now jacobian) (now lower) (now upper) (now w) ⌝ }
+    ensures { λ r. ⌜ ExactIn (problemOf n m (now (factor .entry)) [] (now (kinds .entry)) (now (values .entry)) (now (jacobian .entry)) (now (lower .entry)) (now (upper .entry))) (vec 0 n (now (w .entry))) r (now (w .exit)) ⌝ }
 {
-    let c = step_rows::push_constraints(kinds, values, jacobian, w, 444, n, m, true);
+    let c = step_rows::push_constraints(kinds, values, jacobian, w, EXACT_C, n, m, true);
     assembly::gather_sides(w, c, n);
-    workspace::load_matrix(factor, w, 750, n, n);
-    workspace::copy_up(w, 0, 1056, n);
-    let g = step_rows::push_inequalities(kinds, values, jacobian, lower, upper, w, 1074, n, m);
+    workspace::load_matrix(factor, w, EXACT_E, n, n);
+    workspace::copy_up(w, 0, EXACT_F, n);
+    let g = step_rows::push_inequalities(kinds, values, jacobian, lower, upper, w, EXACT_G, n, m);
     Sizes {
         equalities: c,
         inequalities: g,
     }
 }
 
-// From LSEI's answer: the multipliers in constraint order, to 36, and the step, to 18.
+// From LSEI's answer: the multipliers in constraint order, and the step.
 fn read_exact(kinds: &[u8], w: &mut [f64], n: usize, m: usize, c: usize, g: usize)
     requires { ⌜ Readable n m (now kinds) (now w) × (c ≡ equalitiesAmong (now kinds)) × (inequalitiesAmong (now kinds) ≤ g) ⌝ }
-    ensures { λ _. ⌜ Left n m (vec 732 n (now (w .entry))) (inOrder (now (kinds .entry)) 0 c (vec 378 c (now (w .entry)) ++ vec 4350 g (now (w .entry)))) (now (w .entry)) (now (w .exit)) ⌝ }
+    ensures { λ _. ⌜ Left n m (vec EXACT_X n (now (w .entry))) (inOrder (now (kinds .entry)) 0 c (vec EXACT_EQUALITY_MULTIPLIERS c (now (w .entry)) ++ vec EXACT_MULTIPLIERS g (now (w .entry)))) (now (w .entry)) (now (w .exit)) ⌝ }
 {
     assembly::order_multipliers(kinds, w, m, c, g);
-    workspace::copy_down(w, 732, 18, n);
-}
-
-// The number of a refusal.
-fn refusal_of(ending: lsei::Ending) -> u32
-    ensures { λ r. ⌜ r ≡ refusalOf ending ⌝ }
-{
-    match ending {
-        lsei::Ending::Done => 0,
-        lsei::Ending::Deficient => 5,
-        lsei::Ending::Infeasible => 6,
-        lsei::Ending::Capped => 7,
-    }
+    workspace::copy_down(w, EXACT_X, STEP_D, n);
 }
 
 // The exact problem, through LSEI.
@@ -106,19 +125,22 @@ fn try_exact(
     n: usize,
     m: usize,
 ) -> Tried
-    requires { ⌜ Ready n m (now factor) (now kinds) (now values) (now jacobian) (now lower) (now upper) (now w) × (300 ≤ length (now iw)) ⌝ }
-    ensures { λ r. ⌜ Tries (exact (withFactor (bare n m (now (kinds .entry)) (now (values .entry)) (now (jacobian .entry)) (now (lower .entry)) (now (upper .entry))) (now (factor .entry))) (vec 0 n (now (w .entry)))) n m r (now (w .entry)) (now (w .exit)) ⌝ }
+    requires { ⌜ StepReady n m (now factor) (now kinds) (now values) (now jacobian) (now lower) (now upper) (now w) × (STEP_WORDS ≤ length (now iw)) ⌝ }
+    ensures { λ r. ⌜ Tries (exact (problemOf n m (now (factor .entry)) [] (now (kinds .entry)) (now (values .entry)) (now (jacobian .entry)) (now (lower .entry)) (now (upper .entry))) (vec 0 n (now (w .entry)))) n m r (now (w .entry)) (now (w .exit)) ⌝ }
 {
     let s = write_exact(factor, kinds, values, jacobian, lower, upper, w, n, m);
     let c = s.equalities;
     let g = s.inequalities;
-    let e = lsei_nullspace::solve_lsei(&mut w[18..], iw, n, c, n, g);
+    let e = lsei_nullspace::solve_lsei(&mut w[STEP_LENT..], iw, n, c, n, g);
     let ending = e.ending;
-    let lsei::Ending::Done = ending else {
-        return Tried::Refused(refusal_of(ending), e.rounds, e.factorings);
-    };
-    read_exact(kinds, w, n, m, c, g);
-    Tried::Done(0.0, e.rounds, e.factorings)
+    let told = ending.outcome();
+    match told {
+        Outcome::Refused(r) => Tried::Refused(r, e.rounds, e.factorings),
+        Outcome::Done => {
+            read_exact(kinds, w, n, m, c, g);
+            Tried::Done(0.0, e.rounds, e.factorings)
+        }
+    }
 }
 
 // ---- the relaxed problem
@@ -135,23 +157,23 @@ fn write_relaxed(
     n: usize,
     m: usize,
 ) -> usize
-    requires { ⌜ Ready n m (now factor) (now kinds) (now values) (now jacobian) (now lower) (now upper) (now w) ⌝ }
-    ensures { λ r. ⌜ RelaxedIn (withFactor (bare n m (now (kinds .entry)) (now (values .entry)) (now (jacobian .entry)) (now (lower .entry)) (now (upper .entry))) (now (factor .entry))) (vec 0 n (now (w .entry))) r (now (w .exit)) ⌝ }
+    requires { ⌜ StepReady n m (now factor) (now kinds) (now values) (now jacobian) (now lower) (now upper) (now w) ⌝ }
+    ensures { λ r. ⌜ RelaxedIn (problemOf n m (now (factor .entry)) [] (now (kinds .entry)) (now (values .entry)) (now (jacobian .entry)) (now (lower .entry)) (now (upper .entry))) (vec 0 n (now (w .entry))) r (now (w .exit)) ⌝ }
 {
     let root = numbers::sqrt(Step::RELAXATION_WEIGHT);
     assembly::write_matrix(factor, w, n, root);
     assembly::write_side(w, n);
-    step_rows::push_relaxed_rows(kinds, values, jacobian, lower, upper, w, 768, n, m)
+    step_rows::push_relaxed_rows(kinds, values, jacobian, lower, upper, w, RELAXED_G, n, m)
 }
 
-// From LSI's answer: the multipliers, to 36, the step, to 18, and the relaxation.
+// From LSI's answer: the multipliers in constraint order, the step, and the relaxation.
 fn read_relaxed(kinds: &[u8], w: &mut [f64], n: usize, m: usize, g: usize) -> f64
     requires { ⌜ Readable n m (now kinds) (now w) × (relaxedAmong (now kinds) ≤ g) × (g ≤ 66) ⌝ }
-    ensures { λ r. ⌜ (r ≡ clamped (at (vec 378 (n + 1) (now (w .entry))) n)) × Left n m (take n (vec 378 (n + 1) (now (w .entry)))) (paired (now (kinds .entry)) 0 (vec 2106 g (now (w .entry)))) (now (w .entry)) (now (w .exit)) ⌝ }
+    ensures { λ r. ⌜ (r ≡ clamped (at (vec RELAXED_X (n + 1) (now (w .entry))) n)) × Left n m (take n (vec RELAXED_X (n + 1) (now (w .entry)))) (paired (now (kinds .entry)) 0 (vec RELAXED_MULTIPLIERS g (now (w .entry)))) (now (w .entry)) (now (w .exit)) ⌝ }
 {
-    let delta = assembly::clamp(w[378 + n]);
+    let delta = assembly::clamp(w[RELAXED_X + n]);
     assembly::pair_multipliers(kinds, w, m, g);
-    workspace::copy_down(w, 378, 18, n);
+    workspace::copy_down(w, RELAXED_X, STEP_D, n);
     delta
 }
 
@@ -168,17 +190,20 @@ fn try_relaxed(
     n: usize,
     m: usize,
 ) -> Tried
-    requires { ⌜ Ready n m (now factor) (now kinds) (now values) (now jacobian) (now lower) (now upper) (now w) × (300 ≤ length (now iw)) ⌝ }
-    ensures { λ r. ⌜ Tries (relaxed (withFactor (bare n m (now (kinds .entry)) (now (values .entry)) (now (jacobian .entry)) (now (lower .entry)) (now (upper .entry))) (now (factor .entry))) (vec 0 n (now (w .entry)))) n m r (now (w .entry)) (now (w .exit)) ⌝ }
+    requires { ⌜ StepReady n m (now factor) (now kinds) (now values) (now jacobian) (now lower) (now upper) (now w) × (STEP_WORDS ≤ length (now iw)) ⌝ }
+    ensures { λ r. ⌜ Tries (relaxed (problemOf n m (now (factor .entry)) [] (now (kinds .entry)) (now (values .entry)) (now (jacobian .entry)) (now (lower .entry)) (now (upper .entry))) (vec 0 n (now (w .entry)))) n m r (now (w .entry)) (now (w .exit)) ⌝ }
 {
     let g = write_relaxed(factor, kinds, values, jacobian, lower, upper, w, n, m);
-    let e = lsei::solve_lsi(&mut w[18..], iw, n + 1, n + 1, g);
+    let e = lsei::solve_lsi(&mut w[STEP_LENT..], iw, n + 1, n + 1, g);
     let ending = e.ending;
-    let lsei::Ending::Done = ending else {
-        return Tried::Refused(refusal_of(ending), e.rounds, e.factorings);
-    };
-    let delta = read_relaxed(kinds, w, n, m, g);
-    Tried::Done(delta, e.rounds, e.factorings)
+    let told = ending.outcome();
+    match told {
+        Outcome::Refused(r) => Tried::Refused(r, e.rounds, e.factorings),
+        Outcome::Done => {
+            let delta = read_relaxed(kinds, w, n, m, g);
+            Tried::Done(delta, e.rounds, e.factorings)
+        }
+    }
 }
 
 // ---- the step
@@ -208,8 +233,8 @@ pub fn solve_step(
     n: usize,
     m: usize,
 ) -> Tried
-    requires { ⌜ Ready n m (now factor) (now kinds) (now values) (now jacobian) (now lower) (now upper) (now w) × (length (now gradient) ≡ n) × (300 ≤ length (now iw)) ⌝ }
-    ensures { λ r. ⌜ (takenIn n m r (now (w .exit)) ≡ step (problemOf n m (now (factor .entry)) (now (gradient .entry)) (now (kinds .entry)) (now (values .entry)) (now (jacobian .entry)) (now (lower .entry)) (now (upper .entry)))) × IsLate r ⌝ }
+    requires { ⌜ StepReady n m (now factor) (now kinds) (now values) (now jacobian) (now lower) (now upper) (now w) × (length (now gradient) ≡ n) × (STEP_WORDS ≤ length (now iw)) ⌝ }
+    ensures { λ r. ⌜ (triedStepIn n m r (now (w .exit)) ≡ step (problemOf n m (now (factor .entry)) (now (gradient .entry)) (now (kinds .entry)) (now (values .entry)) (now (jacobian .entry)) (now (lower .entry)) (now (upper .entry)))) × IsLate r ⌝ }
 {
     assembly::write_target(factor, gradient, w, n);
     let first = try_exact(factor, kinds, values, jacobian, lower, upper, w, iw, n, m);
@@ -218,195 +243,4 @@ pub fn solve_step(
     };
     let second = try_relaxed(factor, kinds, values, jacobian, lower, upper, w, iw, n, m);
     after(second, rounds, factorings)
-}
-
-// ---- the call
-
-// The numbers of variables and constraints.
-fn are_sizes(n: usize, m: usize) -> bool
-    ensures { λ r. ⌜ r ≡ (isDimension n && isEqualities m) ⌝ }
-{
-    if !workspace::is_dimension(n) {
-        return false;
-    }
-    workspace::is_equalities(m)
-}
-
-// The lengths of the factor, the gradient, the kinds, the values and the Jacobian.
-fn are_lengths(
-    n: usize,
-    m: usize,
-    factor: &[f64],
-    gradient: &[f64],
-    kinds: &[u8],
-    values: &[f64],
-    jacobian: &[f64],
-) -> bool
-    requires { ⌜ (n ≤ 16) × (m ≤ 16) ⌝ }
-    ensures { λ r. ⌜ r ≡ (has (now (factor .entry)) (n * n) && has (now (gradient .entry)) n && has (now (kinds .entry)) m && has (now (values .entry)) m && has (now (jacobian .entry)) (m * n)) ⌝ }
-{
-    if factor.len() != n * n {
-        return false;
-    }
-    if gradient.len() != n {
-        return false;
-    }
-    if kinds.len() != m {
-        return false;
-    }
-    if values.len() != m {
-        return false;
-    }
-    jacobian.len() == m * n
-}
-
-// The lengths of the bounds, and those of the two outputs.
-fn are_widths(
-    n: usize,
-    m: usize,
-    lower: &[f64],
-    upper: &[f64],
-    d: usize,
-    multipliers: usize,
-) -> bool
-    ensures { λ r. ⌜ r ≡ (has (now (lower .entry)) n && has (now (upper .entry)) n && eqb d n && eqb multipliers m) ⌝ }
-{
-    if lower.len() != n {
-        return false;
-    }
-    if upper.len() != n {
-        return false;
-    }
-    if d != n {
-        return false;
-    }
-    multipliers == m
-}
-
-// Every kind is 0 or 1.
-fn are_kinds(kinds: &[u8]) -> bool
-    ensures { λ r. ⌜ r ≡ areKinds (now (kinds .entry)) ⌝ }
-{
-    for j in 0..kinds.len() {
-        if kinds[j] > 1 {
-            return false;
-        }
-    }
-    true
-}
-
-// Both outputs, where the step is done, and the clearing of the workspaces.
-fn give(
-    t: Tried,
-    d: &mut [f64],
-    multipliers: &mut [f64],
-    w: &mut [f64],
-    iw: &mut [u32],
-    n: usize,
-    m: usize,
-) -> Outcome
-    requires { ⌜ (n ≤ 16) × (m ≤ 16) × (length (now d) ≡ n) × (length (now multipliers) ≡ m) × (8192 ≤ length (now w)) × (512 ≤ length (now iw)) ⌝ }
-    ensures { λ r. ⌜ Given n m t r (now (d .entry)) (now (d .exit)) (now (multipliers .entry)) (now (multipliers .exit)) (now (w .entry)) (now (w .exit)) (now (iw .entry)) (now (iw .exit)) ⌝ }
-{
-    match t {
-        Tried::Done(relaxation, _, _) => {
-            workspace::unload(w, d, 18, n);
-            workspace::unload(w, multipliers, 36, m);
-            workspace::clear(w, iw);
-            Outcome::Done(relaxation)
-        }
-        Tried::Refused(k, _, _) => {
-            workspace::clear(w, iw);
-            Outcome::Refused(k)
-        }
-    }
-}
-
-// The step in the front of the workspaces, where no test refuses.
-fn step_all(
-    factor: &[f64],
-    gradient: &[f64],
-    kinds: &[u8],
-    values: &[f64],
-    jacobian: &[f64],
-    lower: &[f64],
-    upper: &[f64],
-    d: &mut [f64],
-    multipliers: &mut [f64],
-    w: &mut [f64],
-    iw: &mut [u32],
-    n: usize,
-    m: usize,
-) -> Outcome
-    requires { ⌜ Lent n m (now factor) (now gradient) (now kinds) (now values) (now jacobian) (now lower) (now upper) (now d) (now multipliers) (now w) (now iw) ⌝ }
-    ensures { λ r. ⌜ Steps (step (problemOf n m (now (factor .entry)) (now (gradient .entry)) (now (kinds .entry)) (now (values .entry)) (now (jacobian .entry)) (now (lower .entry)) (now (upper .entry))) .answer) (numberOf r) (relaxationOf r) (now (d .entry)) (now (d .exit)) (now (multipliers .entry)) (now (multipliers .exit)) (now (w .entry)) (now (w .exit)) (now (iw .entry)) (now (iw .exit)) ⌝ }
-{
-    let v = &mut w[..8192];
-    let u = &mut iw[..512];
-    let t = solve_step(
-        factor,
-        gradient,
-        kinds,
-        values,
-        jacobian,
-        lower,
-        upper,
-        v,
-        u,
-        n,
-        m,
-    );
-    give(t, d, multipliers, w, iw, n, m)
-}
-
-impl Step {
-    // The step d of n variables and m constraints, with a multiplier for each constraint and the relaxation.
-    pub fn solve(
-        n: usize,
-        m: usize,
-        factor: &[f64],
-        gradient: &[f64],
-        kinds: &[u8],
-        values: &[f64],
-        jacobian: &[f64],
-        lower: &[f64],
-        upper: &[f64],
-        d: &mut [f64],
-        multipliers: &mut [f64],
-        w: &mut [f64],
-        iw: &mut [u32],
-    ) -> Outcome
-        ensures { λ r. ⌜ Steps (stepCall (problemOf n m (now (factor .entry)) (now (gradient .entry)) (now (kinds .entry)) (now (values .entry)) (now (jacobian .entry)) (now (lower .entry)) (now (upper .entry))) (now (d .entry)) (now (multipliers .entry)) (now (w .entry)) (now (iw .entry))) (numberOf r) (relaxationOf r) (now (d .entry)) (now (d .exit)) (now (multipliers .entry)) (now (multipliers .exit)) (now (w .entry)) (now (w .exit)) (now (iw .entry)) (now (iw .exit)) ⌝ }
-    {
-        if !are_sizes(n, m) {
-            return Outcome::Refused(1);
-        }
-        if !are_lengths(n, m, factor, gradient, kinds, values, jacobian) {
-            return Outcome::Refused(2);
-        }
-        if !are_widths(n, m, lower, upper, d.len(), multipliers.len()) {
-            return Outcome::Refused(2);
-        }
-        if !workspace::is_room(w.len(), iw.len()) {
-            return Outcome::Refused(3);
-        }
-        if !are_kinds(kinds) {
-            return Outcome::Refused(4);
-        }
-        step_all(
-            factor,
-            gradient,
-            kinds,
-            values,
-            jacobian,
-            lower,
-            upper,
-            d,
-            multipliers,
-            w,
-            iw,
-            n,
-            m,
-        )
-    }
 }

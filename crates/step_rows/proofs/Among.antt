@@ -1,4 +1,4 @@
--- How many rows the kinds of constraints become. Assumes nothing.
+-- How many rows the kinds of constraints become.
 use mathlib.Core.Path.{_≡_, refl, ap, _∙_, subst}
 use mathlib.Core.Bool.{Bool, cond}
 use mathlib.Core.List.{List, [], _∷_, _++_}
@@ -9,7 +9,7 @@ use lib.ListN.{length, length-append}
 use lib.Ieee.{Float}
 use Rattle.numbers.specs.Numbers.{at, nth, row}
 use Rattle.step_rows.specs.Problem.{Problem, Row, isEquality, each, boundRows, exactRow, equalityRows, inequalityRows, opposedRows, loosenedRow, relaxedOf, deltaRows, relaxedRows}
-use Rattle.step_rows.specs.Work.{equalitiesAmong, inequalitiesAmong, relaxedAmong}
+use Rattle.step_rows.specs.inner.Work.{equalitiesAmong, inequalitiesAmong, relaxedAmong}
 
 -- ---- the exact problem
 

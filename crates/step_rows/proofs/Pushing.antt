@@ -1,4 +1,4 @@
--- Laws of rows that are pushed into a workspace: one behind others, those of a loop, and what they read as. Assumes nothing.
+-- Laws of rows that are pushed into a workspace: one behind others, those of a loop, and what they read as.
 use mathlib.Core.Path.{_≡_, refl, sym, ap, ap₂, _∙_}
 use mathlib.Core.Bool.{Bool, true, false, true≢false, cond, not}
 use mathlib.Core.List.{List, [], _∷_, _++_, append-assoc, append-nil}
@@ -10,11 +10,11 @@ use lib.Seq.{getD-set-same, getD-set-other, getD-at}
 use lib.Ieee.{Float, nan}
 use Rattle.numbers.specs.Numbers.{at, tab, rows}
 use Rattle.numbers.proofs.Lists.{length-tab, getD-tab, tab-same, tab-more, by-entries}
-use Rattle.workspace.specs.Readings.{vec, stack, Block}
+use Rattle.workspace.specs.inner.Readings.{vec, stack, Block}
 use Rattle.workspace.proofs.Readings.{vec-same, vec-is}
 use Rattle.workspace.proofs.Writes.{written-more, written-as}
 use Rattle.step_rows.specs.Problem.{Row, rowOf, matrixOf, sidesOf, each}
-use Rattle.step_rows.specs.Work.{rowsIn, Pushed, picked}
+use Rattle.step_rows.specs.inner.Work.{rowsIn, Pushed, picked}
 
 -- ---- rows that stand there
 

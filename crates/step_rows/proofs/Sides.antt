@@ -1,4 +1,4 @@
--- A bound between the infinities is closed at its number, and any other is open. The infinities stand as the quotients that the code writes. Assumes nothing.
+-- A bound between the infinities is closed at its number, and any other is open. The infinities stand as the quotients that the code writes.
 use mathlib.Core.Path.{_≡_, refl, sym}
 use mathlib.Core.Bool.{true, false, true≢false}
 use lib.Ieee.{Float, nan, inf, fin, binary64, ofBits, neg, div, lt}

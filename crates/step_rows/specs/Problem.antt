@@ -1,4 +1,4 @@
--- The subproblem's data, and the rows that its constraints and bounds become (docs/RULES.md, step 6; Kraft 1988). Definitions only. Assumes nothing.
+-- The subproblem's data, and the rows that its constraints and bounds become (docs/RULES.md, "The step"; Kraft 1988). Definitions only.
 use Prim.Native.Nat.{ℕ, zero, suc, _+_}
 use mathlib.Core.Bool.{Bool, true, false, cond}
 use mathlib.Core.List.{List, [], _∷_, _++_, map}
@@ -19,6 +19,20 @@ pub record Problem : Type 0 where
   pub jacobian : List Float
   pub lower : List Float
   pub upper : List Float
+
+-- the problem of these parts
+abbrev pub problemOf : (n m : ℕ) (factor gradient : List Float) (kinds : List ℕ) (values jacobian lower upper : List Float) → Problem
+problemOf n m factor gradient kinds values jacobian lower upper = record {
+  n = n;
+  m = m;
+  factor = factor;
+  gradient = gradient;
+  kinds = kinds;
+  values = values;
+  jacobian = jacobian;
+  lower = lower;
+  upper = upper;
+}
 
 -- constraint j is an equality: its kind is 0, where 1 is an inequality
 abbrev pub isEquality : Problem → ℕ → Bool

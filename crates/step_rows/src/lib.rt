@@ -9,9 +9,9 @@ ghost use lib.Dec.{eqb};
 ghost use lib.ListN.{length};
 ghost use lib.Ieee.{neg, lt};
 ghost use Rattle.numbers.specs.Numbers.{+0, at, nth, row};
-ghost use Rattle.workspace.specs.Readings.{Block};
-ghost use Rattle.step_rows.specs.Problem.{rowOf, unit, sideOf, lowerRow, upperRow, each, opposedRows, loosenedRow, relaxedOf, deltaRows, inequalityRows, relaxedRows};
-ghost use Rattle.step_rows.specs.Work.{Pushed, picked, bare, Lengths};
+ghost use Rattle.workspace.specs.inner.Readings.{Block};
+ghost use Rattle.step_rows.specs.Problem.{problemOf, rowOf, unit, sideOf, lowerRow, upperRow, each, opposedRows, loosenedRow, relaxedOf, deltaRows, inequalityRows, relaxedRows};
+ghost use Rattle.step_rows.specs.inner.Work.{Pushed, picked, Lengths};
 
 // A side of a step's bounds: open, or closed at a number.
 pub enum Side {
@@ -240,7 +240,7 @@ pub fn push_inequalities(
     m: usize,
 ) -> usize
     requires { ⌜ Lengths n m (now kinds) (now values) (now jacobian) (now lower) (now upper) × (o + 864 ≤ length (now w)) ⌝ }
-    ensures { λ r. ⌜ (r ≤ 48) × Pushed o n 0 r (inequalityRows (bare n m (now (kinds .entry)) (now (values .entry)) (now (jacobian .entry)) (now (lower .entry)) (now (upper .entry)))) (now (w .entry)) (now (w .exit)) ⌝ }
+    ensures { λ r. ⌜ (r ≤ 48) × Pushed o n 0 r (inequalityRows (problemOf n m [] [] (now (kinds .entry)) (now (values .entry)) (now (jacobian .entry)) (now (lower .entry)) (now (upper .entry)))) (now (w .entry)) (now (w .exit)) ⌝ }
 {
     let k = push_constraints(kinds, values, jacobian, w, o, n, m, false);
     push_bounds(lower, upper, w, o, k, n, n)
@@ -329,7 +329,7 @@ pub fn push_relaxed_rows(
     m: usize,
 ) -> usize
     requires { ⌜ Lengths n m (now kinds) (now values) (now jacobian) (now lower) (now upper) × (o + 1188 ≤ length (now w)) ⌝ }
-    ensures { λ r. ⌜ (r ≤ 66) × Pushed o (n + 1) 0 r (relaxedRows (bare n m (now (kinds .entry)) (now (values .entry)) (now (jacobian .entry)) (now (lower .entry)) (now (upper .entry)))) (now (w .entry)) (now (w .exit)) ⌝ }
+    ensures { λ r. ⌜ (r ≤ 66) × Pushed o (n + 1) 0 r (relaxedRows (problemOf n m [] [] (now (kinds .entry)) (now (values .entry)) (now (jacobian .entry)) (now (lower .entry)) (now (upper .entry)))) (now (w .entry)) (now (w .exit)) ⌝ }
 {
     let k = push_all_relaxed(kinds, values, jacobian, w, o, n, m);
     let c = push_bounds(lower, upper, w, o, k, n + 1, n);

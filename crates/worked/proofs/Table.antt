@@ -1,4 +1,4 @@
--- The worked cases hold of the definitions. Assumes nothing.
+-- The worked cases hold of the definitions.
 use mathlib.Core.Path.{_≡_, refl}
 use mathlib.Core.List.{map}
 use lib.Count.{trailingZeros}
@@ -11,15 +11,15 @@ use Rattle.nnls.specs.Nnls.{residual, dualOf, choose, ratioOf, ranksBefore, blo
 use Rattle.lsei.specs.Lsei.{dualMatrix, dualSide, dualResidual, primal, ldp, reducedRows, reducedSides, restored, lsiFrom, lsi, fixed, turned, tailOf, shifted, gradient, equalityMultipliers, rejoined, lseiFrom, lsei}
 use Rattle.hessian.specs.Hessian.{identity, times, remainder, withRow, nextRow, firstRows, cholesky, theta, damped, revised, curved, update}
 use Rattle.step_rows.specs.Problem.{matrixOf, sidesOf, each, unit, boundRows, equalityRows, inequalityRows, opposedRows, loosenedRow, deltaRows, relaxedRows}
-use Rattle.step_rows.specs.Step.{weight, rootWeight, target, inOrder, exactStep, exact, relaxedMatrix, paired, clamped, relaxedStep, relaxed, step}
-use Rattle.step_rows.specs.Promise.{areKinds}
-use Rattle.worked.specs.Worked.{answered, table, others}
+use Rattle.step.specs.Step.{weight, rootWeight, target, inOrder, exactStep, exact, relaxedMatrix, paired, clamped, relaxedStep, relaxed, step}
+use Rattle.step_call.specs.Promise.{areKinds}
+use Rattle.worked.specs.Worked.{withAnswer, table, others}
 
-pub worked : map answered table ≡ table
+pub worked : map withAnswer table ≡ table
 unfolding add sub mul div neg lt le eq isNan sum round size units odd span climb trailingZeros Σ tab dot gather scatter rows grid row column transposed floorRoot rootOf sqrtOf norm along image columnNorm pivot swapped reflector pinned advance steps factor forth back applyQt applyQ upward solveR downward solveRt solve residual dualOf members solveOf choose ratioOf ranksBefore blocking stepTo nextX nextMark moveX moveP judge tryNext tries turnNext turns lastly pass roundNext rounds activeSet nnls dualMatrix dualSide dualResidual primal ldp reducedRows reducedSides restored lsiFrom lsi fixed turned tailOf shifted gradient equalityMultipliers rejoined lseiFrom lsei identity times remainder withRow nextRow firstRows cholesky theta damped revised curved update matrixOf sidesOf each unit boundRows equalityRows inequalityRows opposedRows loosenedRow deltaRows relaxedRows target inOrder exactStep exact relaxedMatrix paired clamped relaxedStep relaxed step areKinds
 worked = refl
 
-pub others-too : map answered others ≡ others
+pub others-too : map withAnswer others ≡ others
 unfolding add sub mul div neg lt le eq isNan sum round size units odd span climb trailingZeros Σ tab dot gather scatter rows grid row column transposed floorRoot rootOf sqrtOf norm along image columnNorm pivot swapped reflector pinned advance steps factor forth back applyQt applyQ upward solveR downward solveRt solve residual dualOf members solveOf choose ratioOf ranksBefore blocking stepTo nextX nextMark moveX moveP judge tryNext tries turnNext turns lastly pass roundNext rounds activeSet nnls dualMatrix dualSide dualResidual primal ldp reducedRows reducedSides restored lsiFrom lsi fixed turned tailOf shifted gradient equalityMultipliers rejoined lseiFrom lsei identity times remainder withRow nextRow firstRows cholesky theta damped revised curved update matrixOf sidesOf each unit boundRows equalityRows inequalityRows opposedRows loosenedRow deltaRows relaxedRows target inOrder exactStep exact relaxedMatrix paired clamped relaxedStep relaxed step areKinds
 others-too = refl
 

@@ -1,4 +1,4 @@
--- Laws of clearing. Assumes nothing.
+-- Laws of clearing.
 use mathlib.Core.Path.{_≡_, refl, ap, _∙_}
 use mathlib.Core.List.{List, [], _∷_, _++_}
 use Prim.Native.Nat.{ℕ, zero, suc, _+_, _-_, _≤_, _<_}

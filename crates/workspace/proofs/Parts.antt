@@ -1,4 +1,4 @@
--- A part that is lent to a call: what the callee sees, and what the whole is when the part is back. Assumes nothing.
+-- A part that is lent to a call: what the callee sees, and what the whole is when the part is back.
 use mathlib.Core.Path.{_≡_, refl, sym, ap, _∙_}
 use mathlib.Core.List.{List, [], _++_, append-nil}
 use Prim.Native.Nat.{ℕ, _+_, _*_, _-_, _≤_, _<_}
@@ -9,7 +9,7 @@ use lib.Seq.{take-all, drop-at, length-take-le, getD-take}
 use lib.Ieee.{Float, nan}
 use borrow.Rule.Slice.PartMut.{midOf, putMid, take-put}
 use Rattle.workspace.specs.Tables.{cleared}
-use Rattle.workspace.specs.Readings.{vec, mat, stack, nums}
+use Rattle.workspace.specs.inner.Readings.{vec, mat, stack, nums}
 use Rattle.workspace.proofs.Readings.{vec-same, mat-same, stack-same, nums-same}
 use Rattle.workspace.proofs.Clears.{cleared-same}
 

@@ -1,4 +1,4 @@
--- Laws of readings: lengths, entries, what makes two of them equal, and a reading in a lent part. Assumes nothing.
+-- Laws of readings: lengths, entries, what makes two of them equal, and a reading in a lent part.
 use mathlib.Core.Path.{_≡_, refl, sym, ap, _∙_}
 use mathlib.Core.Logic.{⊎-elim}
 use mathlib.Core.List.{List}
@@ -7,17 +7,22 @@ use native.Mathlib.Nat.{add-assoc, zero-add}
 use native.Mathlib.Omega.{arith}
 use lib.ListN.{length, getD, set, drop, length-set}
 use lib.Seq.{getD-set-same, getD-set-other, getD-drop}
-use lib.Ieee.{Float, nan, binary64, neg, ofBits, ofFields, units, odd}
-use Rattle.numbers.specs.Numbers.{+0, -0, at, nth, tab, entry, rows, grid, row, column, transposed}
+use lib.Count.{trailingZeros}
+use lib.Ieee.{Float, nan, binary64, neg, ofBits, ofFields, units, odd, round, size, span, climb}
+use Rattle.numbers.specs.Numbers.{+0, -0, one, at, nth, tab, entry, rows, grid, row, column, transposed}
 use Rattle.numbers.proofs.Cases.{eq-or-ne}
 use Rattle.numbers.proofs.Lists.{length-tab, getD-tab, tab-same, tab-of, rows-same, grid-same, length-rows, length-grid, entry-rows, entry-grid, entry-transposed}
-use Rattle.workspace.specs.Readings.{vec, mat, stack, nums}
+use Rattle.workspace.specs.inner.Readings.{vec, mat, stack, nums}
 
 -- ---- the code's literals
 
 pub lit-+0 : ofBits binary64 0 ≡ +0
 unfolding ofBits ofFields units odd
 lit-+0 = refl
+
+pub lit-one : ofBits binary64 4607182418800017408 ≡ one
+unfolding ofBits ofFields odd round units size span climb trailingZeros
+lit-one = refl
 
 pub lit--0 : neg (ofBits binary64 0) ≡ -0
 unfolding ofBits ofFields neg units odd

@@ -1,4 +1,4 @@
--- Laws of a write: loops that write one entry a turn, and what a written block reads as. Assumes nothing.
+-- Laws of a write: loops that write one entry a turn, and what a written block reads as.
 use mathlib.Core.Path.{_≡_, refl, sym, ap, _∙_, subst}
 use mathlib.Core.Logic.{⊎-elim}
 use mathlib.Core.List.{List}
@@ -11,7 +11,7 @@ use lib.Ieee.{Float, nan}
 use Rattle.numbers.specs.Numbers.{at, nth, tab}
 use Rattle.numbers.proofs.Cases.{lt-or-ge}
 use Rattle.numbers.proofs.Lists.{tab-of}
-use Rattle.workspace.specs.Readings.{vec, nums, Written, Block, Span}
+use Rattle.workspace.specs.inner.Readings.{vec, nums, Written, Block, Span}
 use Rattle.workspace.proofs.Readings.{vec-is, nums-is}
 
 -- nothing is written yet

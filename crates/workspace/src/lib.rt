@@ -5,8 +5,58 @@ ghost use Prim.Native.Nat.{ℕ, _+_, _*_, _≤_, _<_};
 ghost use lib.Dec.{leb};
 ghost use lib.ListN.{length};
 ghost use Rattle.numbers.specs.Numbers.{+0, at};
-ghost use Rattle.workspace.specs.Tables.{cleared, isDimension, isDual, isWidth, isEqualities, isInequalities};
-ghost use Rattle.workspace.specs.Readings.{vec, mat, stack, nums, Block, Span, Loaded, Stacked, Cleared};
+ghost use Rattle.workspace.specs.Tables.{numberOf, outcomeNumber, cleared, isDimension, isMatrix, isWidth, isConstraints, isEqualities, isInequalities};
+ghost use Rattle.workspace.specs.inner.Readings.{vec, mat, stack, nums, Block, Span, Loaded, Stacked, Cleared};
+
+// ---- answers
+
+// Why a call is refused.
+pub enum Refusal {
+    Size,
+    Length,
+    Room,
+    Kind,
+    Deficient,
+    Infeasible,
+    Capped,
+    Pivot,
+}
+
+impl Refusal {
+    // Its number in docs/RULES.md.
+    pub fn number(self) -> u32
+        ensures { λ k. ⌜ k ≡ numberOf self ⌝ }
+    {
+        match self {
+            Refusal::Size => 1,
+            Refusal::Length => 2,
+            Refusal::Room => 3,
+            Refusal::Kind => 4,
+            Refusal::Deficient => 5,
+            Refusal::Infeasible => 6,
+            Refusal::Capped => 7,
+            Refusal::Pivot => 8,
+        }
+    }
+}
+
+// What an operation answers that tells nothing beside its outputs.
+pub enum Outcome {
+    Done,
+    Refused(Refusal),
+}
+
+impl Outcome {
+    // 0 where it is done, else the refusal's number.
+    pub fn number(self) -> u32
+        ensures { λ k. ⌜ k ≡ outcomeNumber self ⌝ }
+    {
+        match self {
+            Outcome::Done => 0,
+            Outcome::Refused(r) => r.number(),
+        }
+    }
+}
 
 // ---- tests
 
@@ -18,8 +68,8 @@ pub fn is_dimension(n: usize) -> bool
 }
 
 // Rows and columns of QR and NNLS.
-pub fn is_dual(m: usize, n: usize) -> bool
-    ensures { λ r. ⌜ r ≡ isDual m n ⌝ }
+pub fn is_matrix(m: usize, n: usize) -> bool
+    ensures { λ r. ⌜ r ≡ isMatrix m n ⌝ }
 {
     m <= 18 && n <= 66
 }
@@ -31,7 +81,14 @@ pub fn is_width(n: usize) -> bool
     n <= 17
 }
 
-// Equalities of LSEI, or constraints of a step.
+// Constraints of a step.
+pub fn is_constraints(m: usize) -> bool
+    ensures { λ r. ⌜ r ≡ isConstraints m ⌝ }
+{
+    m <= 16
+}
+
+// Equalities of LSEI.
 pub fn is_equalities(m: usize) -> bool
     ensures { λ r. ⌜ r ≡ isEqualities m ⌝ }
 {

@@ -1,4 +1,4 @@
--- `answer_all`: each turn takes a case off the bundle. Assumes nothing.
+-- `answer_all`: each turn takes a case off the bundle.
 use Prim.Native.Nat.{_-_, _≤_}
 use native.Mathlib.Omega.{arith}
 use lib.ListN.{length}

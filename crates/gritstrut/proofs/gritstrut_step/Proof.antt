@@ -1,43 +1,68 @@
--- `gritstrut_step`: the relaxation goes out where the call is done. Assumes nothing.
-use Rattle.gritstrut.proofs.Relaxations.{step-leaves}
+-- `gritstrut_step`: the relaxation goes out where the call is done.
+use mathlib.Core.Path.{_≡_, sym, _∙_}
+use native.Mathlib.Omega.{arith}
 use borrow.Author.Needs.{needs}
+use Rattle.gritstrut.proofs.Leaves.{step-leaves, step-keeps}
 use Rattle.gritstrut.proofs.gritstrut_step.Statement.{statement}
 use Rattle.gritstrut.proofs.gritstrut_step.Tie as tie
 
 solve-requires : tie.Need-solve-requires
-solve-requires c κs = search needs
+solve-requires c κs = tt
 
-relaxation-or-requires : tie.Need-relaxation-or-requires
-relaxation-or-requires c κs = search needs
+enum-known-answer : tie.Need-enum-known-answer
+enum-known-answer c = search needs
 
-step-number-requires : tie.Need-step-number-requires
-step-number-requires c κs = search needs
+enum-known-answer-2 : tie.Need-enum-known-answer-2
+enum-known-answer-2 c = search needs
+
+number-requires : tie.Need-number-requires
+number-requires c κs = tt
 
 same-length : tie.Need-same-length
-same-length c = search needs
+same-length c = omega arith
 
 same-length-2 : tie.Need-same-length-2
-same-length-2 c = search needs
+same-length-2 c = omega arith
 
 same-length-3 : tie.Need-same-length-3
-same-length-3 c = search needs
+same-length-3 c = omega arith
 
 same-length-4 : tie.Need-same-length-4
-same-length-4 c = search needs
+same-length-4 c = omega arith
 
 returns : tie.Need-returns
-returns c = let s = c .before .before .before .before .before .before .before .before .before .before .solve in
-    step-leaves _ (s .result) _ _ _ _ _ _ _ _ _ _ _ (s .ensures) (c .step-number .ensures) (c .before .relaxation-or .ensures)
+returns c = step-leaves _ _ _ _ _ _ _ _ _ _ _ (rw (c .before .answer .given .1) at (c .before .before .before .before .before .before .before .before .before .before .before .solve .ensures))
+
+same-length-5 : tie.Need-same-length-5
+same-length-5 c = omega arith
+
+same-length-6 : tie.Need-same-length-6
+same-length-6 c = omega arith
+
+same-length-7 : tie.Need-same-length-7
+same-length-7 c = omega arith
+
+same-length-8 : tie.Need-same-length-8
+same-length-8 c = omega arith
+
+returns-2 : tie.Need-returns-2
+returns-2 c = step-keeps _ _ _ _ _ _ _ _ _ _ _ _ (rw (c .before .before .answer2 .given .1) at (c .before .before .before .before .before .before .before .before .before .before .before .before .solve .ensures)) (c .number .ensures)
 
 pub gritstrut-step-spec : {M : Type 1} → statement M
 gritstrut-step-spec =
     tie.close
     (tie.spec
     solve-requires
-    relaxation-or-requires
-    step-number-requires
+    enum-known-answer
+    enum-known-answer-2
+    number-requires
     same-length
     same-length-2
     same-length-3
     same-length-4
-    returns)
+    returns
+    same-length-5
+    same-length-6
+    same-length-7
+    same-length-8
+    returns-2)

@@ -1,4 +1,4 @@
--- `curve`: what its callees left, put together. Assumes nothing.
+-- `curve`: what its callees left, put together.
 use mathlib.Core.Path.{sym}
 use native.Mathlib.Omega.{arith}
 use lib.ListN.{length-take, length-drop}

@@ -1,4 +1,4 @@
--- `damp`: after i turns the first i entries of r stand behind Bs. Assumes nothing.
+-- `damp`: after i turns the first i entries of r stand behind Bs.
 use mathlib.Core.Path.{_∙_}
 use mathlib.Core.List.{List}
 use Prim.Native.Nat.{ℕ, _≤_, _-_}

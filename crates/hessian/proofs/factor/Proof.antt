@@ -1,4 +1,4 @@
--- `factor`: after i turns L has its first i rows. Assumes nothing.
+-- `factor`: after i turns L has its first i rows.
 use mathlib.Core.Path.{_≡_}
 use mathlib.Core.Bool.{true}
 use Prim.Native.Nat.{_*_, _≤_, _-_}
@@ -6,13 +6,13 @@ use native.Mathlib.Omega.{arith}
 use lib.ListN.{length}
 use borrow.Author.Tests.{not-true, not-false}
 use Rattle.hessian.specs.Hessian.{firstRows}
-use Rattle.hessian.specs.Work.{told}
+use Rattle.hessian.specs.inner.Work.{madeOf}
 use Rattle.hessian.proofs.Turns.{rows-start, rows-more, rows-bad, rows-good}
 use Rattle.hessian.proofs.factor.Statement.{statement}
 use Rattle.hessian.proofs.factor.Tie as tie
 
 abbrev Inv-loop : tie.InvT-loop
-Inv-loop n b l₀ i₀ l i = (i ≤ n) × (told true l ≡ firstRows n b i) × (length l ≡ n * n)
+Inv-loop n b l₀ i₀ l i = (i ≤ n) × (madeOf true l ≡ firstRows n b i) × (length l ≡ n * n)
 
 abbrev μ-loop : tie.MeasureT-loop
 μ-loop n b l₀ i₀ l i = n - i

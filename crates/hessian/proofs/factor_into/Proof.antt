@@ -1,10 +1,10 @@
--- `factor_into`: L is copied out where all pivots were good. Assumes nothing.
+-- `factor_into`: L is copied out where all pivots were good.
 use mathlib.Core.Path.{ap, _∙_}
 use Prim.Native.Nat.{_*_}
 use native.Mathlib.Omega.{arith}
 use borrow.Author.Needs.{needs}
 use Rattle.hessian.specs.Hessian.{cholesky}
-use Rattle.hessian.specs.Work.{isWhole}
+use Rattle.hessian.specs.inner.Work.{isWhole}
 use Rattle.hessian.proofs.Parts.{vec-whole}
 use Rattle.hessian.proofs.Turns.{made-bad, made-good}
 use Rattle.hessian.proofs.factor_into.Statement.{statement}

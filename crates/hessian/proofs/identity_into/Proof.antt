@@ -1,4 +1,4 @@
--- `identity_into`: after i turns the first i rows are written. Assumes nothing.
+-- `identity_into`: after i turns the first i rows are written.
 use mathlib.Core.Path.{_≡_}
 use Prim.Native.Nat.{ℕ, _+_, _*_, _≤_, _-_}
 use native.Mathlib.Nat.{add-sub-cancel-left}

@@ -1,4 +1,4 @@
--- `is_pivot`: above zero, then below infinity. Assumes nothing.
+-- `is_pivot`: above zero, then below infinity.
 use Rattle.hessian.proofs.Turns.{pivot-some, pivot-none}
 use Rattle.hessian.proofs.is_pivot.Statement.{statement}
 use Rattle.hessian.proofs.is_pivot.Tie as tie

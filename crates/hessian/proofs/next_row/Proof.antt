@@ -1,4 +1,4 @@
--- `next_row`: row i before the diagonal, then its pivot. Assumes nothing.
+-- `next_row`: row i before the diagonal, then its pivot.
 use mathlib.Core.Path.{sym, _∙_}
 use borrow.Author.Tests.{not-true, not-false}
 use Rattle.numbers.proofs.Lists.{index-lt}

@@ -1,4 +1,4 @@
--- `remainder_of`: the places lie in the matrices, and the sum is the definition's. Assumes nothing.
+-- `remainder_of`: the places lie in the matrices, and the sum is the definition's.
 use Prim.Native.Nat.{_<_}
 use Rattle.numbers.proofs.Lists.{row-fits}
 use Rattle.hessian.proofs.Turns.{remainder-is}

@@ -1,4 +1,4 @@
--- `renew`: B is left where s'Bs <= 0, else it is curved. Assumes nothing.
+-- `renew`: B is left where s'Bs <= 0, else it is curved.
 use mathlib.Core.Path.{sym}
 use native.Mathlib.Omega.{arith}
 use lib.Seq.{length-take-le}

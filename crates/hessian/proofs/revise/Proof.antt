@@ -1,4 +1,4 @@
--- `revise`: after i turns the first i rows are new. Assumes nothing.
+-- `revise`: after i turns the first i rows are new.
 use mathlib.Core.Path.{_≡_, _∙_}
 use mathlib.Core.List.{List}
 use Prim.Native.Nat.{ℕ, _+_, _*_, _≤_, _-_}

@@ -1,4 +1,4 @@
--- `revise_row`: after j turns the first j entries are new. Assumes nothing.
+-- `revise_row`: after j turns the first j entries are new.
 use mathlib.Core.List.{List}
 use Prim.Native.Nat.{ℕ, _≤_, _-_}
 use lib.Ieee.{Float}

@@ -1,4 +1,4 @@
--- `theta_of`: the two cases of theta. Assumes nothing.
+-- `theta_of`: the two cases of theta.
 use lib.Ieee.{round, ofBits}
 use Rattle.hessian.specs.Hessian.{theta}
 use Rattle.hessian.proofs.theta_of.Statement.{statement}

@@ -1,4 +1,4 @@
--- `times_into`: after i turns the first i entries are written. Assumes nothing.
+-- `times_into`: after i turns the first i entries are written.
 use Prim.Native.Nat.{ℕ, _+_, _*_, _≤_, _-_}
 use lib.ListN.{length}
 use Rattle.numbers.specs.Numbers.{dot, row}

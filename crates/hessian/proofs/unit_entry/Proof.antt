@@ -1,4 +1,4 @@
--- `unit_entry`: on the diagonal, and off it. Assumes nothing.
+-- `unit_entry`: on the diagonal, and off it.
 use lib.Ieee.{round, ofBits}
 use borrow.Author.Tests.{eq-eqb, ne-eqb}
 use Rattle.hessian.proofs.unit_entry.Statement.{statement}

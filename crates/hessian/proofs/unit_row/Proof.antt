@@ -1,4 +1,4 @@
--- `unit_row`: after j turns the first j entries are written. Assumes nothing.
+-- `unit_row`: after j turns the first j entries are written.
 use Prim.Native.Nat.{_≤_, _-_}
 use mathlib.Core.Bool.{cond}
 use lib.Dec.{eqb}

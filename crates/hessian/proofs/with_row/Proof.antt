@@ -1,4 +1,4 @@
--- `with_row`: after j turns row i has its first j entries. Assumes nothing.
+-- `with_row`: after j turns row i has its first j entries.
 use mathlib.Core.Path.{_≡_, ap, _∙_}
 use Prim.Native.Nat.{ℕ, _*_, _≤_, _-_}
 use lib.ListN.{length, length-set}

@@ -1,4 +1,4 @@
--- `apply_q`: the first i reflectors are still to be applied. Assumes nothing.
+-- `apply_q`: the first i reflectors are still to be applied.
 use mathlib.Core.Path.{_≡_, refl, ap, ap₂, _∙_}
 use Prim.Native.Nat.{ℕ, _+_, _*_, _-_, _≤_, _<_}
 use native.Mathlib.Omega.{arith}

@@ -1,9 +1,9 @@
--- `apply_qt`: after i turns i reflectors are applied. Assumes nothing.
+-- `apply_qt`: after i turns i reflectors are applied.
 use mathlib.Core.Path.{_≡_, refl, ap, ap₂, _∙_}
 use Prim.Native.Nat.{ℕ, _+_, _*_, _-_, _≤_, _<_}
 use native.Mathlib.Omega.{arith}
 use lib.ListN.{length, length-set}
-use Rattle.householder.specs.Work.{AppliedQt}
+use Rattle.householder.specs.inner.Work.{AppliedQt}
 use Rattle.householder.proofs.Solving.{applied-none, applied-more}
 use Rattle.householder.proofs.apply_qt.Statement.{statement}
 use Rattle.householder.proofs.apply_qt.Tie as tie

@@ -1,12 +1,12 @@
--- `factor_in`: what is still to do at step k gives the factors. Assumes nothing.
+-- `factor_in`: what is still to do at step k gives the factors.
 use mathlib.Core.Path.{_≡_, refl, sym, ap, _∙_}
 use Prim.Native.Nat.{_+_, _*_, _-_, _≤_, _<_, min}
 use native.Mathlib.Omega.{arith}
 use lib.ListN.{length}
-use Rattle.workspace.specs.Readings.{mat}
+use Rattle.workspace.specs.inner.Readings.{mat}
 use Rattle.workspace.proofs.Readings.{lit-+0, mat-same}
 use Rattle.householder.specs.Qr.{steps, start, factor}
-use Rattle.householder.specs.Work.{held}
+use Rattle.householder.specs.inner.Work.{held}
 use Rattle.householder.proofs.Steps.{start-is, pivot-index, factor-start, factor-stop, factor-again, factor-end}
 use Rattle.householder.proofs.factor_in.Statement.{statement}
 use Rattle.householder.proofs.factor_in.Tie as tie

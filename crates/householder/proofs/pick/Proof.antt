@@ -1,11 +1,11 @@
--- `pick`: after t turns t entries are picked, and what is still to be read is as it was. Assumes nothing.
+-- `pick`: after t turns t entries are picked, and what is still to be read is as it was.
 use mathlib.Core.Path.{_≡_, refl, ap, ap₂, _∙_}
 use Prim.Native.Nat.{ℕ, _+_, _*_, _-_, _≤_, _<_}
 use native.Mathlib.Omega.{arith}
 use lib.ListN.{length, length-set}
 use lib.Ieee.{nan}
 use Rattle.numbers.specs.Numbers.{at, nth}
-use Rattle.workspace.specs.Readings.{Block}
+use Rattle.workspace.specs.inner.Readings.{Block}
 use Rattle.workspace.proofs.Writes.{written-none, written-more}
 use Rattle.householder.proofs.pick.Statement.{statement}
 use Rattle.householder.proofs.pick.Tie as tie

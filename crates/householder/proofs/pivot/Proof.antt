@@ -1,8 +1,8 @@
--- `pivot`: the lead of the fours, and then column by column. Assumes nothing.
+-- `pivot`: the lead of the fours, and then column by column.
 use mathlib.Core.Path.{_≡_, refl, _∙_}
 use Prim.Native.Nat.{_+_, _*_, _-_, _/_, _≤_, _<_}
 use native.Mathlib.Omega.{arith}
-use Rattle.householder.specs.Search.{product, Leads}
+use Rattle.householder.specs.inner.Search.{product, Leads}
 use Rattle.householder.proofs.Search.{leads-more}
 use Rattle.householder.proofs.pivot.Statement.{statement}
 use Rattle.householder.proofs.pivot.Tie as tie

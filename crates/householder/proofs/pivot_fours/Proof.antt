@@ -1,8 +1,8 @@
--- `pivot_fours`: after q turns the lead is that of 4 q columns. Assumes nothing.
+-- `pivot_fours`: after q turns the lead is that of 4 q columns.
 use mathlib.Core.Path.{_≡_, refl, subst}
 use Prim.Native.Nat.{ℕ, _+_, _*_, _-_, _/_, _≤_, _<_}
 use native.Mathlib.Omega.{arith}
-use Rattle.householder.specs.Search.{Leads}
+use Rattle.householder.specs.inner.Search.{Leads}
 use Rattle.householder.proofs.Search.{leads-none, leads-four}
 use Rattle.householder.proofs.pivot_fours.Statement.{statement}
 use Rattle.householder.proofs.pivot_fours.Tie as tie

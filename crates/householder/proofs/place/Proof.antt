@@ -1,10 +1,10 @@
--- `place`: after t turns t entries are placed. Assumes nothing.
+-- `place`: after t turns t entries are placed.
 use mathlib.Core.Path.{_≡_, refl, ap, ap₂, _∙_}
 use Prim.Native.Nat.{ℕ, _+_, _*_, _-_, _≤_, _<_}
 use native.Mathlib.Omega.{arith}
 use lib.ListN.{length, length-set}
 use Rattle.numbers.specs.Numbers.{nth}
-use Rattle.householder.specs.Work.{Placed}
+use Rattle.householder.specs.inner.Work.{Placed}
 use Rattle.householder.proofs.Solving.{placed-none, placed-more}
 use Rattle.householder.proofs.place.Statement.{statement}
 use Rattle.householder.proofs.place.Tie as tie

@@ -1,4 +1,4 @@
--- `prepare`: from what it writes to what reflector and column then are. Assumes nothing.
+-- `prepare`: from what it writes to what reflector and column then are.
 use mathlib.Core.Path.{_≡_, refl, ap, ap₂, _∙_}
 use Prim.Native.Nat.{ℕ, _+_, _*_, _-_, _≤_, _<_}
 use native.Mathlib.Omega.{arith}

@@ -1,10 +1,10 @@
--- `products_four`: after t turns each sum has t terms. Assumes nothing.
+-- `products_four`: after t turns each sum has t terms.
 use mathlib.Core.Path.{_≡_}
 use Prim.Native.Nat.{ℕ, _+_, _*_, _-_, _≤_, _<_}
 use native.Mathlib.Omega.{arith}
 use Rattle.numbers.specs.Numbers.{Σ, _⊗_, at}
 use Rattle.numbers.proofs.Sums.{Σ-none, Σ-more}
-use Rattle.householder.specs.Search.{product}
+use Rattle.householder.specs.inner.Search.{product}
 use Rattle.householder.proofs.products_four.Statement.{statement}
 use Rattle.householder.proofs.products_four.Tie as tie
 

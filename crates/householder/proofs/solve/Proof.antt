@@ -1,4 +1,4 @@
--- `solve`: Q', R, and the permutation. Assumes nothing.
+-- `solve`: Q', R, and the permutation.
 use native.Mathlib.Omega.{arith}
 use Rattle.householder.proofs.Solving.{solved-is}
 use Rattle.householder.proofs.solve.Statement.{statement}

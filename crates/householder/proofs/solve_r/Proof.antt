@@ -1,4 +1,4 @@
--- `solve_r`: the first i rows are still to be solved. Assumes nothing.
+-- `solve_r`: the first i rows are still to be solved.
 use mathlib.Core.Path.{_≡_, refl, ap, ap₂, _∙_}
 use Prim.Native.Nat.{ℕ, _+_, _*_, _-_, _≤_, _<_}
 use native.Mathlib.Omega.{arith}

@@ -1,4 +1,4 @@
--- `solve_rt`: after i turns i rows are solved. Assumes nothing.
+-- `solve_rt`: after i turns i rows are solved.
 use mathlib.Core.Path.{_≡_, refl, ap, ap₂, _∙_}
 use Prim.Native.Nat.{ℕ, _+_, _*_, _-_, _≤_, _<_}
 use native.Mathlib.Omega.{arith}

@@ -1,4 +1,4 @@
--- `step`: an exchange, a reflector, and the columns behind it under the reflector. Assumes nothing.
+-- `step`: an exchange, a reflector, and the columns behind it under the reflector.
 use native.Mathlib.Omega.{arith}
 use Rattle.householder.proofs.Steps.{step-is}
 use Rattle.householder.proofs.step.Statement.{statement}

@@ -1,11 +1,11 @@
--- `turn`: the fours, and then column by column: the columns before j are under the reflector. Assumes nothing.
+-- `turn`: the fours, and then column by column: the columns before j are under the reflector.
 use mathlib.Core.Path.{_≡_, refl, _∙_}
 use mathlib.Core.List.{List}
 use Prim.Native.Nat.{ℕ, _+_, _*_, _-_, _≤_, _<_}
 use native.Mathlib.Omega.{arith}
 use lib.ListN.{length}
 use lib.Ieee.{Float}
-use Rattle.householder.specs.Work.{Turned}
+use Rattle.householder.specs.inner.Work.{Turned}
 use Rattle.householder.proofs.Reflections.{turned-more, turned-at}
 use Rattle.householder.proofs.turn.Statement.{statement}
 use Rattle.householder.proofs.turn.Tie as tie

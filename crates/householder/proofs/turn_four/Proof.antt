@@ -1,4 +1,4 @@
--- `turn_four`: each column is behind the ones before it, so that its product with u is still what it was. Assumes nothing.
+-- `turn_four`: each column is behind the ones before it, so that its product with u is still what it was.
 use mathlib.Core.Path.{_≡_, ap, _∙_}
 use Prim.Native.Nat.{_+_, _*_}
 use native.Mathlib.Omega.{arith}

@@ -1,9 +1,9 @@
--- `turn_fours`: after q turns 4 q columns are under the reflector. Assumes nothing.
+-- `turn_fours`: after q turns 4 q columns are under the reflector.
 use mathlib.Core.Path.{_≡_, refl, _∙_}
 use Prim.Native.Nat.{ℕ, _+_, _*_, _-_, _/_, _≤_, _<_}
 use native.Mathlib.Omega.{arith}
 use lib.ListN.{length}
-use Rattle.householder.specs.Work.{Turned}
+use Rattle.householder.specs.inner.Work.{Turned}
 use Rattle.householder.proofs.Reflections.{turned-none, turned-at}
 use Rattle.householder.proofs.turn_fours.Statement.{statement}
 use Rattle.householder.proofs.turn_fours.Tie as tie

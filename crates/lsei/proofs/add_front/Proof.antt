@@ -1,11 +1,11 @@
--- `add_front`: after t turns t sums are written. Assumes nothing.
+-- `add_front`: after t turns t sums are written.
 use mathlib.Core.Path.{_≡_, refl, ap₂}
 use Prim.Native.Nat.{ℕ, _+_, _*_, _-_, _≤_, _<_}
 use native.Mathlib.Omega.{arith}
 use lib.ListN.{length, length-set}
 use lib.Ieee.{nan}
 use Rattle.numbers.specs.Numbers.{at, _⊕_}
-use Rattle.workspace.specs.Readings.{Block}
+use Rattle.workspace.specs.inner.Readings.{Block}
 use Rattle.workspace.proofs.Writes.{written-none, written-more}
 use Rattle.lsei.proofs.add_front.Statement.{statement}
 use Rattle.lsei.proofs.add_front.Tie as tie

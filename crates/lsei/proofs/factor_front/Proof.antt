@@ -1,4 +1,4 @@
--- `factor_front` lends the front of each workspace. Assumes nothing.
+-- `factor_front` lends the front of each workspace.
 use mathlib.Core.Path.{sym, _∙_}
 use native.Mathlib.Omega.{arith}
 use lib.Seq.{length-take-le}

@@ -1,4 +1,4 @@
--- `finish`: the residual, the test of its last entry, and two quotients. Assumes nothing.
+-- `finish`: the residual, the test of its last entry, and two quotients.
 use mathlib.Core.Path.{_∙_}
 use native.Mathlib.Omega.{arith}
 use Rattle.lsei.proofs.Dual.{not-finished, finished, lit-infeasibility}

@@ -1,4 +1,4 @@
--- `reduce`: Q'f, and after i turns i rows are reduced. Assumes nothing.
+-- `reduce`: Q'f, and after i turns i rows are reduced.
 use mathlib.Core.Path.{_≡_, refl, _∙_}
 use Prim.Native.Nat.{_≤_, _-_}
 use native.Mathlib.Omega.{arith}

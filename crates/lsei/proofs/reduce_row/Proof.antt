@@ -1,4 +1,4 @@
--- `reduce_row`: permuted, in place, under R'^-1, and its side. Assumes nothing.
+-- `reduce_row`: permuted, in place, under R'^-1, and its side.
 use mathlib.Core.Path.{_∙_}
 use native.Mathlib.Omega.{arith}
 use lib.ListN.{length-set}

@@ -1,4 +1,4 @@
--- `residual_at` is one strided sum. Assumes nothing.
+-- `residual_at` is one strided sum.
 use mathlib.Core.Path.{_≡_, refl, sym, ap, _∙_}
 use Prim.Native.Nat.{ℕ, _+_, _*_, _-_, _≤_, _<_}
 use native.Mathlib.Omega.{arith}

@@ -1,4 +1,4 @@
--- `restore`: the right-hand side, back substitution, and the solution placed. Assumes nothing.
+-- `restore`: the right-hand side, back substitution, and the solution placed.
 use mathlib.Core.Path.{_∙_}
 use native.Mathlib.Omega.{arith}
 use Rattle.lsei.proofs.Squares.{restored-is}

@@ -1,10 +1,10 @@
--- `solve_lsi`: the factors of E, the reduced inequalities, LDP in its part, and x. Assumes nothing.
+-- `solve_lsi`: the factors of E, the reduced inequalities, LDP in its part, and x.
 use lib.ListN.{length}
 use Prim.Native.Nat.{_-_}
 use native.Mathlib.Omega.{arith}
 use borrow.Author.Needs.{needs}
 use borrow.Rule.Slice.PartMut.{same-len-mid}
-use Rattle.lsei.specs.Work.{squaresIn}
+use Rattle.lsei.specs.inner.Work.{squaresIn}
 use Rattle.workspace.proofs.Parts.{back-get}
 use Rattle.lsei.proofs.Kept.{perm-below}
 use Rattle.lsei.proofs.Together.{ldp-few, deficient-is, columns-most, refused-is, done-is}

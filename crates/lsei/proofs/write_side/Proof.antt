@@ -1,7 +1,8 @@
--- `write_side` is a blank with a one behind it. Assumes nothing.
+-- `write_side` is a blank with a one behind it.
 use native.Mathlib.Omega.{arith}
 use lib.ListN.{length-set}
-use Rattle.lsei.proofs.Dual.{side-more, lit-one}
+use Rattle.lsei.proofs.Dual.{side-more}
+use Rattle.workspace.proofs.Readings.{lit-one}
 use Rattle.lsei.proofs.write_side.Statement.{statement}
 use Rattle.lsei.proofs.write_side.Tie as tie
 

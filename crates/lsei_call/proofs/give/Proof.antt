@@ -1,9 +1,8 @@
--- `give`: nothing, or x and the multipliers. Assumes nothing.
+-- `give`: nothing, or x and the multipliers.
 use mathlib.Core.List.{_++_}
 use native.Mathlib.Omega.{arith}
 use borrow.Author.Needs.{needs}
-use Rattle.workspace.specs.Readings.{vec}
-use Rattle.lsei_call.specs.Outcomes.{numberOf}
+use Rattle.workspace.specs.inner.Readings.{vec}
 use Rattle.lsei_call.proofs.Giving.{given-none, given-all}
 use Rattle.lsei_call.proofs.give.Statement.{statement}
 use Rattle.lsei_call.proofs.give.Tie as tie
@@ -11,14 +10,14 @@ use Rattle.lsei_call.proofs.give.Tie as tie
 enum-told : tie.Need-enum-told
 enum-told c = search needs
 
-outcome-of-requires : tie.Need-outcome-of-requires
-outcome-of-requires c κs = search needs
+outcome-requires : tie.Need-outcome-requires
+outcome-requires c κs = search needs
 
 returns : tie.Need-returns
 returns c = let s = c .before .before .before .before .before in
     let a = s .args in
-    let O = c .outcome-of in
-    given-none (a .ending) (record { x = vec (a .p) (a .n) (a .w .now); multipliers = vec (a .q) (a .c) (a .w .now) ++ vec (a .r) (a .m) (a .w .now) }) (numberOf (O .result)) (a .x .now) (a .l .now) (c .before .match .keys2) (O .ensures _)
+    let O = c .outcome in
+    given-none (a .ending) (record { x = vec (a .p) (a .n) (a .w .now); multipliers = vec (a .q) (a .c) (a .w .now) ++ vec (a .r) (a .m) (a .w .now) }) (O .result) (a .x .now) (a .l .now) (c .before .match .keys2) (O .ensures _)
 
 unload-requires : tie.Need-unload-requires
 unload-requires c κs = let p = c .before .before .before .before .before .before .pre in (p .0, p .3)
@@ -42,7 +41,7 @@ give-spec =
     tie.close
     (tie.spec
     enum-told
-    outcome-of-requires
+    outcome-requires
     returns
     unload-requires
     give-multipliers-requires

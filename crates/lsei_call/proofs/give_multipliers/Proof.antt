@@ -1,4 +1,4 @@
--- `give_multipliers`: two copies that fill the list. Assumes nothing.
+-- `give_multipliers`: two copies that fill the list.
 use mathlib.Core.Path.{_∙_}
 use native.Mathlib.Omega.{arith}
 use Rattle.lsei_call.proofs.Giving.{multipliers-are}

@@ -1,4 +1,4 @@
--- `run_ldp`: the problem in, and the kernel. Assumes nothing.
+-- `run_ldp`: the problem in, and the kernel.
 use mathlib.Core.Path.{ap₂, _∙_}
 use native.Mathlib.Omega.{arith}
 use Rattle.lsei.specs.Lsei as Definition

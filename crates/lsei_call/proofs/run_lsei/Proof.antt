@@ -1,4 +1,4 @@
--- `run_lsei`: the problem in, and the kernel. Assumes nothing.
+-- `run_lsei`: the problem in, and the kernel.
 use mathlib.Core.Path.{ap₂, _∙_}
 use native.Mathlib.Omega.{arith}
 use Rattle.lsei_call.proofs.run_lsei.Statement.{statement}

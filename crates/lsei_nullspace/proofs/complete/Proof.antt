@@ -1,4 +1,4 @@
--- `complete`: x, and then the multipliers. Assumes nothing.
+-- `complete`: x, and then the multipliers.
 use mathlib.Core.Path.{_∙_}
 use native.Mathlib.Omega.{arith}
 use Rattle.lsei_nullspace.proofs.Together.{completed-is}

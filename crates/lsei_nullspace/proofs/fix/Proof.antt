@@ -1,4 +1,4 @@
--- `fix`: permuted, in place, and under R'^-1. Assumes nothing.
+-- `fix`: permuted, in place, and under R'^-1.
 use mathlib.Core.Path.{_∙_}
 use native.Mathlib.Omega.{arith}
 use Rattle.lsei_nullspace.proofs.Joining.{fixed-is}

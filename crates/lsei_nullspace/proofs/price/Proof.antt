@@ -1,4 +1,4 @@
--- `price`: the gradient, Q', back substitution, and the multipliers placed. Assumes nothing.
+-- `price`: the gradient, Q', back substitution, and the multipliers placed.
 use mathlib.Core.Path.{_∙_}
 use native.Mathlib.Omega.{arith}
 use Rattle.lsei_nullspace.proofs.Joining.{priced-is}

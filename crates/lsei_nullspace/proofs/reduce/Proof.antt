@@ -1,4 +1,4 @@
--- `reduce`: y, the rows of E, and the rows of G. Assumes nothing.
+-- `reduce`: y, the rows of E, and the rows of G.
 use mathlib.Core.Path.{_∙_}
 use native.Mathlib.Omega.{arith}
 use Rattle.lsei_nullspace.proofs.Together.{reduced-is}

@@ -1,4 +1,4 @@
--- `rejoin`: a copy behind y, and the reflectors from the last to the first. Assumes nothing.
+-- `rejoin`: a copy behind y, and the reflectors from the last to the first.
 use mathlib.Core.Path.{_∙_}
 use native.Mathlib.Omega.{arith}
 use Rattle.lsei_nullspace.proofs.Joining.{rejoined-is}

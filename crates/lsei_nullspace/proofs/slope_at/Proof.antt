@@ -1,4 +1,4 @@
--- `slope_at` is two strided sums. Assumes nothing.
+-- `slope_at` is two strided sums.
 use mathlib.Core.Path.{ap₂}
 use native.Mathlib.Omega.{arith}
 use Rattle.numbers.specs.Numbers.{_⊖_}

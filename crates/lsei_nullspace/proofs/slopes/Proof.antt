@@ -1,4 +1,4 @@
--- `slopes`: after j turns j entries are written, and what they are made of is as it was. Assumes nothing.
+-- `slopes`: after j turns j entries are written, and what they are made of is as it was.
 use mathlib.Core.Path.{_≡_, refl, ap₂, _∙_}
 use Prim.Native.Nat.{ℕ, _+_, _*_, _-_, _≤_, _<_}
 use native.Mathlib.Omega.{arith}
@@ -6,9 +6,9 @@ use lib.ListN.{length, length-set}
 use lib.Ieee.{nan}
 use Rattle.numbers.specs.Numbers.{+0, at, Σ, _⊕_, _⊖_, _⊗_, _⊘_}
 use Rattle.numbers.proofs.Sums.{Σ-same}
-use Rattle.workspace.specs.Readings.{Block}
+use Rattle.workspace.specs.inner.Readings.{Block}
 use Rattle.workspace.proofs.Writes.{written-none, written-more}
-use Rattle.lsei_nullspace.specs.Work.{slopeIn}
+use Rattle.lsei_nullspace.specs.inner.Work.{slopeIn}
 use Rattle.lsei_nullspace.proofs.slopes.Statement.{statement}
 use Rattle.lsei_nullspace.proofs.slopes.Tie as tie
 

@@ -1,4 +1,4 @@
--- `solve_lsei`: the factors of C', the reduced problem, LSI in its part, x and the multipliers. Assumes nothing.
+-- `solve_lsei`: the factors of C', the reduced problem, LSI in its part, x and the multipliers.
 use Prim.Native.Nat.{_-_}
 use native.Mathlib.Omega.{arith}
 use lib.ListN.{length}
@@ -6,7 +6,7 @@ use borrow.Author.Needs.{needs}
 use borrow.Rule.Slice.PartMut.{same-len-mid}
 use Rattle.workspace.proofs.Parts.{back-get}
 use Rattle.lsei.proofs.Kept.{perm-below}
-use Rattle.lsei_nullspace.specs.Work.{solutionIn}
+use Rattle.lsei_nullspace.specs.inner.Work.{solutionIn}
 use Rattle.lsei_nullspace.proofs.Together.{lsi-few, deficient-is, equalities-most, refused-is, done-is}
 use Rattle.lsei_nullspace.proofs.solve_lsei.Statement.{statement}
 use Rattle.lsei_nullspace.proofs.solve_lsei.Tie as tie

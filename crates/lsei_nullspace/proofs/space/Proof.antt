@@ -1,10 +1,10 @@
--- `space`: after t turns t entries are copied, and what is still to be read is as it was. Assumes nothing.
+-- `space`: after t turns t entries are copied, and what is still to be read is as it was.
 use mathlib.Core.Path.{_≡_, refl}
 use Prim.Native.Nat.{ℕ, _+_, _*_, _-_, _≤_, _<_}
 use native.Mathlib.Omega.{arith}
 use lib.ListN.{length, length-set}
 use Rattle.numbers.specs.Numbers.{at}
-use Rattle.lsei.specs.Work.{Spaced}
+use Rattle.lsei.specs.inner.Work.{Spaced}
 use Rattle.lsei.proofs.Spacing.{spaced-none, spaced-more}
 use Rattle.lsei_nullspace.proofs.space.Statement.{statement}
 use Rattle.lsei_nullspace.proofs.space.Tie as tie

@@ -1,4 +1,4 @@
--- `turn_e`: after i turns i rows are turned. Assumes nothing.
+-- `turn_e`: after i turns i rows are turned.
 use mathlib.Core.Path.{_≡_, refl, _∙_}
 use Prim.Native.Nat.{_≤_, _-_}
 use native.Mathlib.Omega.{arith}

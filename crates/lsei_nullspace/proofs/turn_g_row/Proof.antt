@@ -1,4 +1,4 @@
--- `turn_g_row`: the row under Q', its tail, and its side. Assumes nothing.
+-- `turn_g_row`: the row under Q', its tail, and its side.
 use mathlib.Core.Path.{_∙_}
 use native.Mathlib.Omega.{arith}
 use lib.ListN.{length-set}

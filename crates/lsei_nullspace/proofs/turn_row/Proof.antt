@@ -1,4 +1,4 @@
--- `turn_row`: a copy, and the reflectors. Assumes nothing.
+-- `turn_row`: a copy, and the reflectors.
 use mathlib.Core.Path.{_∙_}
 use native.Mathlib.Omega.{arith}
 use Rattle.lsei_nullspace.proofs.Turning.{turned-row}

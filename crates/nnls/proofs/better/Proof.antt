@@ -1,4 +1,4 @@
--- `better`, each way out by its tests. Assumes nothing.
+-- `better`, each way out by its tests.
 use lib.Ieee.{ofBits}
 use borrow.Author.Tests.{not-true, not-false}
 use Rattle.nnls.proofs.Choosing.{stays-passive, stays-rejected, stays-not-above, stays-above, wins-over, wins-first}

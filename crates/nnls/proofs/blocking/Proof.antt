@@ -1,11 +1,11 @@
--- `blocking`: after j turns the nearest is the blocking one of the first j columns. Assumes nothing.
+-- `blocking`: after j turns the nearest is the blocking one of the first j columns.
 use mathlib.Core.Path.{_≡_}
 use Prim.Native.Nat.{_-_, _≤_}
 use native.Mathlib.Omega.{arith}
 use borrow.Author.Needs.{needs}
-use Rattle.workspace.specs.Readings.{vec, nums}
+use Rattle.workspace.specs.inner.Readings.{vec, nums}
 use Rattle.nnls.specs.Nnls.{blocking}
-use Rattle.nnls.specs.Work.{nearestOf}
+use Rattle.nnls.specs.inner.Work.{nearestOf}
 use Rattle.nnls.proofs.Blockers.{nearest-none, nearest-more, nearest-some, nearest-free}
 use Rattle.nnls.proofs.blocking.Statement.{statement}
 use Rattle.nnls.proofs.blocking.Tie as tie

@@ -1,4 +1,4 @@
--- `move_all`: after j turns the first j columns have moved. Assumes nothing.
+-- `move_all`: after j turns the first j columns have moved.
 use mathlib.Core.Path.{_≡_, refl}
 use Prim.Native.Nat.{_-_, _≤_}
 use native.Mathlib.Omega.{arith}

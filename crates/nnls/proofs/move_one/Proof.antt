@@ -1,4 +1,4 @@
--- `move_one`, each way out by its tests. Assumes nothing.
+-- `move_one`, each way out by its tests.
 use lib.Ieee.{ofBits}
 use Rattle.nnls.proofs.Moves.{next-out, next-blocks, next-down, next-stays}
 use Rattle.nnls.proofs.move_one.Statement.{statement}

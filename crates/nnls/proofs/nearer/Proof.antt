@@ -1,4 +1,4 @@
--- `nearer`, each way out by its tests. Assumes nothing.
+-- `nearer`, each way out by its tests.
 use lib.Ieee.{ofBits}
 use borrow.Author.Needs.{needs}
 use borrow.Author.Tests.{not-true, not-false}

@@ -1,6 +1,6 @@
--- `one_pass`, of its steps. Assumes nothing.
+-- `one_pass`, of its steps.
 use borrow.Author.Needs.{needs}
-use Rattle.nnls.specs.State.{read}
+use Rattle.nnls.specs.inner.State.{read}
 use Rattle.nnls.proofs.Duals.{read-passing}
 use Rattle.nnls.proofs.Rounding.{pass-whole}
 use Rattle.nnls.proofs.one_pass.Statement.{statement}

@@ -1,4 +1,4 @@
--- `ranks_before`, each way out by its tests. Assumes nothing.
+-- `ranks_before`, each way out by its tests.
 use Rattle.nnls.proofs.Blockers.{ranks-nan, ranks-over-nan, ranks-numbers}
 use Rattle.nnls.proofs.ranks_before.Statement.{statement}
 use Rattle.nnls.proofs.ranks_before.Tie as tie

@@ -1,4 +1,4 @@
--- `ratio_of`, each arm by its test. Assumes nothing.
+-- `ratio_of`, each arm by its test.
 use lib.Ieee.{ofBits}
 use Rattle.nnls.proofs.Blockers.{ratio-gap, ratio-none}
 use Rattle.nnls.proofs.ratio_of.Statement.{statement}

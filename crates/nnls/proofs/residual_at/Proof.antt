@@ -1,4 +1,4 @@
--- `residual_at`, by the sum. Assumes nothing.
+-- `residual_at`, by the sum.
 use mathlib.Core.Path.{ap}
 use Prim.Native.Nat.{_+_}
 use native.Mathlib.Omega.{arith}

@@ -1,12 +1,12 @@
--- `run_rounds`: after `past` rounds what is left of the rounds gives the answer. Assumes nothing.
+-- `run_rounds`: after `past` rounds what is left of the rounds gives the answer.
 use mathlib.Core.Path.{_≡_, refl, _∙_}
 use Prim.Native.Nat.{_-_}
 use native.Mathlib.Omega.{arith}
 use lib.ListN.{length}
 use borrow.Author.Tests.{not-true, not-false}
-use Rattle.nnls.specs.State.{read}
+use Rattle.nnls.specs.inner.State.{read}
 use Rattle.nnls.proofs.States.{read-copied}
-use Rattle.nnls.proofs.Rounding.{Going, going-none, round-accept, round-last, round-again}
+use Rattle.nnls.proofs.Rounding.{Going, going-none, round-accept, round-capped, round-again}
 use Rattle.nnls.proofs.run_rounds.Statement.{statement}
 use Rattle.nnls.proofs.run_rounds.Tie as tie
 
@@ -113,9 +113,26 @@ returns-2 c =
     let a = c .before .before .before .before .before .before .before .before .before .before .before .before .args in
     let l = c .before .before .before .before .before .before .before .before .before .loop in
     let p = c .before .before .before .before .before .one-pass2 in
-    round-last (a .m) (a .n) (a .k) (read (a .m) (a .n) (a .w .now) (a .iw .now)) (read (a .m) (a .n) (l .w) (l .iw))
+    round-capped (a .m) (a .n) (a .k) (read (a .m) (a .n) (a .w .now) (a .iw .now)) (read (a .m) (a .n) (l .w) (l .iw))
     (l .past) (l .f) (c .before .before .before .before .before .before .before .before .before .before .before .before .pre .1)
-    (l .inv .2) (p .result) (read (a .m) (a .n) (p .last .0) (p .last .1 .0)) (p .ensures) (c .before .before .before .before .before .before .before .before .loop-test .left)
+    (l .inv .2) (p .result) (read (a .m) (a .n) (p .last .0) (p .last .1 .0)) (p .ensures) (c .before .before .before .before .before .before .before .before .loop-test .left) (c .if2 .taken)
+
+same-length-5 : tie.Need-same-length-5 Inv-loop μ-loop
+same-length-5 c =
+    c .before .before .before .before .before .one-pass2 .kept .0 ∙ c .before .before .before .before .before .before .before .before .before .loop .inv .0
+
+same-length-6 : tie.Need-same-length-6 Inv-loop μ-loop
+same-length-6 c =
+    c .before .before .before .before .before .one-pass2 .kept .1 .0 ∙ c .before .before .before .before .before .before .before .before .before .loop .inv .1
+
+returns-3 : tie.Need-returns-3 Inv-loop μ-loop
+returns-3 c =
+    let a = c .before .before .before .before .before .before .before .before .before .before .before .before .args in
+    let l = c .before .before .before .before .before .before .before .before .before .loop in
+    let p = c .before .before .before .before .before .one-pass2 in
+    round-accept (a .m) (a .n) (a .k) (read (a .m) (a .n) (a .w .now) (a .iw .now)) (read (a .m) (a .n) (l .w) (l .iw))
+    (l .past) (l .f) (c .before .before .before .before .before .before .before .before .before .before .before .before .pre .1)
+    (l .inv .2) (p .result) (read (a .m) (a .n) (p .last .0) (p .last .1 .0)) (p .ensures) (c .if2 .left)
 
 pub run-rounds-spec : {M : Type 1} → statement M
 run-rounds-spec =
@@ -136,4 +153,7 @@ run-rounds-spec =
     one-pass-requires-2
     same-length-3
     same-length-4
-    returns-2)
+    returns-2
+    same-length-5
+    same-length-6
+    returns-3)

@@ -1,6 +1,6 @@
--- `solve_in`, of its steps. Assumes nothing.
+-- `solve_in`, of its steps.
 use borrow.Author.Needs.{needs}
-use Rattle.nnls.specs.State.{read}
+use Rattle.nnls.specs.inner.State.{read}
 use Rattle.nnls.proofs.States.{read-start}
 use Rattle.nnls.proofs.Rounding.{nnls-whole}
 use Rattle.nnls.proofs.solve_in.Statement.{statement}

@@ -1,12 +1,12 @@
--- `try_all`: after `count` tries what is left of the pass gives the answer. Assumes nothing.
+-- `try_all`: after `count` tries what is left of the pass gives the answer.
 use mathlib.Core.Path.{_≡_, refl, sym, ap, _∙_}
 use Prim.Native.Nat.{_-_}
 use native.Mathlib.Omega.{arith}
 use lib.ListN.{length}
 use borrow.Author.Needs.{needs}
-use Rattle.workspace.specs.Readings.{vec, nums}
-use Rattle.nnls.specs.State.{read}
-use Rattle.nnls.specs.Work.{trialOf}
+use Rattle.workspace.specs.inner.Readings.{vec, nums}
+use Rattle.nnls.specs.inner.State.{read}
+use Rattle.nnls.specs.inner.Work.{trialOf}
 use Rattle.workspace.proofs.Readings.{nth-front}
 use Rattle.nnls.proofs.Passing.{can-try, Trying, trying-none, pass-nothing, pass-out, pass-keep, pass-again}
 use Rattle.nnls.proofs.try_all.Statement.{statement}

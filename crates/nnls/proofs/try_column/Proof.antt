@@ -1,4 +1,4 @@
--- `try_column`, each way out by its tests. Assumes nothing.
+-- `try_column`, each way out by its tests.
 use mathlib.Core.Path.{_∙_}
 use mathlib.Core.Logic.{⊎-elim, inl, inr}
 use native.Mathlib.Omega.{arith}

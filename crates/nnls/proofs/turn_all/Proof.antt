@@ -1,11 +1,11 @@
--- `turn_all`: after `count` turns what is left of the turns gives the answer. Assumes nothing.
+-- `turn_all`: after `count` turns what is left of the turns gives the answer.
 use mathlib.Core.Path.{_≡_, refl, sym, ap, _∙_}
 use Prim.Native.Nat.{_-_}
 use native.Mathlib.Omega.{arith}
 use lib.ListN.{length}
 use borrow.Author.Needs.{needs}
-use Rattle.nnls.specs.State.{read}
-use Rattle.nnls.specs.Work.{blockOf}
+use Rattle.nnls.specs.inner.State.{read}
+use Rattle.nnls.specs.inner.Work.{blockOf}
 use Rattle.nnls.proofs.States.{read-solve}
 use Rattle.nnls.proofs.Moves.{read-moved}
 use Rattle.nnls.proofs.Turning.{Turning, turning-none, turn-free, turn-out, turn-again}

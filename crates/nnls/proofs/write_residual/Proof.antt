@@ -1,11 +1,11 @@
--- `write_residual`: after i turns i entries stand. Assumes nothing.
+-- `write_residual`: after i turns i entries stand.
 use mathlib.Core.Path.{_≡_, refl, ap₂, _∙_}
 use Prim.Native.Nat.{_+_, _-_, _*_, _≤_}
 use native.Mathlib.Omega.{arith}
 use lib.ListN.{length, length-set}
 use lib.Ieee.{nan}
 use Rattle.numbers.specs.Numbers.{at, Σ, _⊖_, _⊗_}
-use Rattle.workspace.specs.Readings.{Block}
+use Rattle.workspace.specs.inner.Readings.{Block}
 use Rattle.workspace.proofs.Writes.{written-none, written-more}
 use Rattle.numbers.proofs.Sums.{Σ-same}
 use Rattle.nnls.proofs.write_residual.Statement.{statement}

@@ -1,4 +1,4 @@
--- `are_lengths`, each way out by its tests. Assumes nothing.
+-- `are_lengths`, each way out by its tests.
 use native.Mathlib.Nat.{mul-le-mul}
 use native.Mathlib.Omega.{arith}
 use borrow.Author.Tests.{eq-eqb, ne-eqb}

@@ -1,4 +1,4 @@
--- `run`, of its steps. Assumes nothing.
+-- `run`, of its steps.
 use mathlib.Core.Path.{_∙_}
 use native.Mathlib.Omega.{arith}
 use Rattle.nnls_call.proofs.Answers.{ran}

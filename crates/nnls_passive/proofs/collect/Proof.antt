@@ -1,9 +1,9 @@
--- `collect`: after t turns t columns are copied. Assumes nothing.
+-- `collect`: after t turns t columns are copied.
 use mathlib.Core.Path.{_≡_, refl, _∙_}
 use Prim.Native.Nat.{_-_, _≤_}
 use native.Mathlib.Omega.{arith}
 use lib.ListN.{length}
-use Rattle.nnls_passive.specs.Work.{Collected}
+use Rattle.nnls_passive.specs.inner.Work.{Collected}
 use Rattle.nnls_passive.proofs.Columns.{collected-none, collected-more}
 use Rattle.nnls_passive.proofs.collect.Statement.{statement}
 use Rattle.nnls_passive.proofs.collect.Tie as tie

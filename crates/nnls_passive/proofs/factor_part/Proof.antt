@@ -1,4 +1,4 @@
--- `factor_part` lends the QR part. Assumes nothing.
+-- `factor_part` lends the QR part.
 use native.Mathlib.Omega.{arith}
 use borrow.Author.Needs.{needs}
 use Rattle.nnls_passive.proofs.Part.{factored-is}

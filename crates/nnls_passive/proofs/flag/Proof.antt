@@ -1,4 +1,4 @@
--- `flag`, by its test. Assumes nothing.
+-- `flag`, by its test.
 use native.Mathlib.Omega.{arith}
 use borrow.Author.Tests.{eq-eqb, ne-eqb}
 use Rattle.nnls_passive.proofs.flag.Statement.{statement}

@@ -1,9 +1,9 @@
--- `list_columns`: after j turns the marked of the first j columns are listed. Assumes nothing.
+-- `list_columns`: after j turns the marked of the first j columns are listed.
 use mathlib.Core.Path.{_≡_, refl}
 use Prim.Native.Nat.{_-_, _≤_}
 use native.Mathlib.Omega.{arith}
 use lib.ListN.{length, length-set}
-use Rattle.nnls_passive.specs.Work.{Listed}
+use Rattle.nnls_passive.specs.inner.Work.{Listed}
 use Rattle.nnls_passive.proofs.Members.{listed-none, listed-more}
 use Rattle.nnls_passive.proofs.list_columns.Statement.{statement}
 use Rattle.nnls_passive.proofs.list_columns.Tie as tie

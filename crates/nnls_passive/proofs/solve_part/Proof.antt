@@ -1,4 +1,4 @@
--- `solve_part` copies b and lends the QR part. Assumes nothing.
+-- `solve_part` copies b and lends the QR part.
 use native.Mathlib.Omega.{arith}
 use borrow.Author.Needs.{needs}
 use Rattle.workspace.proofs.Parts.{lent-is}

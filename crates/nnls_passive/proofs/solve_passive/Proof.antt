@@ -1,4 +1,4 @@
--- `solve_passive`, of its steps. Assumes nothing.
+-- `solve_passive`, of its steps.
 use mathlib.Core.Path.{refl, _∙_}
 use Prim.Native.Nat.{_+_, _≤_}
 use native.Mathlib.Nat.{min-le-left, min-le-right}

@@ -1,10 +1,10 @@
--- `spread`: after t turns t entries stand in z. Assumes nothing.
+-- `spread`: after t turns t entries stand in z.
 use mathlib.Core.Path.{_≡_, refl}
 use Prim.Native.Nat.{_-_, _≤_}
 use native.Mathlib.Omega.{arith}
 use lib.ListN.{length, length-set}
 use Rattle.numbers.specs.Numbers.{at}
-use Rattle.nnls_passive.specs.Work.{Spread}
+use Rattle.nnls_passive.specs.inner.Work.{Spread}
 use Rattle.nnls_passive.proofs.Spreads.{spread-none, spread-more}
 use Rattle.nnls_passive.proofs.spread.Statement.{statement}
 use Rattle.nnls_passive.proofs.spread.Tie as tie

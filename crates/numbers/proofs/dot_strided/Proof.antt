@@ -1,4 +1,4 @@
--- `dot_strided` meets its contract. The loop's invariant: `part` is the sum of the first `i` products. Assumes nothing.
+-- `dot_strided` meets its contract. The loop's invariant: `part` is the sum of the first `i` products.
 use mathlib.Core.Path.{_≡_}
 use Prim.Native.Nat.{ℕ, _+_, _≤_, _<_, _-_, _*_, _^_}
 use native.Mathlib.Omega.{arith}

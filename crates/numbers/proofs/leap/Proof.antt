@@ -1,4 +1,4 @@
--- `leap` meets its contract: k steps of one take k * (2 * start + k) off what is left, which the quotient leaves room for. Assumes nothing.
+-- `leap` meets its contract: k steps of one take k * (2 * start + k) off what is left, which the quotient leaves room for.
 use mathlib.Core.Path.{_≡_, refl, ap, _∙_}
 use Prim.Native.Nat.{ℕ, _+_, _-_, _*_, _/_, _^_, _≤_, _<_}
 use native.Mathlib.Nat.{mul-le-mul-left, div-mul-le-self}

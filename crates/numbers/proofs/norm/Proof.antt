@@ -1,4 +1,4 @@
--- `norm` meets its contract: what `sqrt` ensures, of what `dot` ensures. Assumes nothing.
+-- `norm` meets its contract: what `sqrt` ensures, of what `dot` ensures.
 use mathlib.Core.Path.{_∙_, ap}
 use borrow.Author.Needs.{needs}
 use Rattle.numbers.specs.Root.{sqrtOf, norm}

@@ -1,4 +1,4 @@
--- `sum` meets its contract. The loop's invariant: `total` is the sum of the first `i` entries. Assumes nothing.
+-- `sum` meets its contract. The loop's invariant: `total` is the sum of the first `i` entries.
 use mathlib.Core.Path.{_≡_}
 use Prim.Native.Nat.{_≤_, _-_}
 use native.Mathlib.Omega.{arith}

@@ -1,9 +1,9 @@
--- `put_step`: the step's answer, as text. Assumes nothing.
+-- `put_step`: the step's answer, as text.
 use mathlib.Core.Path.{sym}
 use native.Mathlib.Omega.{arith}
 use lib.Seq.{length-take-le}
-use Rattle.step_rows.specs.Step.{step}
-use Rattle.record_read.specs.Work.{problemIn}
+use Rattle.step.specs.Step.{step}
+use Rattle.record_read.specs.inner.Tables.{problemIn}
 use Rattle.record_answer.proofs.Writing.{as-text}
 use Rattle.record_answer.proofs.Answers.{done-text, refused-text}
 use Rattle.record_answer.proofs.put_step.Statement.{statement}
@@ -34,11 +34,8 @@ solve-requires c κs = let s = c .before .before .before .before .before .before
 enum-known-k : tie.Need-enum-known-k
 enum-known-k c = omega arith
 
-cast-put-refused : tie.Need-cast-put-refused
-cast-put-refused c = omega arith
-
-put-refused-requires : tie.Need-put-refused-requires
-put-refused-requires c κs = omega arith
+put-refusal-requires : tie.Need-put-refusal-requires
+put-refusal-requires c κs = omega arith
 
 enum-known-relaxation : tie.Need-enum-known-relaxation
 enum-known-relaxation c = omega arith
@@ -56,7 +53,7 @@ same-length c = omega arith
 returns : tie.Need-returns
 returns c = let a = c .before .before .before .before .before .before .before .before .before .before .before .before .before .before .before .before .before .before .before .before .before .before .before .args in
     let k = c .before .before .before .before .before .before .before .before .before .before .before .before .before .solve in
-    as-text (refused-text (k .result) _ (k .last .1 .1 .1 .1 .0) (k .last .1 .1 .1 .1 .1 .0) (step (problemIn (a .m) (a .n) (a .marks .now) (a .vals .now)) .answer) (c .before .before .before .before .before .before .before .k .given .1) (k .ensures)) (c .before .before .put-refused .ensures)
+    as-text (refused-text (k .result) _ (k .last .1 .1 .1 .1 .0) (k .last .1 .1 .1 .1 .1 .0) (step (problemIn (a .m) (a .n) (a .marks .now) (a .vals .now)) .answer) (c .before .before .before .before .before .before .before .k .given .1) (k .ensures)) (c .before .before .put-refusal .ensures)
 
 same-length-2 : tie.Need-same-length-2
 same-length-2 c = omega arith
@@ -78,8 +75,7 @@ put-step-spec =
     slice-aggregate-ls
     solve-requires
     enum-known-k
-    cast-put-refused
-    put-refused-requires
+    put-refusal-requires
     enum-known-relaxation
     put-done-requires
     same-length

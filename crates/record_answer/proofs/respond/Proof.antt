@@ -1,21 +1,21 @@
--- `respond`: what the input says, and what is written for it. Assumes nothing.
-use mathlib.Core.Path.{sym}
+-- `respond`: what the input says, and what is written for it.
+use mathlib.Core.Path.{_∙_, sym}
 use native.Mathlib.Omega.{arith}
 use Rattle.record_read.specs.declared.Input.the-variants.{Fault, Large, Whole}
-use Rattle.record_read.proofs.Decoded.{whole-sizes, whole-tables}
-use Rattle.record_answer.proofs.Writing.{as-text, wrote-all}
+use Rattle.record_read.proofs.Decoded.{whole-sizes}
+use Rattle.record_answer.proofs.Writing.{responds}
 use Rattle.record_answer.proofs.Answers.{output-is}
 use Rattle.record_answer.proofs.respond.Statement.{statement}
 use Rattle.record_answer.proofs.respond.Tie as tie
 
-no-marks-requires : tie.Need-no-marks-requires
-no-marks-requires c κs = omega arith
+blank-marks-requires : tie.Need-blank-marks-requires
+blank-marks-requires c κs = tt
 
-no-values-requires : tie.Need-no-values-requires
-no-values-requires c κs = omega arith
+blank-values-requires : tie.Need-blank-values-requires
+blank-values-requires c κs = tt
 
 decode-requires : tie.Need-decode-requires
-decode-requires c κs = omega arith
+decode-requires c κs = tt
 
 enum-known-k : tie.Need-enum-known-k
 enum-known-k c = omega arith
@@ -33,39 +33,41 @@ enum-known-m : tie.Need-enum-known-m
 enum-known-m c = omega arith
 
 slice-aggregate-put-step : tie.Need-slice-aggregate-put-step
-slice-aggregate-put-step c = let k = c .before .before .before .before .decode in sym (whole-tables (k .result) _ _ (k .last .1 .0) (k .last .1 .1 .0) (c .before .before .m .given .1) (k .ensures .1) .0)
+slice-aggregate-put-step c = c .before .before .before .before .before .before .before .before .blank-marks .ensures ∙ sym (c .before .before .before .before .decode .ensures .marks-size)
 
 slice-aggregate-put-step-2 : tie.Need-slice-aggregate-put-step-2
-slice-aggregate-put-step-2 c = let k = c .before .before .before .before .before .decode in sym (whole-tables (k .result) _ _ (k .last .1 .0) (k .last .1 .1 .0) (c .before .before .before .m .given .1) (k .ensures .1) .1)
+slice-aggregate-put-step-2 c = c .before .before .before .before .before .before .before .before .blank-values .ensures ∙ sym (c .before .before .before .before .before .decode .ensures .vals-size)
 
 put-step-requires : tie.Need-put-step-requires
-put-step-requires c κs = let bs = c .before .before .before .before .before .before .before .before .before .before .before .before .args .bytes .now in
+put-step-requires c κs =
     let k = c .before .before .before .before .before .before .decode in
-    let s = whole-sizes bs (k .result) _ _ (k .last .1 .0) (k .last .1 .1 .0) (c .before .before .before .before .m .given .1) (k .ensures .0) in
-    let t = whole-tables (k .result) _ _ (k .last .1 .0) (k .last .1 .1 .0) (c .before .before .before .before .m .given .1) (k .ensures .1) in
-    (s .few, s .some, s .most, t .0, t .1, omega arith)
+    let s = whole-sizes (c .before .before .before .before .before .before .before .before .before .before .before .before .args .bytes .now) (k .result) _ _ (k .last .1 .0) (k .last .1 .1 .0) (c .before .before .before .before .m .given .1) (k .ensures .the-input) in
+    (s .few, s .some, s .most, k .ensures .marks-size ∙ sym (c .before .before .before .before .before .before .before .before .before .before .blank-marks .ensures), k .ensures .vals-size ∙ sym (c .before .before .before .before .before .before .before .before .before .blank-values .ensures), omega arith)
 
 returns : tie.Need-returns
-returns c = let bs = c .before .before .before .before .before .before .before .before .before .before .before .args .bytes .now in
+returns c =
+    let bs = c .before .before .before .before .before .before .before .before .before .before .before .args .bytes .now in
     let k = c .before .before .before .before .before .decode in
-    wrote-all (as-text (output-is bs (k .result) (Fault _) (k .last .1 .0) (k .last .1 .1 .0) (c .before .before .before .k .given .1) (k .ensures .0)) (c .put-fault .ensures))
+    responds bs _ (output-is bs (k .result) (Fault _) (k .last .1 .0) (k .last .1 .1 .0) (c .before .before .before .k .given .1) (k .ensures .the-input)) (c .put-fault .ensures)
 
 returns-2 : tie.Need-returns-2
-returns-2 c = let bs = c .before .before .before .before .before .before .before .before .before .before .args .bytes .now in
+returns-2 c =
+    let bs = c .before .before .before .before .before .before .before .before .before .before .args .bytes .now in
     let k = c .before .before .before .before .decode in
-    wrote-all (as-text (output-is bs (k .result) (Large) (k .last .1 .0) (k .last .1 .1 .0) (c .before .before .enum-told .given .1) (k .ensures .0)) (c .put-refused .ensures))
+    responds bs _ (output-is bs (k .result) Large (k .last .1 .0) (k .last .1 .1 .0) (c .before .before .enum-told .given .1) (k .ensures .the-input)) (c .put-refused .ensures)
 
 returns-3 : tie.Need-returns-3
-returns-3 c = let bs = c .before .before .before .before .before .before .before .before .before .before .before .before .before .args .bytes .now in
+returns-3 c =
+    let bs = c .before .before .before .before .before .before .before .before .before .before .before .before .before .args .bytes .now in
     let k = c .before .before .before .before .before .before .before .decode in
-    wrote-all (as-text (output-is bs (k .result) (Whole _ _) (k .last .1 .0) (k .last .1 .1 .0) (c .before .before .before .before .before .m .given .1) (k .ensures .0)) (c .put-step .ensures))
+    responds bs _ (output-is bs (k .result) (Whole _ _) (k .last .1 .0) (k .last .1 .1 .0) (c .before .before .before .before .before .m .given .1) (k .ensures .the-input)) (c .put-step .ensures)
 
 pub respond-spec : {M : Type 1} → statement M
 respond-spec =
     tie.close
     (tie.spec
-    no-marks-requires
-    no-values-requires
+    blank-marks-requires
+    blank-values-requires
     decode-requires
     enum-known-k
     put-fault-requires

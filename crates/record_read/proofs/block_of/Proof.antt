@@ -1,6 +1,6 @@
--- `block_of`: a block for each tag. Assumes nothing.
+-- `block_of`: a block for each tag.
 use borrow.Author.Tests.{ne-eqb}
-use Rattle.record_read.specs.Work.{blockOf}
+use Rattle.record_read.specs.inner.Tables.{blockOf}
 use Rattle.record_read.proofs.block_of.Statement.{statement}
 use Rattle.record_read.proofs.block_of.Tie as tie
 

@@ -1,9 +1,9 @@
--- `complete`: after i turns the first i constraints have their marks. Assumes nothing.
+-- `complete`: after i turns the first i constraints have their marks.
 use mathlib.Core.Path.{_≡_, _∙_, sym}
 use Prim.Native.Nat.{_≤_, _-_, _+_}
 use native.Mathlib.Omega.{arith}
 use lib.ListN.{take, drop}
-use Rattle.record_read.specs.Work.{allMarked}
+use Rattle.record_read.specs.inner.Filling.{allMarked}
 use Rattle.record_read.proofs.Marks.{marked-none, marked-end, marked-stop, marked-more}
 use Rattle.record_read.proofs.complete.Statement.{statement}
 use Rattle.record_read.proofs.complete.Tie as tie

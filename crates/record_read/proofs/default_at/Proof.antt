@@ -1,8 +1,8 @@
--- `default_at`: a default for each part of the tables. Assumes nothing.
+-- `default_at`: a default for each part of the tables.
 use native.Mathlib.Omega.{arith}
 use borrow.Author.Tests.{eq-eqb, ne-eqb, lt-ltb, le-ltb}
 use lib.Ieee.{ofBits, nanBits, round}
-use Rattle.record_read.specs.Work.{defaultAt}
+use Rattle.record_read.specs.inner.Tables.{defaultAt}
 use Rattle.record_read.proofs.default_at.Statement.{statement}
 use Rattle.record_read.proofs.default_at.Tie as tie
 

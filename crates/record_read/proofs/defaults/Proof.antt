@@ -1,8 +1,8 @@
--- `defaults`: after i turns the first i places hold their defaults. Assumes nothing.
+-- `defaults`: after i turns the first i places hold their defaults.
 use Prim.Native.Nat.{_-_, _≤_}
 use native.Mathlib.Omega.{arith}
 use Rattle.numbers.proofs.Fills.{Fill, fill-none, fill-more, fill-all}
-use Rattle.record_read.specs.Work.{defaultAt, defaults}
+use Rattle.record_read.specs.inner.Tables.{defaultAt, defaults}
 use Rattle.record_read.proofs.defaults.Statement.{statement}
 use Rattle.record_read.proofs.defaults.Tie as tie
 

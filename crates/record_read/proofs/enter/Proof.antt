@@ -1,4 +1,4 @@
--- `enter`: the place that the record names, and then its entry. Assumes nothing.
+-- `enter`: the place that the record names, and then its entry.
 use mathlib.Core.Path.{sym, _∙_, ap}
 use Prim.Native.Nat.{_<_}
 use native.Mathlib.Omega.{arith}
@@ -14,17 +14,8 @@ shared-slice-read-mark c = omega arith
 mark-requires : tie.Need-mark-requires
 mark-requires c κs = omega arith
 
-sub-number : tie.Need-sub-number
-sub-number c = omega arith
-
-part-number-start : tie.Need-part-number-start
-part-number-start c = omega arith
-
-part-number-end : tie.Need-part-number-end
-part-number-end c = omega arith
-
-number-requires : tie.Need-number-requires
-number-requires c κs = omega arith
+read-u64-requires : tie.Need-read-u64-requires
+read-u64-requires c κs = omega arith
 
 value-requires : tie.Need-value-requires
 value-requires c κs = omega arith
@@ -40,17 +31,16 @@ enum-told c = omega arith
 
 returns : tie.Need-returns
 returns c =
-    let a = c .before .before .before .before .before .before .before .before .before .before .before .args in
+    let a = c .before .before .before .before .before .before .before .before .before .before .args in
     enter-bad (a .m) (a .n) (a .r .now) (a .marks .now) (a .vals .now) (sym (c .before .before .entry .ensures) ∙ c .enum-told .given .1)
 
 put-requires : tie.Need-put-requires
 put-requires c κs =
     let q = c .before .before .before in
-    let e = q .before .before in
-    let st = e .before .before .before .before .before .before .before .before .before in
-    let a = st .args in
-    let h : q .p .given .0 .0 < 576 = entry-in (a .m) (a .n) (a .r .now) _ (st .pre .0 .1) (st .pre .0 .2) (sym (e .entry .ensures) ∙ q .p .given .1) in
-    omega (arith, st .pre, h)
+    let e = c .before .before .before .before .before in
+    let s = c .before .before .before .before .before .before .before .before .before .before .before .before .before in
+    let h : q .p .given .0 .0 < 576 = entry-in (s .args .m) (s .args .n) (s .args .r .now) _ (s .pre .0 .1) (s .pre .0 .2) (sym (e .entry .ensures) ∙ q .p .given .1) in
+    omega (arith, s .pre, h)
 
 same-length : tie.Need-same-length
 same-length c = omega arith
@@ -60,15 +50,12 @@ same-length-2 c = omega arith
 
 returns-2 : tie.Need-returns-2
 returns-2 c =
-    let u = c .before .before .before .before in
-    let q = u .before .before .before .before in
-    let e = q .before .before in
-    let v = e .before in
-    let k = v .before .before .before in
-    let a = k .before .before .before .before .before .args in
-    u .put .ensures
-    ∙ enter-at (a .m) (a .n) (a .r .now) (a .marks .now) (a .vals .now) _ _ _ (sym (e .entry .ensures) ∙ q .p .given .1) (k .mark .ensures)
-    (v .value .ensures ∙ ap (ofBits binary64) (v .before .number .ensures))
+    let q = c .before .before .before .before .before .before .before .before in
+    let v = c .before .before .before .before .before .before .before .before .before .before .before in
+    let a = c .before .before .before .before .before .before .before .before .before .before .before .before .before .before .before .before .before .before .args in
+    c .before .before .before .before .put .ensures
+    ∙ enter-at (a .m) (a .n) (a .r .now) (a .marks .now) (a .vals .now) _ _ _ (sym (c .before .before .before .before .before .before .before .before .before .before .entry .ensures) ∙ q .p .given .1) (c .before .before .before .before .before .before .before .before .before .before .before .before .before .mark .ensures)
+    (v .value .ensures ∙ ap (ofBits binary64) (c .before .before .before .before .before .before .before .before .before .before .before .before .read-u64 .ensures))
 
 pub enter-spec : {M : Type 1} → statement M
 enter-spec =
@@ -76,10 +63,7 @@ enter-spec =
     (tie.spec
     shared-slice-read-mark
     mark-requires
-    sub-number
-    part-number-start
-    part-number-end
-    number-requires
+    read-u64-requires
     value-requires
     entry-requires
     enum-known-p

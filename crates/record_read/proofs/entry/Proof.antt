@@ -1,4 +1,4 @@
--- `entry`: the spare bytes, and then the place. Assumes nothing.
+-- `entry`: the spare bytes, and then the place.
 use mathlib.Core.Path.{_≡_, sym, _∙_}
 use mathlib.Core.Bool.{true}
 use native.Mathlib.Omega.{arith}
@@ -16,29 +16,17 @@ returns c =
     let a = c .before .before .before .args in
     entry-spare (a .m) (a .n) (a .r .now) (sym (c .before .spare-zero .ensures) ∙ not-true _ (c .if1 .taken))
 
-sub-number : tie.Need-sub-number
-sub-number c = omega arith
+read-u16-requires : tie.Need-read-u16-requires
+read-u16-requires c κs = omega arith
 
-part-number-start : tie.Need-part-number-start
-part-number-start c = omega arith
+cast-row : tie.Need-cast-row
+cast-row c = omega arith
 
-part-number-end : tie.Need-part-number-end
-part-number-end c = omega arith
+read-u16-requires-2 : tie.Need-read-u16-requires-2
+read-u16-requires-2 c κs = omega arith
 
-number-requires : tie.Need-number-requires
-number-requires c κs = omega arith
-
-sub-number-2 : tie.Need-sub-number-2
-sub-number-2 c = omega arith
-
-part-number-start-2 : tie.Need-part-number-start-2
-part-number-start-2 c = omega arith
-
-part-number-end-2 : tie.Need-part-number-end-2
-part-number-end-2 c = omega arith
-
-number-requires-2 : tie.Need-number-requires-2
-number-requires-2 c κs = omega arith
+cast-col : tie.Need-cast-col
+cast-col c = omega arith
 
 shared-slice-read-spot-of : tie.Need-shared-slice-read-spot-of
 shared-slice-read-spot-of c = omega arith
@@ -48,9 +36,9 @@ spot-of-requires c κs = omega arith
 
 returns-2 : tie.Need-returns-2
 returns-2 c =
-    let a = c .before .before .before .before .before .before .before .before .before .args in
-    let z : spareZero (a .r .now) ≡ true = sym (c .before .before .before .before .before .before .before .spare-zero .ensures) ∙ not-false _ (c .before .before .before .before .before .before .if1 .left) in
-    c .spot-of .ensures ∙ rw (c .before .before .before .before .number .ensures, c .before .before .number2 .ensures) (entry-at (a .m) (a .n) (a .r .now) z)
+    let a = c .before .before .before .before .before .before .before .args in
+    let z : spareZero (a .r .now) ≡ true = sym (c .before .before .before .before .before .spare-zero .ensures) ∙ not-false _ (c .before .before .before .before .if1 .left) in
+    c .spot-of .ensures ∙ rw (c .before .before .before .read-u16 .ensures, c .before .before .read-u162 .ensures) (entry-at (a .m) (a .n) (a .r .now) z)
 
 pub entry-spec : {M : Type 1} → statement M
 entry-spec =
@@ -58,14 +46,10 @@ entry-spec =
     (tie.spec
     spare-zero-requires
     returns
-    sub-number
-    part-number-start
-    part-number-end
-    number-requires
-    sub-number-2
-    part-number-start-2
-    part-number-end-2
-    number-requires-2
+    read-u16-requires
+    cast-row
+    read-u16-requires-2
+    cast-col
     shared-slice-read-spot-of
     spot-of-requires
     returns-2)

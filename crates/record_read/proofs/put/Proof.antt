@@ -1,8 +1,8 @@
--- `put`: a marked place is left, and a free one is written. Assumes nothing.
+-- `put`: a marked place is left, and a free one is written.
 use native.Mathlib.Omega.{arith}
 use borrow.Author.Tests.{eq-eqb, ne-eqb}
 use lib.ListN.{length-set}
-use Rattle.record_read.specs.Work.{put}
+use Rattle.record_read.specs.inner.Filling.{put}
 use Rattle.record_read.proofs.put.Statement.{statement}
 use Rattle.record_read.proofs.put.Tie as tie
 

@@ -1,4 +1,4 @@
--- `sizes`: the tests in their order. Assumes nothing.
+-- `sizes`: the tests in their order.
 use mathlib.Core.Path.{sym, _∙_}
 use borrow.Author.Tests.{not-true, not-false}
 use Rattle.record_read.proofs.Heads.{sizes-not, sizes-many, sizes-good}
@@ -11,15 +11,15 @@ is-dimension-requires c κs = tt
 returns : tie.Need-returns
 returns c = sizes-not _ _ (sym (c .before .is-dimension .ensures) ∙ not-true _ (c .if1 .taken))
 
-is-equalities-requires : tie.Need-is-equalities-requires
-is-equalities-requires c κs = tt
+is-constraints-requires : tie.Need-is-constraints-requires
+is-constraints-requires c κs = tt
 
 returns-2 : tie.Need-returns-2
-returns-2 c = sizes-many _ _ (sym (c .before .before .before .is-dimension .ensures) ∙ not-false _ (c .before .before .if1 .left)) (sym (c .before .is-equalities .ensures) ∙ not-true _ (c .if2 .taken))
+returns-2 c = sizes-many _ _ (sym (c .before .before .before .is-dimension .ensures) ∙ not-false _ (c .before .before .if1 .left)) (sym (c .before .is-constraints .ensures) ∙ not-true _ (c .if2 .taken))
 
 returns-3 : tie.Need-returns-3
-returns-3 c = sizes-good _ _ (sym (c .before .before .before .is-dimension .ensures) ∙ not-false _ (c .before .before .if1 .left)) (sym (c .before .is-equalities .ensures) ∙ not-false _ (c .if2 .left))
+returns-3 c = sizes-good _ _ (sym (c .before .before .before .is-dimension .ensures) ∙ not-false _ (c .before .before .if1 .left)) (sym (c .before .is-constraints .ensures) ∙ not-false _ (c .if2 .left))
 
 pub sizes-spec : {M : Type 1} → statement M
 sizes-spec =
-    tie.close (tie.spec is-dimension-requires returns is-equalities-requires returns-2 returns-3)
+    tie.close (tie.spec is-dimension-requires returns is-constraints-requires returns-2 returns-3)

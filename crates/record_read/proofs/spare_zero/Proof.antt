@@ -1,4 +1,4 @@
--- `spare_zero`: the three bytes one after the other. Assumes nothing.
+-- `spare_zero`: the three bytes one after the other.
 use native.Mathlib.Omega.{arith}
 use borrow.Author.Tests.{ne-eqb, eq-eqb}
 use Rattle.record_read.specs.Input.{spareZero}

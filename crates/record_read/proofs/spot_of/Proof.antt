@@ -1,11 +1,11 @@
--- `spot_of`: above the diagonal, and in the block. Assumes nothing.
+-- `spot_of`: above the diagonal, and in the block.
 use mathlib.Core.Path.{_≡_, sym, _∙_}
 use mathlib.Core.Logic.{⊎-elim}
 use mathlib.Core.Bool.{false, _&&_}
 use native.Mathlib.Omega.{arith}
 use borrow.Author.Tests.{eq-eqb, ne-eqb, lt-ltb, le-ltb}
 use lib.Dec.{eqb, ltb}
-use Rattle.record_read.specs.Work.{spotOf}
+use Rattle.record_read.specs.inner.Tables.{spotOf}
 use Rattle.record_read.proofs.Blocks.{Room, room, spot-rest}
 use Rattle.record_read.proofs.Bytes.{and-false}
 use Rattle.record_read.proofs.spot_of.Statement.{statement}

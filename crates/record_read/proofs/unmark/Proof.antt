@@ -1,4 +1,4 @@
--- `unmark`: after i turns the first i marks are 0. Assumes nothing.
+-- `unmark`: after i turns the first i marks are 0.
 use mathlib.Core.Path.{_∙_}
 use Prim.Native.Nat.{_-_, _≤_}
 use native.Mathlib.Omega.{arith}

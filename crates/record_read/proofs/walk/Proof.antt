@@ -1,10 +1,10 @@
--- `walk`: before record k, what is still to come gives the answer. Assumes nothing.
+-- `walk`: before record k, what is still to come gives the answer.
 use mathlib.Core.Path.{_≡_, refl, sym, _∙_}
 use Prim.Native.Nat.{_≤_, _-_, _/_}
 use native.Mathlib.Omega.{arith}
 use borrow.Author.Tests.{not-true, not-false}
 use lib.ListN.{length}
-use Rattle.record_read.specs.Work.{walkTables}
+use Rattle.record_read.specs.inner.Filling.{walkTables}
 use Rattle.record_read.proofs.Walks.{part-length, walk-bad, walk-next, walk-short, walk-missing, walk-done}
 use Rattle.record_read.proofs.walk.Statement.{statement}
 use Rattle.record_read.proofs.walk.Tie as tie

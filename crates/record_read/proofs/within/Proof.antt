@@ -1,9 +1,9 @@
--- `within`: below the rows and the columns. Assumes nothing.
+-- `within`: below the rows and the columns.
 use Prim.Native.Nat.{_*_, _≤_}
 use native.Mathlib.Nat.{mul-le-mul}
 use native.Mathlib.Omega.{arith}
 use borrow.Author.Tests.{lt-ltb, le-ltb}
-use Rattle.record_read.specs.Work.{within}
+use Rattle.record_read.specs.inner.Tables.{within}
 use Rattle.record_read.proofs.within.Statement.{statement}
 use Rattle.record_read.proofs.within.Tie as tie
 

@@ -1,4 +1,4 @@
--- `read_input`: after each turn `done` bytes are read. Assumes nothing.
+-- `read_input`: after each turn `done` bytes are read.
 use mathlib.Core.Path.{_≡_, refl}
 use Prim.Native.Nat.{_-_, _≤_}
 use native.Mathlib.Omega.{arith}
@@ -16,17 +16,17 @@ abbrev μ-loop : tie.MeasureT-loop
 loop-holds : tie.Need-loop-holds Inv-loop μ-loop
 loop-holds c = (omega arith, refl)
 
-sub-read : tie.Need-sub-read Inv-loop μ-loop
-sub-read c = omega arith
+sub-read-some : tie.Need-sub-read-some Inv-loop μ-loop
+sub-read-some c = omega arith
 
-part-read-start : tie.Need-part-read-start Inv-loop μ-loop
-part-read-start c = omega arith
+part-read-some-start : tie.Need-part-read-some-start Inv-loop μ-loop
+part-read-some-start c = omega arith
 
-part-read-end : tie.Need-part-read-end Inv-loop μ-loop
-part-read-end c = omega arith
+part-read-some-end : tie.Need-part-read-some-end Inv-loop μ-loop
+part-read-some-end c = omega arith
 
-read-requires : tie.Need-read-requires Inv-loop μ-loop
-read-requires c κs = omega arith
+read-some-requires : tie.Need-read-some-requires Inv-loop μ-loop
+read-some-requires c κs = omega arith
 
 same-length : tie.Need-same-length Inv-loop μ-loop
 same-length c = omega arith
@@ -74,10 +74,10 @@ read-input-spec =
     Inv-loop
     μ-loop
     loop-holds
-    sub-read
-    part-read-start
-    part-read-end
-    read-requires
+    sub-read-some
+    part-read-some-start
+    part-read-some-end
+    read-some-requires
     same-length
     returns
     sub-count

@@ -1,4 +1,4 @@
--- `replay_calls` meets its contract. Assumes nothing.
+-- `replay_calls` meets its contract.
 use mathlib.Core.Path.{_≡_}
 use Prim.Native.Nat.{_-_, _≤_}
 use lib.ListN.{length, length-set}

@@ -1,4 +1,4 @@
--- `replay_next` meets its contract. Assumes nothing.
+-- `replay_next` meets its contract.
 use Prim.Native.Nat.{_-_, _*_}
 use lib.Seq.{length-take-le}
 use mathlib.Core.Path.{sym}

@@ -1,4 +1,4 @@
--- `write_counts` meets its contract. Assumes nothing.
+-- `write_counts` meets its contract.
 use Prim.Native.Nat.{_-_, _≤_}
 use native.Mathlib.Omega.{arith}
 use borrow.Author.Needs.{needs}

@@ -1,8 +1,8 @@
--- `after`: the counts of both. Assumes nothing.
+-- `after`: the counts of both.
 use mathlib.Core.Path.{_≡_, refl, sym, ap, _∙_}
 use Prim.Native.Nat.{ℕ, _+_, _*_, _-_, _≤_, _<_}
 use native.Mathlib.Omega.{arith}
-use Rattle.step.specs.Work.{later}
+use Rattle.step.specs.inner.Work.{later}
 use borrow.Author.Needs.{needs}
 use Rattle.step.proofs.after.Statement.{statement}
 use Rattle.step.proofs.after.Tie as tie

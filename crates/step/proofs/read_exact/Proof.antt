@@ -1,4 +1,4 @@
--- `read_exact`: the multipliers, and the step. Assumes nothing.
+-- `read_exact`: the multipliers, and the step.
 use mathlib.Core.Path.{_≡_, refl, sym, ap, _∙_}
 use Prim.Native.Nat.{ℕ, _+_, _*_, _-_, _≤_, _<_}
 use native.Mathlib.Omega.{arith}

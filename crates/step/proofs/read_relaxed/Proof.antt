@@ -1,8 +1,8 @@
--- `read_relaxed`: the relaxation, the multipliers, and the step. Assumes nothing.
+-- `read_relaxed`: the relaxation, the multipliers, and the step.
 use mathlib.Core.Path.{_≡_, refl, sym, ap, _∙_}
 use Prim.Native.Nat.{ℕ, _+_, _*_, _-_, _≤_, _<_}
 use native.Mathlib.Omega.{arith}
-use Rattle.step_rows.specs.Step.{clamped}
+use Rattle.step.specs.Step.{clamped}
 use Rattle.step.proofs.Reading.{length-paired, left-is, take-vec, last-vec}
 use Rattle.step.proofs.read_relaxed.Statement.{statement}
 use Rattle.step.proofs.read_relaxed.Tie as tie

@@ -1,8 +1,8 @@
--- `solve_step`: the exact problem, or the relaxed one after it. Assumes nothing.
+-- `solve_step`: the exact problem, or the relaxed one after it.
 use mathlib.Core.Path.{_≡_, refl, sym, ap, _∙_}
+use mathlib.Core.List.{[]}
 use Prim.Native.Nat.{ℕ, _+_, _*_, _-_, _≤_, _<_}
 use native.Mathlib.Omega.{arith}
-use Rattle.step_rows.specs.Work.{bare}
 use borrow.Author.Needs.{needs}
 use Rattle.step.proofs.Both.{step-first, step-second, late-later}
 use Rattle.step.proofs.solve_step.Statement.{statement}

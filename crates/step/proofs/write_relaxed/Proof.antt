@@ -1,4 +1,4 @@
--- `write_relaxed`: E, f and G with h, one behind the other. Assumes nothing.
+-- `write_relaxed`: E, f and G with h, one behind the other.
 use mathlib.Core.Path.{_≡_, refl, sym, ap, _∙_}
 use Prim.Native.Nat.{ℕ, _+_, _*_, _-_, _≤_, _<_}
 use native.Mathlib.Omega.{arith}

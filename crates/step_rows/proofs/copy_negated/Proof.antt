@@ -1,11 +1,11 @@
--- `copy_negated`: after t turns t entries are written. Assumes nothing.
+-- `copy_negated`: after t turns t entries are written.
 use mathlib.Core.Path.{_≡_, refl, sym, ap, _∙_}
 use Prim.Native.Nat.{ℕ, _+_, _*_, _-_, _≤_, _<_}
 use native.Mathlib.Omega.{arith}
 use lib.ListN.{length, length-set}
 use lib.Ieee.{nan, neg}
 use Rattle.numbers.specs.Numbers.{at}
-use Rattle.workspace.specs.Readings.{Block}
+use Rattle.workspace.specs.inner.Readings.{Block}
 use Rattle.workspace.proofs.Writes.{written-none, written-more}
 use Rattle.step_rows.proofs.copy_negated.Statement.{statement}
 use Rattle.step_rows.proofs.copy_negated.Tie as tie

@@ -1,4 +1,4 @@
--- `push_all_relaxed`: after j turns j constraints are pushed. Assumes nothing.
+-- `push_all_relaxed`: after j turns j constraints are pushed.
 use mathlib.Core.Path.{_≡_, refl, sym, ap, _∙_}
 use Prim.Native.Nat.{ℕ, _+_, _*_, _-_, _≤_, _<_}
 use native.Mathlib.Omega.{arith}
@@ -8,7 +8,7 @@ use lib.Ieee.{neg}
 use Rattle.numbers.specs.Numbers.{at, nth, row}
 use Rattle.numbers.proofs.Lists.{row-fits}
 use Rattle.step_rows.specs.Problem.{each, relaxedOf}
-use Rattle.step_rows.specs.Work.{Pushed}
+use Rattle.step_rows.specs.inner.Work.{Pushed}
 use Rattle.step_rows.proofs.Pushing.{each-none, each-more}
 use Rattle.step_rows.proofs.push_all_relaxed.Statement.{statement}
 use Rattle.step_rows.proofs.push_all_relaxed.Tie as tie

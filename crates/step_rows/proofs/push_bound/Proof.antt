@@ -1,4 +1,4 @@
--- `push_bound`: one side behind the other. Assumes nothing.
+-- `push_bound`: one side behind the other.
 use native.Mathlib.Omega.{arith}
 use borrow.Author.Needs.{needs}
 use Rattle.step_rows.proofs.Pushing.{pushed-both}

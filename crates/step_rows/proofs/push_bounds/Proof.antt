@@ -1,4 +1,4 @@
--- `push_bounds`: after i turns the bounds of i variables are pushed. Assumes nothing.
+-- `push_bounds`: after i turns the bounds of i variables are pushed.
 use mathlib.Core.Path.{_≡_, refl, sym, ap, _∙_}
 use Prim.Native.Nat.{ℕ, _+_, _*_, _-_, _≤_, _<_}
 use native.Mathlib.Omega.{arith}
@@ -6,7 +6,7 @@ use mathlib.Core.List.{_++_}
 use lib.ListN.{length}
 use Rattle.numbers.specs.Numbers.{at}
 use Rattle.step_rows.specs.Problem.{sideOf, lowerRow, upperRow, each}
-use Rattle.step_rows.specs.Work.{Pushed}
+use Rattle.step_rows.specs.inner.Work.{Pushed}
 use Rattle.step_rows.proofs.Pushing.{each-none, each-more}
 use Rattle.step_rows.proofs.push_bounds.Statement.{statement}
 use Rattle.step_rows.proofs.push_bounds.Tie as tie

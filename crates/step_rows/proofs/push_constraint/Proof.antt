@@ -1,4 +1,4 @@
--- `push_constraint`: nothing, or a row. Assumes nothing.
+-- `push_constraint`: nothing, or a row.
 use mathlib.Core.Path.{_≡_, refl, sym, ap, _∙_}
 use native.Mathlib.Omega.{arith}
 use borrow.Author.Tests.{not-true, not-false}

@@ -1,4 +1,4 @@
--- `push_constraints`: after j turns j constraints are pushed, as they are asked for. Assumes nothing.
+-- `push_constraints`: after j turns j constraints are pushed, as they are asked for.
 use mathlib.Core.Path.{_≡_, refl, sym, ap, _∙_}
 use Prim.Native.Nat.{ℕ, _+_, _*_, _-_, _≤_, _<_}
 use native.Mathlib.Omega.{arith}
@@ -8,7 +8,7 @@ use lib.Ieee.{neg}
 use Rattle.numbers.specs.Numbers.{at, nth, row}
 use Rattle.numbers.proofs.Lists.{row-fits}
 use Rattle.step_rows.specs.Problem.{rowOf, each}
-use Rattle.step_rows.specs.Work.{Pushed, picked}
+use Rattle.step_rows.specs.inner.Work.{Pushed, picked}
 use Rattle.step_rows.proofs.Pushing.{each-none, each-more}
 use Rattle.step_rows.proofs.push_constraints.Statement.{statement}
 use Rattle.step_rows.proofs.push_constraints.Tie as tie

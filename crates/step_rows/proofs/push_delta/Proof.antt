@@ -1,8 +1,8 @@
--- `push_delta`: two units. Assumes nothing.
+-- `push_delta`: two units.
 use native.Mathlib.Omega.{arith}
 use Rattle.step_rows.specs.Problem.{deltaRows}
 use Rattle.workspace.proofs.Readings.{lit-+0}
-use Rattle.lsei.proofs.Dual.{lit-one}
+use Rattle.workspace.proofs.Readings.{lit-one}
 use Rattle.step_rows.proofs.Pushing.{pushed-two}
 use Rattle.step_rows.proofs.push_delta.Statement.{statement}
 use Rattle.step_rows.proofs.push_delta.Tie as tie

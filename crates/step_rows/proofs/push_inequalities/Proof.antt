@@ -1,4 +1,4 @@
--- `push_inequalities`: constraints, and bounds behind them. Assumes nothing.
+-- `push_inequalities`: constraints, and bounds behind them.
 use native.Mathlib.Omega.{arith}
 use Rattle.step_rows.specs.Problem.{boundRows, inequalityRows}
 use Rattle.step_rows.proofs.Pushing.{pushed-both}

@@ -1,8 +1,8 @@
--- `push_lower`: nothing, or a unit. Assumes nothing.
+-- `push_lower`: nothing, or a unit.
 use native.Mathlib.Omega.{arith}
 use borrow.Author.Needs.{needs}
 use Rattle.step_rows.proofs.Pushing.{pushed-none}
-use Rattle.lsei.proofs.Dual.{lit-one}
+use Rattle.workspace.proofs.Readings.{lit-one}
 use Rattle.step_rows.proofs.push_lower.Statement.{statement}
 use Rattle.step_rows.proofs.push_lower.Tie as tie
 

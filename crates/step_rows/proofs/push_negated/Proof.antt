@@ -1,4 +1,4 @@
--- `push_negated`: a copied row negated, one coefficient more, and the side. Assumes nothing.
+-- `push_negated`: a copied row negated, one coefficient more, and the side.
 use native.Mathlib.Omega.{arith}
 use lib.ListN.{length-set}
 use Rattle.step_rows.proofs.Coefficients.{negated-is}

@@ -1,4 +1,4 @@
--- `push_opposed`: a row, and the row negated. Assumes nothing.
+-- `push_opposed`: a row, and the row negated.
 use native.Mathlib.Omega.{arith}
 use Rattle.step_rows.specs.Problem.{opposedRows}
 use Rattle.step_rows.proofs.Pushing.{pushed-two}

@@ -1,4 +1,4 @@
--- `push_relaxed`: two opposed rows, or a loosened one. Assumes nothing.
+-- `push_relaxed`: two opposed rows, or a loosened one.
 use native.Mathlib.Omega.{arith}
 use borrow.Author.Tests.{eq-eqb, ne-eqb}
 use Rattle.step_rows.specs.Problem.{loosenedRow}

@@ -1,4 +1,4 @@
--- `push_relaxed_rows`: constraints, bounds, and the rows of delta. Assumes nothing.
+-- `push_relaxed_rows`: constraints, bounds, and the rows of delta.
 use native.Mathlib.Omega.{arith}
 use Rattle.step_rows.specs.Problem.{boundRows, relaxedRows}
 use Rattle.step_rows.proofs.Pushing.{pushed-both}

@@ -1,4 +1,4 @@
--- `push_row`: a copied row and its side. Assumes nothing.
+-- `push_row`: a copied row and its side.
 use native.Mathlib.Omega.{arith}
 use lib.ListN.{length-set}
 use Rattle.step_rows.proofs.Coefficients.{row-is}

@@ -1,4 +1,4 @@
--- `push_unit`: a unit and its side. Assumes nothing.
+-- `push_unit`: a unit and its side.
 use native.Mathlib.Omega.{arith}
 use lib.ListN.{length-set}
 use Rattle.step_rows.proofs.Coefficients.{unit-is}

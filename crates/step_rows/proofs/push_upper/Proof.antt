@@ -1,8 +1,8 @@
--- `push_upper`: nothing, or a unit negated. Assumes nothing.
+-- `push_upper`: nothing, or a unit negated.
 use native.Mathlib.Omega.{arith}
 use borrow.Author.Needs.{needs}
 use Rattle.step_rows.proofs.Pushing.{pushed-none}
-use Rattle.lsei.proofs.Dual.{lit-one}
+use Rattle.workspace.proofs.Readings.{lit-one}
 use Rattle.step_rows.proofs.push_upper.Statement.{statement}
 use Rattle.step_rows.proofs.push_upper.Tie as tie
 

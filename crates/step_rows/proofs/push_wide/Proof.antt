@@ -1,4 +1,4 @@
--- `push_wide`: a copied row, one coefficient more, and the side. Assumes nothing.
+-- `push_wide`: a copied row, one coefficient more, and the side.
 use native.Mathlib.Omega.{arith}
 use lib.ListN.{length-set}
 use Rattle.step_rows.proofs.Coefficients.{row-is}

@@ -1,4 +1,4 @@
--- `write_unit`: blank entries, and one of them set. Assumes nothing.
+-- `write_unit`: blank entries, and one of them set.
 use native.Mathlib.Omega.{arith}
 use lib.ListN.{length-set}
 use Rattle.step_rows.proofs.Coefficients.{unit-written}

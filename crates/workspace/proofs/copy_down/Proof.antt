@@ -1,11 +1,11 @@
--- `copy_down`: after t turns t entries are copied, and what is still to be read is as it was. Assumes nothing.
+-- `copy_down`: after t turns t entries are copied, and what is still to be read is as it was.
 use mathlib.Core.Path.{_≡_, refl}
 use Prim.Native.Nat.{_+_, _*_, _-_, _≤_}
 use native.Mathlib.Omega.{arith}
 use lib.ListN.{length, length-set}
 use lib.Ieee.{nan}
 use Rattle.numbers.specs.Numbers.{at}
-use Rattle.workspace.specs.Readings.{Block}
+use Rattle.workspace.specs.inner.Readings.{Block}
 use Rattle.workspace.proofs.Writes.{written-none, written-more}
 use Rattle.workspace.proofs.copy_down.Statement.{statement}
 use Rattle.workspace.proofs.copy_down.Tie as tie

@@ -1,4 +1,4 @@
--- `load` is a copy with stride 1 from the front. Assumes nothing.
+-- `load` is a copy with stride 1 from the front.
 use mathlib.Core.Path.{_≡_, ap}
 use Prim.Native.Nat.{ℕ, _+_, _*_}
 use native.Mathlib.Omega.{arith}

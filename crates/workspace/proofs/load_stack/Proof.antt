@@ -1,4 +1,4 @@
--- `load_stack`: after k turns k rows are in. Assumes nothing.
+-- `load_stack`: after k turns k rows are in.
 use mathlib.Core.Path.{_≡_, refl, _∙_}
 use Prim.Native.Nat.{ℕ, _+_, _*_, _-_, _≤_, _<_}
 use native.Mathlib.Omega.{arith}

@@ -1,10 +1,10 @@
--- `unload` is a copy with stride 1 to the front. Assumes nothing.
+-- `unload` is a copy with stride 1 to the front.
 use mathlib.Core.Path.{_≡_, ap}
 use Prim.Native.Nat.{ℕ, _+_, _*_}
 use native.Mathlib.Omega.{arith}
 use lib.Ieee.{nan}
 use Rattle.numbers.specs.Numbers.{at}
-use Rattle.workspace.specs.Readings.{vec}
+use Rattle.workspace.specs.inner.Readings.{vec}
 use Rattle.workspace.proofs.Writes.{written-as, written-all}
 use Rattle.workspace.proofs.unload.Statement.{statement}
 use Rattle.workspace.proofs.unload.Tie as tie

@@ -1,4 +1,4 @@
--- `unload_matrix`: after i turns i rows are out. Assumes nothing.
+-- `unload_matrix`: after i turns i rows are out.
 use mathlib.Core.Path.{_≡_, refl, _∙_}
 use Prim.Native.Nat.{ℕ, _+_, _*_, _-_, _≤_, _<_}
 use native.Mathlib.Omega.{arith}

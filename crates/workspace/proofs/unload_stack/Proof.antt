@@ -1,4 +1,4 @@
--- `unload_stack`: after k turns k vectors are out. Assumes nothing.
+-- `unload_stack`: after k turns k vectors are out.
 use mathlib.Core.Path.{_≡_, refl, _∙_}
 use Prim.Native.Nat.{ℕ, _+_, _*_, _-_, _≤_, _<_}
 use native.Mathlib.Omega.{arith}

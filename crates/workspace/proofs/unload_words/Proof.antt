@@ -1,11 +1,11 @@
--- `unload_words`: after t turns t numbers are copied. Assumes nothing.
+-- `unload_words`: after t turns t numbers are copied.
 use mathlib.Core.Path.{_≡_, refl}
 use Prim.Native.Nat.{_+_, _*_, _-_, _≤_}
 use native.Mathlib.Omega.{arith}
 use lib.ListN.{length, length-set}
 use mathlib.Core.Path.{sym, _∙_}
 use Rattle.numbers.specs.Numbers.{nth}
-use Rattle.workspace.specs.Readings.{nums, Span}
+use Rattle.workspace.specs.inner.Readings.{nums, Span}
 use Rattle.workspace.proofs.Writes.{written-none, written-front, written-all}
 use Rattle.workspace.proofs.unload_words.Statement.{statement}
 use Rattle.workspace.proofs.unload_words.Tie as tie

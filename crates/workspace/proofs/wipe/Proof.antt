@@ -1,4 +1,4 @@
--- `wipe`: after i turns the first i entries are zero. Assumes nothing.
+-- `wipe`: after i turns the first i entries are zero.
 use Prim.Native.Nat.{_≤_, _-_}
 use native.Mathlib.Omega.{arith}
 use lib.Ieee.{ofBits}

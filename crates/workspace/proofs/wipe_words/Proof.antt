@@ -1,4 +1,4 @@
--- `wipe_words`: after i turns the first i entries are zero. Assumes nothing.
+-- `wipe_words`: after i turns the first i entries are zero.
 use Prim.Native.Nat.{_≤_, _-_}
 use native.Mathlib.Omega.{arith}
 use Rattle.workspace.proofs.Clears.{Wiped, wiped-none, wiped-more, wiped-all}

@@ -1,4 +1,4 @@
--- `tell_floats`: after each turn i numbers are told. Assumes nothing.
+-- `tell_floats`: after each turn i numbers are told.
 use Prim.Native.Nat.{_-_, _≤_}
 use native.Mathlib.Omega.{arith}
 use Rattle.cases.proofs.lines.tell_floats.Statement.{statement}

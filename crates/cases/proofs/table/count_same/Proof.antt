@@ -1,4 +1,4 @@
--- `count_same`: no more are the same than were looked at. Assumes nothing.
+-- `count_same`: no more are the same than were looked at.
 use mathlib.Core.Path.{_≡_}
 use Prim.Native.Nat.{_-_, _≤_}
 use native.Mathlib.Omega.{arith}

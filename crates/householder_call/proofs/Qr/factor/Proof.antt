@@ -1,35 +1,32 @@
--- `Qr::factor`: the tests in their order, then the factoring, its factors out, and both workspaces cleared. Assumes nothing.
+-- `Qr::factor`: the tests in their order, then the factoring, its factors out, and both workspaces cleared.
 use mathlib.Core.Path.{_≡_, refl, sym, _∙_}
 use Prim.Native.Nat.{_≤_}
 use native.Mathlib.Omega.{arith}
 use lib.ListN.{length}
 use lib.Seq.{length-take-le, length-front}
 use borrow.Author.Tests.{not-true, not-false}
-use Rattle.workspace.proofs.Tests.{dual-le, room-ge}
+use Rattle.workspace.proofs.Tests.{matrix-le, room-ge}
 use Rattle.householder_call.proofs.Edge.{lengths-of, factored-is}
-use lib.Seq.{length-take-le}
 use Rattle.householder_call.proofs.Qr.factor.Statement.{statement}
 use Rattle.householder_call.proofs.Qr.factor.Tie as tie
 
--- `Qr::factor`: the tests in their order, then the factoring, its factors out, and both workspaces cleared. Assumes nothing.
-
-is-dual-requires : tie.Need-is-dual-requires
-is-dual-requires c κs = omega arith
+is-matrix-requires : tie.Need-is-matrix-requires
+is-matrix-requires c κs = omega arith
 
 returns : tie.Need-returns
-returns c = rw (sym (c .before .is-dual .ensures) ∙ not-true _ (c .if1 .taken)) (record { the-number = refl; the-rank = refl; the-r = refl; the-perm = refl; the-u = refl; the-b = refl; the-floats = refl; the-words = refl })
+returns c = rw (sym (c .before .is-matrix .ensures) ∙ not-true _ (c .if1 .taken)) (record { the-outcome = refl; the-r = refl; the-perm = refl; the-u = refl; the-b = refl; the-floats = refl; the-words = refl })
 
 are-lengths-requires : tie.Need-are-lengths-requires
-are-lengths-requires c κs = let a = c .before .before .before .before .before .before .before .before .before .args in dual-le (a .m) (a .n) (sym (c .before .is-dual .ensures) ∙ not-false _ (c .if1 .left))
+are-lengths-requires c κs = let a = c .before .before .before .before .before .before .before .before .before .args in matrix-le (a .m) (a .n) (sym (c .before .is-matrix .ensures) ∙ not-false _ (c .if1 .left))
 
 returns-2 : tie.Need-returns-2
-returns-2 c = rw (sym (c .before .before .before .is-dual .ensures) ∙ not-false _ (c .before .before .if1 .left), sym (c .before .are-lengths .ensures) ∙ not-true _ (c .if2 .taken)) (record { the-number = refl; the-rank = refl; the-r = refl; the-perm = refl; the-u = refl; the-b = refl; the-floats = refl; the-words = refl })
+returns-2 c = rw (sym (c .before .before .before .is-matrix .ensures) ∙ not-false _ (c .before .before .if1 .left), sym (c .before .are-lengths .ensures) ∙ not-true _ (c .if2 .taken)) (record { the-outcome = refl; the-r = refl; the-perm = refl; the-u = refl; the-b = refl; the-floats = refl; the-words = refl })
 
 is-room-requires : tie.Need-is-room-requires
 is-room-requires c κs = omega arith
 
 returns-3 : tie.Need-returns-3
-returns-3 c = rw (sym (c .before .before .before .before .before .is-dual .ensures) ∙ not-false _ (c .before .before .before .before .if1 .left), sym (c .before .before .before .are-lengths .ensures) ∙ not-false _ (c .before .before .if2 .left), sym (c .before .is-room .ensures) ∙ not-true _ (c .if3 .taken)) (record { the-number = refl; the-rank = refl; the-r = refl; the-perm = refl; the-u = refl; the-b = refl; the-floats = refl; the-words = refl })
+returns-3 c = rw (sym (c .before .before .before .before .before .is-matrix .ensures) ∙ not-false _ (c .before .before .before .before .if1 .left), sym (c .before .before .before .are-lengths .ensures) ∙ not-false _ (c .before .before .if2 .left), sym (c .before .is-room .ensures) ∙ not-true _ (c .if3 .taken)) (record { the-outcome = refl; the-r = refl; the-perm = refl; the-u = refl; the-b = refl; the-floats = refl; the-words = refl })
 
 slice-relend-prefix-run : tie.Need-slice-relend-prefix-run
 slice-relend-prefix-run c = let o = room-ge (c .before .before .before .before .before .before .before .before .before .before .before .before .before .args .w .now) (c .before .before .before .before .before .before .before .before .before .before .before .before .before .args .iw .now) (sym (c .before .is-room .ensures) ∙ not-false _ (c .if3 .left)) in o .0
@@ -45,10 +42,10 @@ slice-aggregate-run-2 c = let o = room-ge (c .before .before .before .before .be
 
 run-requires : tie.Need-run-requires
 run-requires c κs = let a = c .before .before .before .before .before .before .before .before .before .before .before .before .before .before .before .args in
-    let dual = sym (c .before .before .before .before .before .before .before .is-dual .ensures) ∙ not-false _ (c .before .before .before .before .before .before .if1 .left) in
+    let dual = sym (c .before .before .before .before .before .before .before .is-matrix .ensures) ∙ not-false _ (c .before .before .before .before .before .before .if1 .left) in
     let lengths = sym (c .before .before .before .before .before .are-lengths .ensures) ∙ not-false _ (c .before .before .before .before .if2 .left) in
     let room = sym (c .before .before .before .is-room .ensures) ∙ not-false _ (c .before .before .if3 .left) in
-    let d = dual-le (a .m) (a .n) dual in
+    let d = matrix-le (a .m) (a .n) dual in
     let l = lengths-of (a .m) (a .n) _ _ _ _ _ lengths in
     let o = room-ge (a .w .now) (a .iw .now) room in
     let x = length-take-le 8192 (a .w .now) (o .0) in
@@ -57,10 +54,10 @@ run-requires c κs = let a = c .before .before .before .before .before .before .
 
 give-r-requires : tie.Need-give-r-requires
 give-r-requires c κs = let a = c .before .before .before .before .before .before .before .before .before .before .before .before .before .before .before .before .before .before .before .before .before .before .before .before .args in
-    let dual = sym (c .before .before .before .before .before .before .before .before .before .before .before .before .before .before .before .before .is-dual .ensures) ∙ not-false _ (c .before .before .before .before .before .before .before .before .before .before .before .before .before .before .before .if1 .left) in
+    let dual = sym (c .before .before .before .before .before .before .before .before .before .before .before .before .before .before .before .before .is-matrix .ensures) ∙ not-false _ (c .before .before .before .before .before .before .before .before .before .before .before .before .before .before .before .if1 .left) in
     let lengths = sym (c .before .before .before .before .before .before .before .before .before .before .before .before .before .before .are-lengths .ensures) ∙ not-false _ (c .before .before .before .before .before .before .before .before .before .before .before .before .before .if2 .left) in
     let room = sym (c .before .before .before .before .before .before .before .before .before .before .before .before .is-room .ensures) ∙ not-false _ (c .before .before .before .before .before .before .before .before .before .before .before .if3 .left) in
-    let d = dual-le (a .m) (a .n) dual in
+    let d = matrix-le (a .m) (a .n) dual in
     let l = lengths-of (a .m) (a .n) _ _ _ _ _ lengths in
     let o = room-ge (a .w .now) (a .iw .now) room in
     let k = c .before .before .before .before .before .before .before .before .run in
@@ -70,10 +67,10 @@ give-r-requires c κs = let a = c .before .before .before .before .before .befor
 
 give-reflectors-requires : tie.Need-give-reflectors-requires
 give-reflectors-requires c κs = let a = c .before .before .before .before .before .before .before .before .before .before .before .before .before .before .before .before .before .before .before .before .before .before .before .before .before .before .before .before .before .before .before .before .args in
-    let dual = sym (c .before .before .before .before .before .before .before .before .before .before .before .before .before .before .before .before .before .before .before .before .before .before .before .before .is-dual .ensures) ∙ not-false _ (c .before .before .before .before .before .before .before .before .before .before .before .before .before .before .before .before .before .before .before .before .before .before .before .if1 .left) in
+    let dual = sym (c .before .before .before .before .before .before .before .before .before .before .before .before .before .before .before .before .before .before .before .before .before .before .before .before .is-matrix .ensures) ∙ not-false _ (c .before .before .before .before .before .before .before .before .before .before .before .before .before .before .before .before .before .before .before .before .before .before .before .if1 .left) in
     let lengths = sym (c .before .before .before .before .before .before .before .before .before .before .before .before .before .before .before .before .before .before .before .before .before .before .are-lengths .ensures) ∙ not-false _ (c .before .before .before .before .before .before .before .before .before .before .before .before .before .before .before .before .before .before .before .before .before .if2 .left) in
     let room = sym (c .before .before .before .before .before .before .before .before .before .before .before .before .before .before .before .before .before .before .before .before .is-room .ensures) ∙ not-false _ (c .before .before .before .before .before .before .before .before .before .before .before .before .before .before .before .before .before .before .before .if3 .left) in
-    let d = dual-le (a .m) (a .n) dual in
+    let d = matrix-le (a .m) (a .n) dual in
     let l = lengths-of (a .m) (a .n) _ _ _ _ _ lengths in
     let o = room-ge (a .w .now) (a .iw .now) room in
     let k = c .before .before .before .before .before .before .before .before .before .before .before .before .before .before .before .before .run in
@@ -83,10 +80,10 @@ give-reflectors-requires c κs = let a = c .before .before .before .before .befo
 
 clear-requires : tie.Need-clear-requires
 clear-requires c κs = let a = c .before .before .before .before .before .before .before .before .before .before .before .before .before .before .before .before .before .before .before .before .before .before .before .before .before .before .before .before .before .before .before .before .before .before .before .before .before .before .before .args in
-    let dual = sym (c .before .before .before .before .before .before .before .before .before .before .before .before .before .before .before .before .before .before .before .before .before .before .before .before .before .before .before .before .before .before .before .is-dual .ensures) ∙ not-false _ (c .before .before .before .before .before .before .before .before .before .before .before .before .before .before .before .before .before .before .before .before .before .before .before .before .before .before .before .before .before .before .if1 .left) in
+    let dual = sym (c .before .before .before .before .before .before .before .before .before .before .before .before .before .before .before .before .before .before .before .before .before .before .before .before .before .before .before .before .before .before .before .is-matrix .ensures) ∙ not-false _ (c .before .before .before .before .before .before .before .before .before .before .before .before .before .before .before .before .before .before .before .before .before .before .before .before .before .before .before .before .before .before .if1 .left) in
     let lengths = sym (c .before .before .before .before .before .before .before .before .before .before .before .before .before .before .before .before .before .before .before .before .before .before .before .before .before .before .before .before .before .are-lengths .ensures) ∙ not-false _ (c .before .before .before .before .before .before .before .before .before .before .before .before .before .before .before .before .before .before .before .before .before .before .before .before .before .before .before .before .if2 .left) in
     let room = sym (c .before .before .before .before .before .before .before .before .before .before .before .before .before .before .before .before .before .before .before .before .before .before .before .before .before .before .before .is-room .ensures) ∙ not-false _ (c .before .before .before .before .before .before .before .before .before .before .before .before .before .before .before .before .before .before .before .before .before .before .before .before .before .before .if3 .left) in
-    let d = dual-le (a .m) (a .n) dual in
+    let d = matrix-le (a .m) (a .n) dual in
     let l = lengths-of (a .m) (a .n) _ _ _ _ _ lengths in
     let o = room-ge (a .w .now) (a .iw .now) room in
     let k = c .before .before .before .before .before .before .before .before .before .before .before .before .before .before .before .before .before .before .before .before .before .before .before .run in
@@ -115,10 +112,10 @@ same-length-6 c = omega arith
 returns-4 : tie.Need-returns-4
 returns-4 c = let s = c .before .before .before .before .before .before .before .before .before .before .before .before .before .before .before .before .before .before .before .before .before .before .before .before .before .before .before .before .before .before .before .before .before .before .before .before .before .before .before .before .before .before .before .before in
     let a = s .args in
-    let dual = sym (c .before .before .before .before .before .before .before .before .before .before .before .before .before .before .before .before .before .before .before .before .before .before .before .before .before .before .before .before .before .before .before .before .before .before .before .before .is-dual .ensures) ∙ not-false _ (c .before .before .before .before .before .before .before .before .before .before .before .before .before .before .before .before .before .before .before .before .before .before .before .before .before .before .before .before .before .before .before .before .before .before .before .if1 .left) in
+    let dual = sym (c .before .before .before .before .before .before .before .before .before .before .before .before .before .before .before .before .before .before .before .before .before .before .before .before .before .before .before .before .before .before .before .before .before .before .before .before .is-matrix .ensures) ∙ not-false _ (c .before .before .before .before .before .before .before .before .before .before .before .before .before .before .before .before .before .before .before .before .before .before .before .before .before .before .before .before .before .before .before .before .before .before .before .if1 .left) in
     let lengths = sym (c .before .before .before .before .before .before .before .before .before .before .before .before .before .before .before .before .before .before .before .before .before .before .before .before .before .before .before .before .before .before .before .before .before .before .are-lengths .ensures) ∙ not-false _ (c .before .before .before .before .before .before .before .before .before .before .before .before .before .before .before .before .before .before .before .before .before .before .before .before .before .before .before .before .before .before .before .before .before .if2 .left) in
     let room = sym (c .before .before .before .before .before .before .before .before .before .before .before .before .before .before .before .before .before .before .before .before .before .before .before .before .before .before .before .before .before .before .before .before .is-room .ensures) ∙ not-false _ (c .before .before .before .before .before .before .before .before .before .before .before .before .before .before .before .before .before .before .before .before .before .before .before .before .before .before .before .before .before .before .before .if3 .left) in
-    let d = dual-le (a .m) (a .n) dual in
+    let d = matrix-le (a .m) (a .n) dual in
     let o = room-ge (a .w .now) (a .iw .now) room in
     let k = c .before .before .before .before .before .before .before .before .before .before .before .before .before .before .before .before .before .before .before .before .before .before .before .before .before .before .before .before .run in
     let p = c .before .before .before .before .before .before .before .before .before .before .before .before .before .before .before .before .before .before .before .give-r in
@@ -131,7 +128,7 @@ pub factor-spec : {M : Type 1} → statement M
 factor-spec =
     tie.close
     (tie.spec
-    is-dual-requires
+    is-matrix-requires
     returns
     are-lengths-requires
     returns-2

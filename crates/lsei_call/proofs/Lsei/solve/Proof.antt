@@ -1,9 +1,8 @@
--- `Lsei::solve`: the tests in their order, then the arithmetic. Assumes nothing.
+-- `Lsei::solve`: the tests in their order, then the arithmetic.
 use mathlib.Core.Path.{sym, _∙_}
 use borrow.Author.Needs.{needs}
 use borrow.Author.Tests.{not-true, not-false}
 use Rattle.workspace.proofs.Tests.{room-ge}
-use Rattle.lsei_call.specs.Outcomes.{numberOf}
 use Rattle.lsei_call.proofs.Calls.{size-refused, length-refused, room-refused, all-passed, lsei-sizes, lsei-input}
 use Rattle.lsei_call.proofs.Lsei.solve.Statement.{statement}
 use Rattle.lsei_call.proofs.Lsei.solve.Tie as tie
@@ -48,7 +47,7 @@ same-length-4 : tie.Need-same-length-4
 same-length-4 c = c .before .before .before .before .before .before .before .before .solve-all-lsei .kept .1 .1 .1 .1 .1 .1 .1 .1 .1 .0
 
 returns-4 : tie.Need-returns-4
-returns-4 c = all-passed _ _ _ _ (numberOf (c .before .before .before .before .before .before .before .before .solve-all-lsei .result)) _ _ _ _ _ _ _ _ (sym (c .before .before .before .before .before .before .before .before .before .before .before .before .before .before .before .before .before .before .is-lsei .ensures) ∙ not-false _ (c .before .before .before .before .before .before .before .before .before .before .before .before .before .before .before .before .before .if1 .left)) (sym (c .before .before .before .before .before .before .before .before .before .before .before .before .before .before .before .before .are-lengths-lsei .ensures) ∙ not-false _ (c .before .before .before .before .before .before .before .before .before .before .before .before .before .before .before .if2 .left)) (sym (c .before .before .before .before .before .before .before .before .before .before .before .before .before .before .is-room .ensures) ∙ not-false _ (c .before .before .before .before .before .before .before .before .before .before .before .before .before .if3 .left))
+returns-4 c = all-passed _ _ _ _ (c .before .before .before .before .before .before .before .before .solve-all-lsei .result) _ _ _ _ _ _ _ _ (sym (c .before .before .before .before .before .before .before .before .before .before .before .before .before .before .before .before .before .before .is-lsei .ensures) ∙ not-false _ (c .before .before .before .before .before .before .before .before .before .before .before .before .before .before .before .before .before .if1 .left)) (sym (c .before .before .before .before .before .before .before .before .before .before .before .before .before .before .before .before .are-lengths-lsei .ensures) ∙ not-false _ (c .before .before .before .before .before .before .before .before .before .before .before .before .before .before .before .if2 .left)) (sym (c .before .before .before .before .before .before .before .before .before .before .before .before .before .before .is-room .ensures) ∙ not-false _ (c .before .before .before .before .before .before .before .before .before .before .before .before .before .if3 .left))
     (c .before .before .before .before .before .before .before .before .solve-all-lsei .ensures)
 
 pub solve-spec : {M : Type 1} → statement M

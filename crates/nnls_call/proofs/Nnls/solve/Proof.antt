@@ -1,4 +1,4 @@
--- `Nnls::solve`: the tests in their order, then `solve_all`. Assumes nothing.
+-- `Nnls::solve`: the tests in their order, then `solve_all`.
 use mathlib.Core.Path.{refl, sym, _∙_}
 use borrow.Author.Needs.{needs}
 use borrow.Author.Tests.{not-true, not-false}
@@ -12,7 +12,7 @@ is-problem-requires c κs = search needs
 
 returns : tie.Need-returns
 returns c =
-    rw (sym (c .before .is-problem .ensures) ∙ not-true _ (c .if1 .taken)) (record { the-number = refl; the-rounds = refl; the-factorings = refl; the-x = refl; the-floats = refl; the-words = refl })
+    rw (sym (c .before .is-problem .ensures) ∙ not-true _ (c .if1 .taken)) (record { the-outcome = refl; the-x = refl; the-floats = refl; the-words = refl })
 
 are-lengths-requires : tie.Need-are-lengths-requires
 are-lengths-requires c κs =
@@ -22,7 +22,7 @@ are-lengths-requires c κs =
 returns-2 : tie.Need-returns-2
 returns-2 c =
     rw (sym (c .before .before .before .is-problem .ensures) ∙ not-false _ (c .before .before .if1 .left), sym (c .before .are-lengths .ensures) ∙ not-true _ (c .if2 .taken))
-    (record { the-number = refl; the-rounds = refl; the-factorings = refl; the-x = refl; the-floats = refl; the-words = refl })
+    (record { the-outcome = refl; the-x = refl; the-floats = refl; the-words = refl })
 
 is-room-requires : tie.Need-is-room-requires
 is-room-requires c κs = search needs
@@ -30,7 +30,7 @@ is-room-requires c κs = search needs
 returns-3 : tie.Need-returns-3
 returns-3 c =
     rw (sym (c .before .before .before .before .before .is-problem .ensures) ∙ not-false _ (c .before .before .before .before .if1 .left), sym (c .before .before .before .are-lengths .ensures) ∙ not-false _ (c .before .before .if2 .left), sym (c .before .is-room .ensures) ∙ not-true _ (c .if3 .taken))
-    (record { the-number = refl; the-rounds = refl; the-factorings = refl; the-x = refl; the-floats = refl; the-words = refl })
+    (record { the-outcome = refl; the-x = refl; the-floats = refl; the-words = refl })
 
 solve-all-requires : tie.Need-solve-all-requires
 solve-all-requires c κs =

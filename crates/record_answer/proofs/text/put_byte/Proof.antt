@@ -1,4 +1,4 @@
--- `put_byte`: one byte more. Assumes nothing.
+-- `put_byte`: one byte more.
 use native.Mathlib.Omega.{arith}
 use lib.ListN.{length-set}
 use Rattle.record_answer.proofs.Writing.{wrote-one}

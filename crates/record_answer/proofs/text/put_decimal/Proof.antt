@@ -1,4 +1,4 @@
--- `put_decimal`: the digits that `io` makes. Assumes nothing.
+-- `put_decimal`: the digits that `io` makes.
 use mathlib.Core.Path.{_∙_}
 use native.Mathlib.Omega.{arith}
 use Rattle.record_answer.proofs.Writing.{as-text}

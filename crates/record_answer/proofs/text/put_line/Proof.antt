@@ -1,4 +1,4 @@
--- `put_line`: its parts one after the other. Assumes nothing.
+-- `put_line`: its parts one after the other.
 use native.Mathlib.Omega.{arith}
 use Rattle.record_answer.proofs.Writing.{wrote-then, as-text}
 use Rattle.record_answer.proofs.Lines.{line-is}

@@ -1,4 +1,4 @@
--- `put_lines`: after i turns i lines are written. Assumes nothing.
+-- `put_lines`: after i turns i lines are written.
 use mathlib.Core.Path.{_≡_, refl, _∙_}
 use Prim.Native.Nat.{_+_, _*_, _-_, _≤_}
 use native.Mathlib.Omega.{arith}
@@ -49,7 +49,7 @@ same-length c = c .before .loop .inv .2
 returns : tie.Need-returns Inv-loop μ-loop
 returns c = let l = c .before .loop in
     let a = c .before .before .before .before .args in
-    (writing-end (rw (line-none (a .tag) (l .i) (a .xs .now) (omega arith)) at (l .inv .1)), omega (arith, l .inv .3))
+    (writing-end (omega (arith, l .inv .3)) (rw (line-none (a .tag) (l .i) (a .xs .now) (omega arith)) at (l .inv .1)), omega (arith, l .inv .3))
 
 pub put-lines-spec : {M : Type 1} → statement M
 put-lines-spec =

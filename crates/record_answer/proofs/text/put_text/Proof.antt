@@ -1,4 +1,4 @@
--- `put_text`: after i turns i bytes of the text are written. Assumes nothing.
+-- `put_text`: after i turns i bytes of the text are written.
 use mathlib.Core.Path.{_≡_, refl}
 use Prim.Native.Nat.{_+_, _-_, _≤_}
 use native.Mathlib.Omega.{arith}
@@ -45,7 +45,7 @@ same-length c = c .before .loop .inv .2
 returns : tie.Need-returns Inv-loop μ-loop
 returns c = let l = c .before .loop in
     let a = c .before .before .args in
-    text-end (a .at) (a .text .now) (l .i) (length (a .text .now)) (omega arith) (omega arith) (l .inv .1)
+    text-end (a .at) (a .text .now) (l .i) (length (a .text .now)) (omega arith) (omega arith) (omega arith) (l .inv .1)
 
 pub put-text-spec : {M : Type 1} → statement M
 put-text-spec =

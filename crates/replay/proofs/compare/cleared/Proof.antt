@@ -1,4 +1,4 @@
--- `cleared`: each entry passed is the one that is due. Assumes nothing.
+-- `cleared`: each entry passed is the one that is due.
 use borrow.Author.Tests.{not-false}
 use mathlib.Core.Path.{_≡_, _∙_}
 use Prim.Native.Nat.{ℕ, _-_, _≤_, _<_}

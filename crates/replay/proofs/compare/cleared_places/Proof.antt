@@ -1,4 +1,4 @@
--- `cleared_places`: each entry passed is the one that is due. Assumes nothing.
+-- `cleared_places`: each entry passed is the one that is due.
 use mathlib.Core.Path.{_≡_, _∙_}
 use Prim.Native.Nat.{ℕ, _-_, _≤_, _<_}
 use native.Mathlib.Omega.{arith}

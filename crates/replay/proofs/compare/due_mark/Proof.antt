@@ -1,4 +1,4 @@
--- `due_mark` meets its contract. Assumes nothing.
+-- `due_mark` meets its contract.
 use Rattle.replay.proofs.Due.{due-number, due-mark}
 use mathlib.Core.Path.{_∙_}
 use native.Mathlib.Omega.{arith}

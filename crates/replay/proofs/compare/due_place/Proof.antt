@@ -1,4 +1,4 @@
--- `due_place` meets its contract. Assumes nothing.
+-- `due_place` meets its contract.
 use Rattle.replay.proofs.Due.{place-zero, place-junk}
 use mathlib.Core.Path.{_∙_}
 use borrow.Author.Needs.{needs}

@@ -1,4 +1,4 @@
--- `due_room` meets its contract. Assumes nothing.
+-- `due_room` meets its contract.
 use Rattle.replay.proofs.Due.{room-zero, room-junk}
 use mathlib.Core.Path.{_∙_}
 use borrow.Author.Needs.{needs}

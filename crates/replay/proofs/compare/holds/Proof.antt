@@ -1,4 +1,4 @@
--- `holds`: each entry passed is the one that is due. Assumes nothing.
+-- `holds`: each entry passed is the one that is due.
 use borrow.Author.Tests.{not-false}
 use mathlib.Core.Path.{_≡_, _∙_}
 use Prim.Native.Nat.{ℕ, _-_, _≤_, _<_}

@@ -1,4 +1,4 @@
--- `holds_marks`: each entry passed is the one that is due. Assumes nothing.
+-- `holds_marks`: each entry passed is the one that is due.
 use mathlib.Core.Path.{_≡_, sym, _∙_}
 use Prim.Native.Nat.{ℕ, _-_, _≤_, _<_}
 use native.Mathlib.Omega.{arith}

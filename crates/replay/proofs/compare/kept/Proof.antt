@@ -1,4 +1,4 @@
--- `kept`: each entry passed is as before. Assumes nothing.
+-- `kept`: each entry passed is as before.
 use borrow.Author.Tests.{not-false}
 use mathlib.Core.Path.{_≡_}
 use Prim.Native.Nat.{ℕ, _-_, _≤_, _<_}

@@ -1,4 +1,4 @@
--- `kept_kinds`: each kind passed is the word's. Assumes nothing.
+-- `kept_kinds`: each kind passed is the word's.
 use borrow.Author.Count.{below-more}
 use Rattle.replay.proofs.Floats.{never}
 use Rattle.numbers.specs.Numbers.{nth}

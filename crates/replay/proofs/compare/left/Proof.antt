@@ -1,4 +1,4 @@
--- `left`: each workspace is as the number has it. Assumes nothing.
+-- `left`: each workspace is as the number has it.
 use borrow.Author.Tests.{not-false}
 use Rattle.replay.specs.Junk.{dueRoom, duePlace, Alike, AlikeMarks}
 use Prim.Native.Nat.{ℕ}

@@ -1,4 +1,4 @@
--- `same`: both NaN, or of the same bits. Assumes nothing.
+-- `same`: both NaN, or of the same bits.
 use Rattle.replay.proofs.Floats.{number, both-nan, same-bits, never}
 use Rattle.replay.proofs.compare.same.Statement.{statement}
 use Rattle.replay.proofs.compare.same.Tie as tie

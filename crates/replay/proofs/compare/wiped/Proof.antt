@@ -1,4 +1,4 @@
--- `wiped`: none after numbers 1 to 4. Assumes nothing.
+-- `wiped`: none after numbers 1 to 4.
 use Rattle.replay.proofs.Due.{wiped-none, wiped-late, wiped-done}
 use native.Mathlib.Omega.{arith}
 use Rattle.replay.proofs.compare.wiped.Statement.{statement}

@@ -1,4 +1,4 @@
--- `half` meets its contract. Assumes nothing.
+-- `half` meets its contract.
 use Rattle.replay.proofs.Due.{half-is}
 use native.Mathlib.Omega.{arith}
 use borrow.Author.Needs.{needs}

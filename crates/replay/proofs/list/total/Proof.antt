@@ -1,4 +1,4 @@
--- `total` meets its contract. Assumes nothing.
+-- `total` meets its contract.
 use Prim.Native.Nat.{_-_, _*_, _≤_}
 use native.Mathlib.Omega.{arith}
 use Rattle.replay.proofs.list.total.Statement.{statement}

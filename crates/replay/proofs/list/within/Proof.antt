@@ -1,4 +1,4 @@
--- `within` meets its contract. Assumes nothing.
+-- `within` meets its contract.
 use Prim.Native.Nat.{_-_}
 use native.Mathlib.Omega.{arith}
 use Rattle.replay.proofs.list.within.Statement.{statement}

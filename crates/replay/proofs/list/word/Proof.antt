@@ -1,4 +1,4 @@
--- `word` meets its contract. Assumes nothing.
+-- `word` meets its contract.
 use Rattle.replay.proofs.Due.{word-is}
 use borrow.Author.Needs.{needs}
 use Rattle.replay.proofs.list.word.Statement.{statement}

@@ -1,4 +1,4 @@
--- `words_of` meets its contract. Assumes nothing.
+-- `words_of` meets its contract.
 use lib.ListN.{length, length-set}
 use Prim.Native.Nat.{_-_, _/_, _≤_}
 use mathlib.Core.Path.{_≡_}

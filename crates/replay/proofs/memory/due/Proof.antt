@@ -1,4 +1,4 @@
--- `due` meets its contract. Assumes nothing.
+-- `due` meets its contract.
 use Rattle.replay.proofs.Due.{due-value, due-junk}
 use mathlib.Core.Path.{_∙_}
 use native.Mathlib.Omega.{arith}

@@ -1,4 +1,4 @@
--- `junk` meets its contract. Assumes nothing.
+-- `junk` meets its contract.
 use Rattle.replay.proofs.Due.{junk-even, junk-odd}
 use Rattle.replay.proofs.memory.junk.Statement.{statement}
 use Rattle.replay.proofs.memory.junk.Tie as tie

@@ -1,4 +1,4 @@
--- `junk_mark` meets its contract. Assumes nothing.
+-- `junk_mark` meets its contract.
 use Rattle.replay.proofs.Due.{mark-is}
 use borrow.Author.Needs.{needs}
 use Rattle.replay.proofs.memory.junk_mark.Statement.{statement}

@@ -1,4 +1,4 @@
--- `places` meets its contract. Assumes nothing.
+-- `places` meets its contract.
 use mathlib.Core.Path.{_≡_}
 use Prim.Native.Nat.{_-_, _≤_}
 use native.Mathlib.Omega.{arith}

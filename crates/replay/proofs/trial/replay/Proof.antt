@@ -1,4 +1,4 @@
--- `replay`: every slice that is lent or compared lies within its memory. Assumes nothing.
+-- `replay`: every slice that is lent or compared lies within its memory.
 use borrow.Author.Needs.{needs}
 use Rattle.replay.proofs.trial.replay.Statement.{statement}
 use Rattle.replay.proofs.trial.replay.Tie as tie

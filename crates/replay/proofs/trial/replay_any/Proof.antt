@@ -1,4 +1,4 @@
--- `replay_any`: every slice that is lent or compared lies within its memory. Assumes nothing.
+-- `replay_any`: every slice that is lent or compared lies within its memory.
 use borrow.Author.Needs.{needs}
 use native.Mathlib.Omega.{arith}
 use Rattle.replay.proofs.trial.replay_any.Statement.{statement}

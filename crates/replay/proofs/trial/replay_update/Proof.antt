@@ -1,4 +1,4 @@
--- `replay_update`: every slice that is lent or compared lies within its memory. Assumes nothing.
+-- `replay_update`: every slice that is lent or compared lies within its memory.
 use lib.Seq.{length-take-le, length-front}
 use native.Mathlib.Omega.{arith}
 use mathlib.Core.Path.{sym, _∙_}

@@ -1,4 +1,4 @@
--- `right_qr`: every slice that is lent or compared lies within its memory. Assumes nothing.
+-- `right_qr`: every slice that is lent or compared lies within its memory.
 use native.Mathlib.Omega.{arith}
 use borrow.Author.Needs.{needs}
 use Rattle.replay.proofs.trial.right_qr.Statement.{statement}

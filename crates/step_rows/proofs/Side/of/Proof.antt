@@ -1,4 +1,4 @@
--- `Side::of`: each way out is one law. Assumes nothing.
+-- `Side::of`: each way out is one law.
 use Rattle.step_rows.proofs.Sides.{closed, open-above, open-below}
 use Rattle.step_rows.proofs.Side.of.Statement.{statement}
 use Rattle.step_rows.proofs.Side.of.Tie as tie

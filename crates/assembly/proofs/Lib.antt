@@ -1,3 +1,0 @@
-pub mod Target
-pub mod Matrices
-pub mod Ordering

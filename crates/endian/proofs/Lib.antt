@@ -1,0 +1,4 @@
+pub mod Placed
+pub mod Little
+pub mod Laws
+pub mod Turns

@@ -1,0 +1,3 @@
+-- Numbers as bytes, little-endian. Definitions only.
+pub mod Little
+pub mod Claims

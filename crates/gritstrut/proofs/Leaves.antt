@@ -1,0 +1,167 @@
+-- From an operation's promise to that of its C function.
+use mathlib.Core.Path.{_≡_, refl, ap, _∙_}
+use mathlib.Core.Bool.{Bool, true, false, _&&_}
+use mathlib.Core.List.{List}
+use Prim.Native.Nat.{ℕ, _+_, _*_, _^_, _≤_, _<_, min}
+use native.Mathlib.Nat.{mul-le-mul-right}
+use native.Mathlib.Omega.{arith}
+use lib.Dec.{leb}
+use lib.Ieee.{Float}
+use borrow.Author.Tests.{leb-true}
+use Rattle.workspace.specs.Tables.{Answer, done, refused, call, number, numberOf, outcomeOf, outcomeNumber, output, isMatrix, isRoom, has}
+use Rattle.workspace.specs.declared.Refusal.{Refusal}
+use Rattle.workspace.specs.declared.Outcome.{Outcome}
+use Rattle.workspace.proofs.Tests.{and-true, matrix-le}
+use Rattle.householder.specs.Qr.{Factors, factor}
+use Rattle.householder.proofs.Rank.{factor-rank}
+use Rattle.householder_call.specs.Promise as Qr
+use Rattle.householder_call.specs.declared.Outcome.the-variants as qr
+use Rattle.nnls.specs.Nnls.{nnls}
+use Rattle.nnls_call.specs.Promise as Nnls
+use Rattle.nnls_call.specs.Claims.{SoundCall}
+use Rattle.nnls_call.specs.declared.Outcome.the-variants as nnls-told
+use Rattle.nnls_call.proofs.Calls.{call-sound}
+use Rattle.lsei.specs.Lsei.{Solution}
+use Rattle.lsei_call.specs.Promise.{Solves}
+use Rattle.hessian_call.specs.Promise.{Writes}
+use Rattle.step.specs.Step.{Step}
+use Rattle.step_call.specs.Promise as Step
+use Rattle.step_call.specs.declared.Outcome.the-variants as step-told
+use Rattle.gritstrut.specs.Interface.{QrLeaves, NnlsLeaves, SolveLeaves, WriteLeaves, StepLeaves}
+
+-- ---- operations that tell nothing beside their outputs
+
+number-told : {A : Type 0} (c : Answer A) → outcomeNumber (outcomeOf c) ≡ number c
+number-told (done v) = refl
+number-told (refused r) = refl
+
+pub solve-leaves : (c : Answer Solution) (o : Outcome) (k : ℕ) (x x' l l' w w' : List Float) (iw iw' : List ℕ)
+    → Solves c o x x' l l' w w' iw iw' → k ≡ outcomeNumber o → SolveLeaves c k x x' l l' w w' iw iw'
+solve-leaves c o k x x' l l' w w' iw iw' p e = record {
+  the-number = e ∙ ap outcomeNumber (p .the-outcome) ∙ number-told c;
+  the-call = record { the-outcome = refl; the-x = p .the-x; the-multipliers = p .the-multipliers; the-floats = p .the-floats; the-words = p .the-words };
+}
+
+pub write-leaves : (c : Answer (List Float)) (o : Outcome) (k : ℕ) (out out' w w' : List Float) (iw iw' : List ℕ)
+    → Writes c o out out' w w' iw iw' → k ≡ outcomeNumber o → WriteLeaves c k out out' w w' iw iw'
+write-leaves c o k out out' w w' iw iw' p e = record {
+  the-number = e ∙ ap outcomeNumber (p .the-outcome) ∙ number-told c;
+  the-call = record { the-outcome = refl; the-output = p .the-output; the-floats = p .the-floats; the-words = p .the-words };
+}
+
+-- ---- QR
+
+qr-done : (c : Answer Factors) (rank old : ℕ) → qr.Done rank ≡ Qr.outcomeOf c → (0 ≡ number c) × (rank ≡ output c (λ f. f .rank) old)
+qr-done (done f) rank old e = (refl, cc)
+qr-done (refused r) rank old e = let z : _≡_ {A = ℕ} 0 1 = cc in absurd (let y : ⊥ = omega arith in y)
+
+qr-refused : (c : Answer Factors) (r : Refusal) (old : ℕ) → qr.Refused r ≡ Qr.outcomeOf c → (numberOf r ≡ number c) × (old ≡ output c (λ f. f .rank) old)
+qr-refused (done f) r old e = let z : _≡_ {A = ℕ} 0 1 = cc in absurd (let y : ⊥ = omega arith in y)
+qr-refused (refused q) r old e = (let z : r ≡ q = cc in ap (λ (s : Refusal). numberOf s) z, refl)
+
+module _ (c : Answer Factors) (r r' : List Float) (perm perm' : List ℕ) (u u' b b' w w' : List Float) (iw iw' : List ℕ) where
+  pub qr-leaves : (rank old : ℕ) → Qr.Factored c (qr.Done rank) r r' perm perm' u u' b b' w w' iw iw' → QrLeaves c 0 old rank r r' perm perm' u u' b b' w w' iw iw'
+  qr-leaves rank old p = record {
+    the-number = qr-done c rank old (p .the-outcome) .0;
+    the-call = record { the-outcome = refl; the-r = p .the-r; the-perm = p .the-perm; the-u = p .the-u; the-b = p .the-b; the-floats = p .the-floats; the-words = p .the-words };
+    the-rank = qr-done c rank old (p .the-outcome) .1;
+  }
+
+  pub qr-keeps : (q : Refusal) (k old : ℕ) → Qr.Factored c (qr.Refused q) r r' perm perm' u u' b b' w w' iw iw' → k ≡ numberOf q
+      → QrLeaves c k old old r r' perm perm' u u' b b' w w' iw iw'
+  qr-keeps q k old p e = record {
+    the-number = e ∙ qr-refused c q old (p .the-outcome) .0;
+    the-call = record { the-outcome = refl; the-r = p .the-r; the-perm = p .the-perm; the-u = p .the-u; the-b = p .the-b; the-floats = p .the-floats; the-words = p .the-words };
+    the-rank = qr-refused c q old (p .the-outcome) .1;
+  }
+
+-- a done call has passed the test of its sizes, and its rank is that of the factors
+passed : (s l r : Bool) (f : Factors) (k : ℕ) → qr.Done k ≡ Qr.outcomeOf (call s l r true (done f)) → (s ≡ true) × (k ≡ f .rank)
+passed true true true f k e = (refl, cc)
+passed true true false f k e = let z : _≡_ {A = ℕ} 0 1 = cc in absurd (let y : ⊥ = omega arith in y)
+passed true false r f k e = let z : _≡_ {A = ℕ} 0 1 = cc in absurd (let y : ⊥ = omega arith in y)
+passed false l r f k e = let z : _≡_ {A = ℕ} 0 1 = cc in absurd (let y : ⊥ = omega arith in y)
+
+pub rank-fits : (m n : ℕ) (a r r' : List Float) (perm perm' : List ℕ) (u u' b b' w w' : List Float) (iw iw' : List ℕ) (k : ℕ)
+    → Qr.Factored (Qr.qrCall m n a r perm u b w iw) (qr.Done k) r r' perm perm' u u' b b' w w' iw iw' → k < 2 ^ 32
+rank-fits m n a r r' perm perm' u u' b b' w w' iw iw' k p =
+    let e = passed (isMatrix m n) (has a (m * n) && has r (m * n) && has perm n && has u (min m n * m) && has b (min m n)) (isRoom w iw) (factor m n a) k (p .the-outcome) in
+    let h = matrix-le m n (e .0) in
+    omega (arith, h .0, e .1, factor-rank m n a)
+
+-- ---- NNLS
+
+nnls-done : (c : Answer Nnls.Told) (r f oldr oldf : ℕ) → nnls-told.Done r f ≡ Nnls.outcomeOf c
+    → (0 ≡ number c) × (r ≡ output c (λ t. t .rounds) oldr) × (f ≡ output c (λ t. t .factorings) oldf)
+nnls-done (done t) r f oldr oldf e = (refl, cc, cc)
+nnls-done (refused q) r f oldr oldf e = let z : _≡_ {A = ℕ} 0 1 = cc in absurd (let y : ⊥ = omega arith in y)
+
+nnls-refused : (c : Answer Nnls.Told) (r : Refusal) (oldr oldf : ℕ) → nnls-told.Refused r ≡ Nnls.outcomeOf c
+    → (numberOf r ≡ number c) × (oldr ≡ output c (λ t. t .rounds) oldr) × (oldf ≡ output c (λ t. t .factorings) oldf)
+nnls-refused (done t) r oldr oldf e = let z : _≡_ {A = ℕ} 0 1 = cc in absurd (let y : ⊥ = omega arith in y)
+nnls-refused (refused q) r oldr oldf e = (let z : r ≡ q = cc in ap (λ (s : Refusal). numberOf s) z, refl, refl)
+
+module _ (c : Answer Nnls.Told) (x x' w w' : List Float) (iw iw' : List ℕ) (oldr oldf : ℕ) where
+  pub nnls-leaves : (r f : ℕ) → Nnls.Nnls c (nnls-told.Done r f) x x' w w' iw iw' → NnlsLeaves c 0 oldr r oldf f x x' w w' iw iw'
+  nnls-leaves r f p =
+      let d = nnls-done c r f oldr oldf (p .the-outcome) in
+      record {
+        the-number = d .0;
+        the-call = record { the-outcome = refl; the-x = p .the-x; the-floats = p .the-floats; the-words = p .the-words };
+        the-rounds = d .1;
+        the-factorings = d .2;
+      }
+
+  pub nnls-keeps : (q : Refusal) (k : ℕ) → Nnls.Nnls c (nnls-told.Refused q) x x' w w' iw iw' → k ≡ numberOf q → NnlsLeaves c k oldr oldr oldf oldf x x' w w' iw iw'
+  nnls-keeps q k p e =
+      let d = nnls-refused c q oldr oldf (p .the-outcome) in
+      record {
+        the-number = e ∙ d .0;
+        the-call = record { the-outcome = refl; the-x = p .the-x; the-floats = p .the-floats; the-words = p .the-words };
+        the-rounds = d .1;
+        the-factorings = d .2;
+      }
+
+-- n(k + 1) + k with n at most 66 and k at most 3n
+few : (n k f : ℕ) → n ≤ 66 → k ≤ 198 → f ≤ n * (k + 1) + k → f ≤ 13332
+few n k f hn hk h = let p : n * (k + 1) ≤ 66 * (k + 1) = mul-le-mul-right (k + 1) hn in omega (arith, p, h)
+
+sized : (s l r : Bool) (a : Answer Nnls.Told) (i j : ℕ) → nnls-told.Done i j ≡ Nnls.outcomeOf (call s l r true a) → s ≡ true
+sized true l r a i j e = refl
+sized false l r a i j e = let z : _≡_ {A = ℕ} 0 1 = cc in absurd (let y : ⊥ = omega arith in y)
+
+pub counts-fit : (m n k : ℕ) (a b x x' w w' : List Float) (iw iw' : List ℕ) (r f : ℕ)
+    → Nnls.Nnls (Nnls.nnlsCall m n k a b x w iw) (nnls-told.Done r f) x x' w w' iw iw' → (r < 2 ^ 32) × (f < 2 ^ 32)
+counts-fit m n k a b x x' w w' iw iw' r f p =
+    let t = and-true (isMatrix m n) (leb k (3 * n)) (sized (isMatrix m n && leb k (3 * n)) (has a (m * n) && has b m && has x n) (isRoom w iw) (Nnls.tell (nnls m n a b k)) r f (p .the-outcome)) in
+    let hn : n ≤ 66 = matrix-le m n (t .0) .1 in
+    let hk : k ≤ 198 = (let q = leb-true k (3 * n) (t .1) in omega (arith, q, hn)) in
+    let s = call-sound m n k a b x x' w w' iw iw' r f p in
+    let hr : r ≤ k = s .rounds-most in
+    let hf : f ≤ 13332 = few n k f hn hk (s .factorings-most) in
+    (omega arith, omega arith)
+
+-- ---- the step
+
+step-done : (c : Answer Step) (delta old : Float) → step-told.Done delta ≡ Step.outcomeOf c → (0 ≡ number c) × (delta ≡ output c (λ s. s .relaxation) old)
+step-done (done s) delta old e = (refl, cc)
+step-done (refused q) delta old e = let z : _≡_ {A = ℕ} 0 1 = cc in absurd (let y : ⊥ = omega arith in y)
+
+step-refused : (c : Answer Step) (r : Refusal) (old : Float) → step-told.Refused r ≡ Step.outcomeOf c → (numberOf r ≡ number c) × (old ≡ output c (λ s. s .relaxation) old)
+step-refused (done s) r old e = let z : _≡_ {A = ℕ} 0 1 = cc in absurd (let y : ⊥ = omega arith in y)
+step-refused (refused q) r old e = (let z : r ≡ q = cc in ap (λ (s : Refusal). numberOf s) z, refl)
+
+module _ (c : Answer Step) (d d' l l' w w' : List Float) (iw iw' : List ℕ) (old : Float) where
+  pub step-leaves : (delta : Float) → Step.Steps c (step-told.Done delta) d d' l l' w w' iw iw' → StepLeaves c 0 old delta d d' l l' w w' iw iw'
+  step-leaves delta p = record {
+    the-number = step-done c delta old (p .the-outcome) .0;
+    the-call = record { the-outcome = refl; the-d = p .the-d; the-multipliers = p .the-multipliers; the-floats = p .the-floats; the-words = p .the-words };
+    the-relaxation = step-done c delta old (p .the-outcome) .1;
+  }
+
+  pub step-keeps : (q : Refusal) (k : ℕ) → Step.Steps c (step-told.Refused q) d d' l l' w w' iw iw' → k ≡ numberOf q → StepLeaves c k old old d d' l l' w w' iw iw'
+  step-keeps q k p e = record {
+    the-number = e ∙ step-refused c q old (p .the-outcome) .0;
+    the-call = record { the-outcome = refl; the-d = p .the-d; the-multipliers = p .the-multipliers; the-floats = p .the-floats; the-words = p .the-words };
+    the-relaxation = step-refused c q old (p .the-outcome) .1;
+  }

@@ -1,0 +1,34 @@
+-- The C interface's promises allow one answer only: the number, what stands behind each pointer and all that is left are fixed by what was there before. Definitions only.
+use mathlib.Core.Path.{_≡_}
+use mathlib.Core.List.{List}
+use Prim.Native.Nat.{ℕ}
+use lib.Ieee.{Float}
+use Rattle.workspace.specs.Tables.{Answer}
+use Rattle.householder.specs.Qr.{Factors}
+use Rattle.nnls_call.specs.Promise.{Told}
+use Rattle.lsei.specs.Lsei.{Solution}
+use Rattle.step.specs.Step.{Step}
+use Rattle.gritstrut.specs.Interface.{QrLeaves, NnlsLeaves, SolveLeaves, WriteLeaves, StepLeaves}
+
+abbrev pub OneQr : Type 0
+OneQr = (c : Answer Factors) (k l rank rank' rank'' : ℕ) (r r' r'' : List Float) (perm perm' perm'' : List ℕ) (u u' u'' b b' b'' w w' w'' : List Float) (iw iw' iw'' : List ℕ)
+    → QrLeaves c k rank rank' r r' perm perm' u u' b b' w w' iw iw' → QrLeaves c l rank rank'' r r'' perm perm'' u u'' b b'' w w'' iw iw''
+    → (k ≡ l) × (rank' ≡ rank'') × (r' ≡ r'') × (perm' ≡ perm'') × (u' ≡ u'') × (b' ≡ b'') × (w' ≡ w'') × (iw' ≡ iw'')
+
+abbrev pub OneNnls : Type 0
+OneNnls = (c : Answer Told) (k l rounds rounds' rounds'' factorings factorings' factorings'' : ℕ) (x x' x'' w w' w'' : List Float) (iw iw' iw'' : List ℕ)
+    → NnlsLeaves c k rounds rounds' factorings factorings' x x' w w' iw iw' → NnlsLeaves c l rounds rounds'' factorings factorings'' x x'' w w'' iw iw''
+    → (k ≡ l) × (rounds' ≡ rounds'') × (factorings' ≡ factorings'') × (x' ≡ x'') × (w' ≡ w'') × (iw' ≡ iw'')
+
+abbrev pub OneSolve : Type 0
+OneSolve = (c : Answer Solution) (k m : ℕ) (x x' x'' l l' l'' w w' w'' : List Float) (iw iw' iw'' : List ℕ)
+    → SolveLeaves c k x x' l l' w w' iw iw' → SolveLeaves c m x x'' l l'' w w'' iw iw'' → (k ≡ m) × (x' ≡ x'') × (l' ≡ l'') × (w' ≡ w'') × (iw' ≡ iw'')
+
+abbrev pub OneWrite : Type 0
+OneWrite = (c : Answer (List Float)) (k m : ℕ) (out out' out'' w w' w'' : List Float) (iw iw' iw'' : List ℕ)
+    → WriteLeaves c k out out' w w' iw iw' → WriteLeaves c m out out'' w w'' iw iw'' → (k ≡ m) × (out' ≡ out'') × (w' ≡ w'') × (iw' ≡ iw'')
+
+abbrev pub OneStep : Type 0
+OneStep = (c : Answer Step) (k m : ℕ) (relaxation relaxation' relaxation'' : Float) (d d' d'' l l' l'' w w' w'' : List Float) (iw iw' iw'' : List ℕ)
+    → StepLeaves c k relaxation relaxation' d d' l l' w w' iw iw' → StepLeaves c m relaxation relaxation'' d d'' l l'' w w'' iw iw''
+    → (k ≡ m) × (relaxation' ≡ relaxation'') × (d' ≡ d'') × (l' ≡ l'') × (w' ≡ w'') × (iw' ≡ iw'')

@@ -1,0 +1,4 @@
+-- What serves the contracts of inner functions alone: no promise rests on it.
+pub mod Search
+pub mod Work
+pub mod Places

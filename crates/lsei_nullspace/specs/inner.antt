@@ -1,0 +1,3 @@
+-- What serves the contracts of inner functions alone: no promise rests on it.
+pub mod Work
+pub mod Places

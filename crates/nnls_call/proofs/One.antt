@@ -1,0 +1,8 @@
+-- The promise allows one answer only.
+use mathlib.Core.Path.{sym, _∙_}
+use Rattle.nnls_call.specs.Promise.{Nnls}
+use Rattle.nnls_call.specs.Claims.{OneAnswer}
+
+pub one-answer : OneAnswer
+one-answer c o p x x' x'' w w' w'' iw iw' iw'' s t =
+    (s .the-outcome ∙ sym (t .the-outcome), s .the-x ∙ sym (t .the-x), s .the-floats ∙ sym (t .the-floats), s .the-words ∙ sym (t .the-words))

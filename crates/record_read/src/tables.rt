@@ -1,0 +1,93 @@
+// The two tables that `decode` fills, of a mark and a value for each place, and the parts of the problem in them.
+ghost use mathlib.Core.Path.{_≡_};
+ghost use Prim.Native.Nat.{_+_, _≤_, _<_};
+ghost use lib.ListN.{length, take, drop};
+ghost use Rattle.record_read.specs.inner.Tables.{PLACES, factorIn, gradientIn, valuesIn, jacobianIn, lowerIn, upperIn, kindAt, kindsIn};
+
+// A table of marks.
+pub fn blank_marks() -> [u8; 576]
+    ensures { λ r. ⌜ PLACES ≡ length r ⌝ }
+{
+    [0; 576]
+}
+
+// A table of values.
+pub fn blank_values() -> [f64; 576]
+    ensures { λ r. ⌜ PLACES ≡ length r ⌝ }
+{
+    [0.0; 576]
+}
+
+// The k entries from a place on.
+fn part(vals: &[f64], at: usize, k: usize) -> &[f64]
+    requires { ⌜ at + k ≤ length (now vals) ⌝ }
+    ensures { λ r. ⌜ now r ≡ take k (drop at (now (vals .entry))) ⌝ }
+{
+    &vals[at..at + k]
+}
+
+// The factor, n by n.
+pub fn factor(n: usize, vals: &[f64]) -> &[f64]
+    requires { ⌜ (n ≤ 16) × (length (now vals) ≡ PLACES) ⌝ }
+    ensures { λ r. ⌜ now r ≡ factorIn n (now (vals .entry)) ⌝ }
+{
+    part(vals, 0, n * n)
+}
+
+// The gradient, of n variables.
+pub fn gradient(n: usize, vals: &[f64]) -> &[f64]
+    requires { ⌜ (n ≤ 16) × (length (now vals) ≡ PLACES) ⌝ }
+    ensures { λ r. ⌜ now r ≡ gradientIn n (now (vals .entry)) ⌝ }
+{
+    part(vals, crate::GRADIENT, n)
+}
+
+// The values of m constraints.
+pub fn values(m: usize, vals: &[f64]) -> &[f64]
+    requires { ⌜ (m ≤ 16) × (length (now vals) ≡ PLACES) ⌝ }
+    ensures { λ r. ⌜ now r ≡ valuesIn m (now (vals .entry)) ⌝ }
+{
+    part(vals, crate::VALUES, m)
+}
+
+// The Jacobian, m by n.
+pub fn jacobian(m: usize, n: usize, vals: &[f64]) -> &[f64]
+    requires { ⌜ (m ≤ 16) × (n ≤ 16) × (length (now vals) ≡ PLACES) ⌝ }
+    ensures { λ r. ⌜ now r ≡ jacobianIn m n (now (vals .entry)) ⌝ }
+{
+    part(vals, crate::JACOBIAN, m * n)
+}
+
+// The lower bounds of n variables.
+pub fn lower(n: usize, vals: &[f64]) -> &[f64]
+    requires { ⌜ (n ≤ 16) × (length (now vals) ≡ PLACES) ⌝ }
+    ensures { λ r. ⌜ now r ≡ lowerIn n (now (vals .entry)) ⌝ }
+{
+    part(vals, crate::LOWER, n)
+}
+
+// The upper bounds of n variables.
+pub fn upper(n: usize, vals: &[f64]) -> &[f64]
+    requires { ⌜ (n ≤ 16) × (length (now vals) ≡ PLACES) ⌝ }
+    ensures { λ r. ⌜ now r ≡ upperIn n (now (vals .entry)) ⌝ }
+{
+    part(vals, crate::UPPER, n)
+}
+
+// The kind of constraint i, by its mark.
+fn kind(marks: &[u8], i: usize) -> u8
+    requires { ⌜ (length (now marks) ≡ PLACES) × (i < 16) ⌝ }
+    ensures { λ r. ⌜ r ≡ kindAt (now (marks .entry)) i ⌝ }
+{
+    if marks[crate::VALUES + i] == 2 { 1 } else { 0 }
+}
+
+// The kinds of as many constraints as `kinds` has room for.
+pub fn load_kinds(marks: &[u8], kinds: &mut [u8])
+    requires { ⌜ (length (now marks) ≡ PLACES) × (length (now kinds) ≤ 16) ⌝ }
+    ensures { λ _. ⌜ now (kinds .exit) ≡ kindsIn (length (now (kinds .entry))) (now (marks .entry)) ⌝ }
+{
+    for i in 0..kinds.len() {
+        kinds[i] = kind(marks, i);
+    }
+}

@@ -1,0 +1,2 @@
+-- What the inner functions tell: it serves their contracts alone. Definitions only.
+pub mod Reading

@@ -1,0 +1,88 @@
+-- The step: the exact problem through LSEI, and where it fails the relaxed one through LSI (docs/RULES.md, "The step"; Kraft 1988). Definitions only.
+use Prim.Native.Nat.{ℕ, zero, suc, _+_}
+use mathlib.Core.Bool.{cond, _&&_}
+use mathlib.Core.List.{List, [], _∷_, _++_, map}
+use lib.Dec.{leb, ltb, eqb}
+use lib.ListN.{length, take}
+use lib.Ieee.{Float, lt, neg}
+use Rattle.numbers.specs.Numbers.{+0, near, one, _⊖_, at, entry, grid, transposed}
+use Rattle.workspace.specs.Tables.{Answer, done, refused}
+use Rattle.householder.specs.Qr.{downward}
+use Rattle.nnls.specs.Counted.{Counted, andThen, after}
+use Rattle.lsei.specs.Lsei.{Solution, lsi, lsei}
+use Rattle.step_rows.specs.Problem.{Problem, matrixOf, sidesOf, equalityRows, inequalityRows, relaxedRows}
+
+-- d, one multiplier per constraint in constraint order, and the relaxation delta
+pub record Step : Type 0 where
+  pub d : List Float
+  pub multipliers : List Float
+  pub relaxation : Float
+
+-- f = -L^-1 g, by forward substitution: it reads the lower triangle of L
+unfoldable pub target : Problem → List Float
+target p = map neg (downward (p .n) (transposed (p .n) (p .n) (p .factor)) (p .n) (p .gradient))
+
+-- ---- the exact problem: E is L', the whole square of it
+
+-- The multipliers come equalities first, then inequalities: e of the former and i places of all are passed.
+unfoldable pub inOrder : (kinds : List ℕ) (e i : ℕ) (l : List Float) → List Float
+inOrder [] e i l = []
+inOrder (zero ∷ ks) e i l = at l e ∷ inOrder ks (suc e) i l
+inOrder (suc k ∷ ks) e i l = at l i ∷ inOrder ks e (suc i) l
+
+unfoldable pub exactStep : Problem → ℕ → Solution → Step
+exactStep p equalities s = record { d = s .x; multipliers = inOrder (p .kinds) 0 equalities (s .multipliers); relaxation = +0 }
+
+unfoldable pub exact : Problem → List Float → Counted Step
+exact p f =
+    let n = p .n in
+    let eqs = equalityRows p in
+    let ineqs = inequalityRows p in
+    let c = length eqs in
+    andThen (lsei n c n (length ineqs) (matrixOf eqs) (sidesOf eqs) (transposed n n (p .factor)) f (matrixOf ineqs) (sidesOf ineqs))
+    (λ s. done (exactStep p c s))
+
+-- ---- the relaxed problem: E is the upper triangle of L', and in the corner the root of the weight of delta
+
+-- RELAXATION_WEIGHT is 1e6, and its root 1000
+abbrev pub weight : Float
+weight = near 1000000 1
+
+abbrev pub rootWeight : Float
+rootWeight = near 1000 1
+
+unfoldable pub relaxedMatrix : Problem → List Float
+relaxedMatrix p =
+    let n = p .n in
+    grid (n + 1) (n + 1) (λ i j. cond (leb i j && ltb j n) (entry n (p .factor) j i) (cond (eqb i n && eqb j n) rootWeight +0))
+
+-- an equality's multiplier is that of its first row less that of its second; `next` rows are passed
+unfoldable pub paired : (kinds : List ℕ) (next : ℕ) (l : List Float) → List Float
+paired [] next l = []
+paired (zero ∷ ks) next l = (at l next ⊖ at l (next + 1)) ∷ paired ks (next + 2) l
+paired (suc k ∷ ks) next l = at l next ∷ paired ks (next + 1) l
+
+-- clamped to [0, 1]: NaN and -0 stay
+unfoldable pub clamped : Float → Float
+clamped v = cond (lt v +0) +0 (cond (lt one v) one v)
+
+unfoldable pub relaxedStep : Problem → Solution → Step
+relaxedStep p s = record { d = take (p .n) (s .x); multipliers = paired (p .kinds) 0 (s .multipliers); relaxation = clamped (at (s .x) (p .n)) }
+
+unfoldable pub relaxed : Problem → List Float → Counted Step
+relaxed p f =
+    let rs = relaxedRows p in
+    andThen (lsi (p .n + 1) (p .n + 1) (length rs) (relaxedMatrix p) (f ++ (+0 ∷ [])) (matrixOf rs) (sidesOf rs)) (λ s. done (relaxedStep p s))
+
+-- ---- the step
+
+-- failure of any kind in the exact problem leads to the relaxed one, and the relaxed failure is returned
+abbrev pub orRelaxed : Answer Step → (first second : Counted Step) → Counted Step
+orRelaxed (done s) first second = first
+orRelaxed (refused k) first second = after first second
+
+unfoldable pub step : Problem → Counted Step
+step p =
+    let f = target p in
+    let first = exact p f in
+    orRelaxed (first .answer) first (relaxed p f)

@@ -1,0 +1,55 @@
+-- Where a call of the step is done, no multiplier of an inequality that it leaves is negative or -0.
+use mathlib.Core.Path.{_≡_, refl, sym, subst}
+use mathlib.Core.Bool.{Bool, true, false, _&&_}
+use mathlib.Core.List.{List}
+use Prim.Native.Nat.{ℕ, _*_, _<_}
+use native.Mathlib.Omega.{arith}
+use lib.ListN.{length}
+use lib.Ieee.{Float}
+use borrow.Author.Tests.{eqb-true}
+use Rattle.numbers.specs.Numbers.{at}
+use Rattle.workspace.specs.Tables.{Answer, done, refused, call, isDimension, isConstraints, isRoom, has}
+use Rattle.workspace.specs.declared.Refusal.{Refusal}
+use Rattle.workspace.proofs.Tests.{and-true}
+use Rattle.nnls.specs.Counted.{Counted}
+use Rattle.nnls.specs.Claims.{NotNegative}
+use Rattle.step_rows.specs.Problem.{Problem, isEquality}
+use Rattle.step.specs.Step.{Step, step}
+use Rattle.step_call.specs.Claims.{ClearStep, StepCallClear}
+use Rattle.step_call.specs.Promise.{areKinds, areLengths, Steps}
+use Rattle.step_call.specs.declared.Outcome.the-variants.{Done, Refused}
+use Rattle.step_call.proofs.Clear.{step-clear}
+
+kinds-long : (p : Problem) (d l : List Float) → areLengths p d l ≡ true → length (p .kinds) ≡ p .m
+kinds-long p d l h =
+    let a = has (p .factor) (p .n * p .n) && has (p .gradient) (p .n) in
+    let k = has (p .kinds) (p .m) in
+    let v = has (p .values) (p .m) in
+    let j = has (p .jacobian) (p .m * p .n) in
+    let lo = has (p .lower) (p .n) in
+    let up = has (p .upper) (p .n) in
+    let o = has d (p .n) in
+    let h8 = and-true (a && k && v && j && lo && up && o) (has l (p .m)) h .0 in
+    let h7 = and-true (a && k && v && j && lo && up) o h8 .0 in
+    let h6 = and-true (a && k && v && j && lo) up h7 .0 in
+    let h5 = and-true (a && k && v && j) lo h6 .0 in
+    let h4 = and-true (a && k && v) j h5 .0 in
+    let h3 = and-true (a && k) v h4 .0 in
+    eqb-true (length (p .kinds)) (p .m) (and-true a k h3 .1)
+
+module _ (p : Problem) (relaxation : Float) (d d' l l' w w' : List Float) (iw iw' : List ℕ) where
+  never : {A : Type 0} (r : Refusal) → Done relaxation ≡ Refused r → A
+  never r e = let z : _≡_ {A = ℕ} 0 1 = cc in absurd (let y : ⊥ = omega arith in y)
+
+  from-tests : (s b m k : Bool) → areLengths p d l ≡ b → (a : Answer Step) → (length (p .kinds) ≡ p .m → ClearStep p a)
+      → Steps (call s b m k a) (Done relaxation) d d' l l' w w' iw iw' → (j : ℕ) → j < p .m → isEquality p j ≡ false → NotNegative (at l' j)
+  from-tests false b m k e a c q j h i = never _ (q .the-outcome)
+  from-tests true false m k e a c q j h i = never _ (q .the-outcome)
+  from-tests true true false k e a c q j h i = never _ (q .the-outcome)
+  from-tests true true true false e a c q j h i = never _ (q .the-outcome)
+  from-tests true true true true e (refused n) c q j h i = never _ (q .the-outcome)
+  from-tests true true true true e (done s) c q j h i = subst (λ (u : List Float). NotNegative (at u j)) (sym (q .the-multipliers)) (c (kinds-long p d l e) j h i)
+
+pub step-call-clear : StepCallClear
+step-call-clear p relaxation d d' l l' w w' iw iw' q =
+    from-tests p relaxation d d' l l' w w' iw iw' (isDimension (p .n) && isConstraints (p .m)) (areLengths p d l) (isRoom w iw) (areKinds (p .kinds)) refl (step p .answer) (step-clear p) q

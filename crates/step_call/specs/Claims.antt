@@ -1,0 +1,45 @@
+-- What is shown of the step and of its calls: its multipliers, what it reads of the factor, and that the promise allows one answer only. Definitions only.
+use mathlib.Core.Path.{_≡_}
+use mathlib.Core.Bool.{false}
+use mathlib.Core.List.{List}
+use Prim.Native.Nat.{ℕ, _<_}
+use lib.ListN.{length}
+use lib.Ieee.{Float}
+use Rattle.numbers.specs.Numbers.{at, SameLower}
+use Rattle.workspace.specs.Tables.{Answer, done, refused}
+use Rattle.nnls.specs.Counted.{Counted}
+use Rattle.nnls.specs.Claims.{NotNegative}
+use Rattle.step_rows.specs.Problem.{Problem, problemOf, isEquality}
+use Rattle.step.specs.Step.{Step, target, relaxed, step}
+use Rattle.step_call.specs.Promise.{stepCall, Steps}
+use Rattle.step_call.specs.declared.Outcome.{Outcome}
+use Rattle.step_call.specs.declared.Outcome.the-variants.{Done}
+
+-- of a step: no multiplier of an inequality is negative or -0
+abbrev pub ClearStep : Problem → Answer Step → Type 0
+ClearStep p (done s) = (j : ℕ) → j < p .m → isEquality p j ≡ false → NotNegative (at (s .multipliers) j)
+ClearStep p (refused r) = Unit
+
+-- on all inputs with a kind for each constraint
+abbrev pub StepClear : Type 0
+StepClear = (p : Problem) → length (p .kinds) ≡ p .m → ClearStep p (step p .answer)
+
+-- p with another factor
+abbrev pub withFactor : Problem → List Float → Problem
+withFactor p l = problemOf (p .n) (p .m) l (p .gradient) (p .kinds) (p .values) (p .jacobian) (p .lower) (p .upper)
+
+-- the solve for f and the relaxed problem read only the lower triangle of the factor
+abbrev pub ReadLower : Type 0
+ReadLower = (p : Problem) (l f : List Float) → SameLower (p .n) (p .factor) l → (target (withFactor p l) ≡ target p) × (relaxed (withFactor p l) f ≡ relaxed p f)
+
+-- ---- of calls
+
+-- where a call is done, no multiplier of an inequality that it leaves is negative or -0
+abbrev pub StepCallClear : Type 0
+StepCallClear = (p : Problem) (relaxation : Float) (d d' l l' w w' : List Float) (iw iw' : List ℕ) → Steps (stepCall p d l w iw) (Done relaxation) d d' l l' w w' iw iw'
+    → (j : ℕ) → j < p .m → isEquality p j ≡ false → NotNegative (at l' j)
+
+-- whatever the answer c, the outcome and all that is left are fixed by what was there before
+abbrev pub OneAnswer : Type 0
+OneAnswer = (c : Answer Step) (o p : Outcome) (d d' d'' l l' l'' w w' w'' : List Float) (iw iw' iw'' : List ℕ)
+    → Steps c o d d' l l' w w' iw iw' → Steps c p d d'' l l'' w w'' iw iw'' → (o ≡ p) × (d' ≡ d'') × (l' ≡ l'') × (w' ≡ w'') × (iw' ≡ iw'')

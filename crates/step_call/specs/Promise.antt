@@ -1,0 +1,40 @@
+-- What a call of the public step answers and leaves. Definitions only.
+use Prim.Native.Nat.{ℕ, _*_}
+use mathlib.Core.Path.{_≡_}
+use mathlib.Core.Bool.{Bool, true, _&&_}
+use mathlib.Core.List.{List, [], _∷_}
+use lib.Dec.{leb}
+use lib.Ieee.{Float}
+use Rattle.workspace.specs.Tables.{Answer, done, refused, call, output, floats, words, isDimension, isConstraints, isRoom, has}
+use Rattle.nnls.specs.Counted.{Counted}
+use Rattle.step_rows.specs.Problem.{Problem}
+use Rattle.step.specs.Step.{Step, step}
+use Rattle.step_call.specs.declared.Outcome.{Outcome}
+use Rattle.step_call.specs.declared.Outcome.the-variants.{Done, Refused}
+
+-- every kind is 0 or 1
+unfoldable pub areKinds : List ℕ → Bool
+areKinds [] = true
+areKinds (k ∷ ks) = leb k 1 && areKinds ks
+
+abbrev pub areLengths : Problem → (d multipliers : List Float) → Bool
+areLengths p d l =
+    has (p .factor) (p .n * p .n) && has (p .gradient) (p .n) && has (p .kinds) (p .m) && has (p .values) (p .m) && has (p .jacobian) (p .m * p .n)
+    && has (p .lower) (p .n) && has (p .upper) (p .n) && has d (p .n) && has l (p .m)
+
+-- the whole call, on all that it is lent
+abbrev pub stepCall : Problem → (d multipliers w : List Float) (iw : List ℕ) → Answer Step
+stepCall p d l w iw = call (isDimension (p .n) && isConstraints (p .m)) (areLengths p d l) (isRoom w iw) (areKinds (p .kinds)) (step p .answer)
+
+-- what it tells: the relaxation, where it is done
+abbrev pub outcomeOf : Answer Step → Outcome
+outcomeOf (done s) = Done (s .relaxation)
+outcomeOf (refused r) = Refused r
+
+-- From its answer c: the outcome o, and what d, the multipliers l and the workspaces hold before and, primed, afterwards.
+pub record Steps (c : Answer Step) (o : Outcome) (d d' l l' w w' : List Float) (iw iw' : List ℕ) : Type 0 where
+  pub the-outcome : o ≡ outcomeOf c
+  pub the-d : d' ≡ output c (λ s. s .d) d
+  pub the-multipliers : l' ≡ output c (λ s. s .multipliers) l
+  pub the-floats : w' ≡ floats c w
+  pub the-words : iw' ≡ words c iw

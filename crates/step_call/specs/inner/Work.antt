@@ -1,0 +1,39 @@
+-- What the functions behind the public step are handed and leave. Definitions only.
+use Prim.Native.Nat.{ℕ, _*_, _≤_}
+use mathlib.Core.Path.{_≡_}
+use mathlib.Core.List.{List}
+use lib.ListN.{length}
+use lib.Ieee.{Float}
+use Rattle.workspace.specs.inner.Readings.{vec, Cleared}
+use Rattle.step_rows.specs.inner.Work.{Lengths}
+use Rattle.step.specs.inner.Places.{STEP_D, STEP_MULTIPLIERS}
+use Rattle.step.specs.declared.Tried.{Tried}
+use Rattle.step.specs.declared.Tried.the-variants.{Done, Refused}
+use Rattle.step_call.specs.declared.Outcome.{Outcome}
+use Rattle.step_call.specs.declared.Outcome.the-variants as Outcome
+
+-- what the tests show where none refuses
+pub record Lent (n m : ℕ) (factor gradient : List Float) (kinds : List ℕ) (values jacobian lower upper d multipliers w : List Float) (iw : List ℕ) : Type 0 where
+  pub lengths : Lengths n m kinds values jacobian lower upper
+  pub square : length factor ≡ n * n
+  pub slope : length gradient ≡ n
+  pub step : length d ≡ n
+  pub prices : length multipliers ≡ m
+  pub floats : 8192 ≤ length w
+  pub words : 512 ≤ length iw
+
+-- a new list where the step is done, and else the old one
+abbrev pub handed : Tried → (new old : List Float) → List Float
+handed (Done relaxation rounds factorings) new old = new
+handed (Refused r rounds factorings) new old = old
+
+abbrev pub outcomeOfTried : Tried → Outcome
+outcomeOfTried (Done relaxation rounds factorings) = Outcome.Done relaxation
+outcomeOfTried (Refused r rounds factorings) = Outcome.Refused r
+
+-- from how the step ended: the outcome, the outputs d and l, and the workspaces, before and, primed, afterwards
+pub record StepGiven (n m : ℕ) (t : Tried) (r : Outcome) (d d' l l' w w' : List Float) (iw iw' : List ℕ) : Type 0 where
+  pub outcome : r ≡ outcomeOfTried t
+  pub the-d : d' ≡ handed t (vec STEP_D n w) d
+  pub the-multipliers : l' ≡ handed t (vec STEP_MULTIPLIERS m w) l
+  pub both : Cleared w w' iw iw'

@@ -1,0 +1,215 @@
+// The public step: tests, the kernel in the front of the lent workspaces, and its answer out.
+ghost use mathlib.Core.Path.{_≡_};
+ghost use mathlib.Core.Bool.{_&&_};
+ghost use Prim.Native.Nat.{_*_, _≤_};
+ghost use lib.Dec.{eqb};
+ghost use lib.ListN.{length};
+ghost use Rattle.workspace.specs.Tables.{isDimension, isConstraints, has};
+ghost use Rattle.nnls.specs.Counted.{Counted};
+ghost use Rattle.step_rows.specs.Problem.{problemOf};
+ghost use Rattle.step.specs.Step.{step};
+ghost use Rattle.step_call.specs.Promise.{areKinds, stepCall, Steps};
+ghost use Rattle.step_call.specs.inner.Work.{Lent, StepGiven};
+use workspace::Refusal;
+
+// The solver of the step.
+pub struct Step {}
+
+// What a call answers: the relaxation, or why it is refused.
+pub enum Outcome {
+    Done(f64),
+    Refused(Refusal),
+}
+
+// ---- tests
+
+// The numbers of variables and constraints.
+fn are_sizes(n: usize, m: usize) -> bool
+    ensures { λ r. ⌜ r ≡ (isDimension n && isConstraints m) ⌝ }
+{
+    if !workspace::is_dimension(n) {
+        return false;
+    }
+    workspace::is_constraints(m)
+}
+
+// The lengths of the factor, the gradient, the kinds, the values and the Jacobian.
+fn are_lengths(
+    n: usize,
+    m: usize,
+    factor: &[f64],
+    gradient: &[f64],
+    kinds: &[u8],
+    values: &[f64],
+    jacobian: &[f64],
+) -> bool
+    requires { ⌜ (n ≤ 16) × (m ≤ 16) ⌝ }
+    ensures { λ r. ⌜ r ≡ (has (now (factor .entry)) (n * n) && has (now (gradient .entry)) n && has (now (kinds .entry)) m && has (now (values .entry)) m && has (now (jacobian .entry)) (m * n)) ⌝ }
+{
+    if factor.len() != n * n {
+        return false;
+    }
+    if gradient.len() != n {
+        return false;
+    }
+    if kinds.len() != m {
+        return false;
+    }
+    if values.len() != m {
+        return false;
+    }
+    jacobian.len() == m * n
+}
+
+// The lengths of the bounds, and those of the two outputs.
+fn are_other_lengths(
+    n: usize,
+    m: usize,
+    lower: &[f64],
+    upper: &[f64],
+    d: usize,
+    multipliers: usize,
+) -> bool
+    ensures { λ r. ⌜ r ≡ (has (now (lower .entry)) n && has (now (upper .entry)) n && eqb d n && eqb multipliers m) ⌝ }
+{
+    if lower.len() != n {
+        return false;
+    }
+    if upper.len() != n {
+        return false;
+    }
+    if d != n {
+        return false;
+    }
+    multipliers == m
+}
+
+// Every kind is 0 or 1.
+fn are_kinds(kinds: &[u8]) -> bool
+    ensures { λ r. ⌜ r ≡ areKinds (now (kinds .entry)) ⌝ }
+{
+    for j in 0..kinds.len() {
+        if kinds[j] > 1 {
+            return false;
+        }
+    }
+    true
+}
+
+// ---- the call where no test refuses
+
+// Both outputs, where the step is done, and the clearing of the workspaces.
+fn give(
+    t: step::Tried,
+    d: &mut [f64],
+    multipliers: &mut [f64],
+    w: &mut [f64],
+    iw: &mut [u32],
+    n: usize,
+    m: usize,
+) -> Outcome
+    requires { ⌜ (n ≤ 16) × (m ≤ 16) × (length (now d) ≡ n) × (length (now multipliers) ≡ m) × (8192 ≤ length (now w)) × (512 ≤ length (now iw)) ⌝ }
+    ensures { λ r. ⌜ StepGiven n m t r (now (d .entry)) (now (d .exit)) (now (multipliers .entry)) (now (multipliers .exit)) (now (w .entry)) (now (w .exit)) (now (iw .entry)) (now (iw .exit)) ⌝ }
+{
+    match t {
+        step::Tried::Done(relaxation, _, _) => {
+            workspace::unload(w, d, step::STEP_D, n);
+            workspace::unload(w, multipliers, step::STEP_MULTIPLIERS, m);
+            workspace::clear(w, iw);
+            Outcome::Done(relaxation)
+        }
+        step::Tried::Refused(r, _, _) => {
+            workspace::clear(w, iw);
+            Outcome::Refused(r)
+        }
+    }
+}
+
+// The step in the front of the workspaces, where no test refuses.
+fn step_all(
+    factor: &[f64],
+    gradient: &[f64],
+    kinds: &[u8],
+    values: &[f64],
+    jacobian: &[f64],
+    lower: &[f64],
+    upper: &[f64],
+    d: &mut [f64],
+    multipliers: &mut [f64],
+    w: &mut [f64],
+    iw: &mut [u32],
+    n: usize,
+    m: usize,
+) -> Outcome
+    requires { ⌜ Lent n m (now factor) (now gradient) (now kinds) (now values) (now jacobian) (now lower) (now upper) (now d) (now multipliers) (now w) (now iw) ⌝ }
+    ensures { λ r. ⌜ Steps (step (problemOf n m (now (factor .entry)) (now (gradient .entry)) (now (kinds .entry)) (now (values .entry)) (now (jacobian .entry)) (now (lower .entry)) (now (upper .entry))) .answer) r (now (d .entry)) (now (d .exit)) (now (multipliers .entry)) (now (multipliers .exit)) (now (w .entry)) (now (w .exit)) (now (iw .entry)) (now (iw .exit)) ⌝ }
+{
+    let v = &mut w[..8192];
+    let u = &mut iw[..512];
+    let t = step::solve_step(
+        factor,
+        gradient,
+        kinds,
+        values,
+        jacobian,
+        lower,
+        upper,
+        v,
+        u,
+        n,
+        m,
+    );
+    give(t, d, multipliers, w, iw, n, m)
+}
+
+impl Step {
+    // The step d of n variables and m constraints, with a multiplier for each constraint and the relaxation.
+    pub fn solve(
+        n: usize,
+        m: usize,
+        factor: &[f64],
+        gradient: &[f64],
+        kinds: &[u8],
+        values: &[f64],
+        jacobian: &[f64],
+        lower: &[f64],
+        upper: &[f64],
+        d: &mut [f64],
+        multipliers: &mut [f64],
+        w: &mut [f64],
+        iw: &mut [u32],
+    ) -> Outcome
+        ensures { λ r. ⌜ Steps (stepCall (problemOf n m (now (factor .entry)) (now (gradient .entry)) (now (kinds .entry)) (now (values .entry)) (now (jacobian .entry)) (now (lower .entry)) (now (upper .entry))) (now (d .entry)) (now (multipliers .entry)) (now (w .entry)) (now (iw .entry))) r (now (d .entry)) (now (d .exit)) (now (multipliers .entry)) (now (multipliers .exit)) (now (w .entry)) (now (w .exit)) (now (iw .entry)) (now (iw .exit)) ⌝ }
+    {
+        if !are_sizes(n, m) {
+            return Outcome::Refused(Refusal::Size);
+        }
+        if !are_lengths(n, m, factor, gradient, kinds, values, jacobian) {
+            return Outcome::Refused(Refusal::Length);
+        }
+        if !are_other_lengths(n, m, lower, upper, d.len(), multipliers.len()) {
+            return Outcome::Refused(Refusal::Length);
+        }
+        if !workspace::is_room(w.len(), iw.len()) {
+            return Outcome::Refused(Refusal::Room);
+        }
+        if !are_kinds(kinds) {
+            return Outcome::Refused(Refusal::Kind);
+        }
+        step_all(
+            factor,
+            gradient,
+            kinds,
+            values,
+            jacobian,
+            lower,
+            upper,
+            d,
+            multipliers,
+            w,
+            iw,
+            n,
+            m,
+        )
+    }
+}
