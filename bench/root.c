@@ -1,7 +1,7 @@
 /* Holds gritstrut_sqrt against the machine's root on many bit patterns, and times both.
  *
- *     rt staticlib cabinet
- *     cc -std=c99 -D_POSIX_C_SOURCE=199309L -O2 -Wall -Wextra -I include bench/root.c target/staticlib/libcabinet.a -lm -o target/root && target/root
+ *     rt staticlib gritstrut
+ *     cc -std=c99 -D_POSIX_C_SOURCE=199309L -O2 -Wall -Wextra -I include bench/root.c target/staticlib/libgritstrut.a -lm -o target/root && target/root
  */
 #include <inttypes.h>
 #include <math.h>

@@ -1,7 +1,7 @@
 /* Four meters around one header: what comes in from two generators goes out to two vessels.
  *
- *     rt staticlib cabinet
- *     cc -std=c99 -Wall -Wextra -I include examples/meters.c target/staticlib/libcabinet.a -o target/meters && target/meters
+ *     rt staticlib gritstrut
+ *     cc -std=c99 -Wall -Wextra -I include examples/meters.c target/staticlib/libgritstrut.a -o target/meters && target/meters
  *
  * The corrections d of the measured flows are the least squares, each weighed by its meter's
  * spread, such that the corrected flows balance and none is below zero. */

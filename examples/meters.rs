@@ -1,7 +1,7 @@
 //! Four meters around one header: what comes in from two generators goes out to two vessels.
 //!
-//!     rt staticlib cabinet
-//!     rustc --edition 2021 -O -L target/staticlib -l static=cabinet examples/meters.rs -o target/meters-rs && target/meters-rs
+//!     rt staticlib gritstrut
+//!     rustc --edition 2021 -O -L target/staticlib -l static=gritstrut examples/meters.rs -o target/meters-rs && target/meters-rs
 //!
 //! The corrections of the measured flows are the least squares, each weighed by its meter's
 //! spread, such that the corrected flows balance and none is below zero.

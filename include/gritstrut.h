@@ -1,36 +1,47 @@
 /* Gritstrut: constrained least squares, every function proved.
  *
- * Link with libcabinet.a (`rt staticlib cabinet` writes target/staticlib/libcabinet.a).
+ * Link with libgritstrut.a (`rt staticlib gritstrut` writes target/staticlib/libgritstrut.a).
  *
  * For all functions:
  *
  * - No heap, no globals, no locks: they are re-entrant, and two threads may call them at once
  *   with buffers of their own. They need the two workspaces, stack (under 2 KiB was measured for
  *   a step) and, of the C library, memset and memmove alone.
- * - A slice is a pointer and then its length in entries. A length of 0 goes with any pointer
- *   that is not null and is aligned for its type. Slices that are written must not overlap any
- *   other slice of the call.
- * - Matrices are dense and row-major: entry (i, j) of a matrix of n columns is at i * n + j.
+ * - A slice is a pointer and then its length in entries. Matrices are dense and row-major: entry
+ *   (i, j) of a matrix of n columns is at i * n + j.
+ * - What the caller must see to, since no function can test it: every pointer is not null, aligned
+ *   for its type and valid for the length passed with it (a length of 0 goes with any pointer that
+ *   is not null and is aligned); a slice that is written overlaps no other slice of the call; and
+ *   the pointers of single results (rank, rounds, factorings, relaxation) are distinct and overlap
+ *   nothing. The processor rounds to nearest and keeps subnormal numbers, as a C program begins
+ *   (some that are linked with -ffast-math do not). Everything else is taken: any size and length,
+ *   and any bit pattern as a double, NaN and infinities too.
  * - w is a workspace of at least GRITSTRUT_FLOATS doubles (64 KiB) and iw one of at least
  *   GRITSTRUT_WORDS uint32_t (2 KiB). What they hold before a call does not matter.
  * - The result is a number of the table below. Tests are made in the order of the numbers 1 to 4.
  *
- *     number                        outputs      workspaces
- *     0  done                       all written  first 8192 and 512 entries zero
- *     1  a size (or k) not allowed  untouched    untouched
- *     2  a length not exactly right untouched    untouched
- *     3  a workspace too short      untouched    untouched
- *     4  a kind other than 0 and 1  untouched    untouched
- *     5  rank deficient             untouched    first 8192 and 512 entries zero
- *     6  infeasible                 untouched    first 8192 and 512 entries zero
- *     7  round limit of NNLS        untouched    first 8192 and 512 entries zero
- *     8  a Cholesky pivot that is   untouched    first 8192 and 512 entries zero
- *        not positive and finite
+ *     number                                 outputs      workspaces
+ *     0  GRITSTRUT_DONE                      all written  first 8192 and 512 entries zero
+ *     1  GRITSTRUT_SIZE: a size (or k)       untouched    untouched
+ *        that is not allowed
+ *     2  GRITSTRUT_LENGTH: a length that     untouched    untouched
+ *        is not exactly right
+ *     3  GRITSTRUT_ROOM: a workspace that    untouched    untouched
+ *        is too short
+ *     4  GRITSTRUT_KIND: a kind other than   untouched    untouched
+ *        0 and 1
+ *     5  GRITSTRUT_DEFICIENT: rank too low   untouched    first 8192 and 512 entries zero
+ *     6  GRITSTRUT_INFEASIBLE                untouched    first 8192 and 512 entries zero
+ *     7  GRITSTRUT_CAPPED: NNLS reached its  untouched    first 8192 and 512 entries zero
+ *        limit of rounds
+ *     8  GRITSTRUT_PIVOT: a Cholesky pivot   untouched    first 8192 and 512 entries zero
+ *        that is not positive and finite
  *
- *   Untouched means the same bits. Inputs never change. Entries of a workspace past the first
- *   8192 and 512 never change. Any bit pattern is taken as a double, NaN and infinities too.
- * - Single results (rank, rounds, factorings, relaxation) are written through their pointers
- *   only where the number is 0. These pointers are never null.
+ *   Zero is +0. Untouched means the same bits. (Of an entry that is a NaN it is proved that it
+ *   stays a NaN; that its bits stay is compared, not proved: docs/TRUST.md.) Entries of a
+ *   workspace past the first 8192 and 512 never change. Inputs never change, except b under
+ *   gritstrut_update.
+ * - Single results are stored through their pointers only where the number is 0.
  */
 #ifndef GRITSTRUT_H
 #define GRITSTRUT_H
@@ -42,8 +53,25 @@
 extern "C" {
 #endif
 
+/* The version of this header; the number is 10000 * first + 100 * second + third. */
+#define GRITSTRUT_VERSION "0.2.0"
+#define GRITSTRUT_VERSION_NUMBER 200
+
 #define GRITSTRUT_FLOATS 8192
 #define GRITSTRUT_WORDS 512
+
+#define GRITSTRUT_DONE 0
+#define GRITSTRUT_SIZE 1
+#define GRITSTRUT_LENGTH 2
+#define GRITSTRUT_ROOM 3
+#define GRITSTRUT_KIND 4
+#define GRITSTRUT_DEFICIENT 5
+#define GRITSTRUT_INFEASIBLE 6
+#define GRITSTRUT_CAPPED 7
+#define GRITSTRUT_PIVOT 8
+
+/* The GRITSTRUT_VERSION_NUMBER of the library that was linked: it must be this header's. */
+uint32_t gritstrut_version(void);
 
 /* The IEEE 754 square root, to nearest. */
 double gritstrut_sqrt(double x);
@@ -116,7 +144,9 @@ uint32_t gritstrut_update(size_t n, double *b, size_t b_len, const double *s, si
  * In: factor L (n * n), gradient g (n), kinds (m), values c (m), jacobian (m * n, a row for each
  * constraint), lower (n), upper (n). Out: d (n), multipliers (m, in constraint order), and the
  * relaxation: 0 where the problem was solved as stated, else the share, up to 1, by which its
- * constraints were relaxed. */
+ * constraints were relaxed: then they need not hold at d.
+ * The exact problem reads the whole square of factor, the entries ABOVE the diagonal too: set
+ * them to +0, as gritstrut_cholesky does. */
 uint32_t gritstrut_step(size_t n, size_t m, const double *factor, size_t factor_len,
                         const double *gradient, size_t gradient_len,
                         const uint8_t *kinds, size_t kinds_len,

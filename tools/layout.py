@@ -1,0 +1,80 @@
+#!/usr/bin/env python3
+"""Writes the tables of docs/LAYOUT.md from the named places in the code: `pub const NAME: usize = SUM;`.
+
+    tools/layout.py            writes them
+    tools/layout.py --check    writes nothing; says whether they are what the code says
+
+A table stands behind a mark `<!-- PART -->` of the page, where PART is what the names of its places begin with (QR of
+QR_SIDE, or of QrPart::SIDE). What a place is for is the comment in front of its constant.
+"""
+import os
+import re
+import sys
+
+PAGE = "docs/LAYOUT.md"
+CONSTANT = re.compile(r"((?:^ *// .*\n)*)^ *pub const (\w+): usize = ([^;]+);", re.M)
+
+
+def complain(text):
+    sys.exit(f"layout.py: {text}")
+
+
+def read_places():
+    """Name, sum and purpose of each place, in the order of crates.txt."""
+    places = {}
+    for line in open("crates.txt"):
+        crate, colon, _ = line.split("#")[0].partition(":")
+        folder = f"crates/{crate.strip()}/src"
+        if not colon or not os.path.isdir(folder):
+            continue
+        for name in sorted(os.listdir(folder)):
+            text = open(f"{folder}/{name}").read()
+            blocks = [(m.start(), m.group(1)) for m in re.finditer(r"^impl (\w+) \{", text, re.M)]
+            for found in CONSTANT.finditer(text):
+                comment, const, total = found.groups()
+                within = [t for at, t in blocks if at < found.start()] if found.group(0).lstrip("\n").startswith("    ") else []
+                whole = f"{within[-1]}::{const}" if within else const
+                total = re.sub(r"\b[a-z]\w*::", "", total).replace("Self::", f"{within[-1]}::" if within else "")
+                purpose = " ".join(part.strip(" /") for part in comment.strip().split("\n"))
+                places[whole] = (total, purpose)
+    return places
+
+
+def part_of(name):
+    return name.split("::")[0].removesuffix("Part").upper() if "::" in name else name.split("_")[0]
+
+
+def value(name, places):
+    if name not in places:
+        complain(f"{name} is no named place")
+    return eval(re.sub(r"[A-Za-z][\w:]*", lambda m: str(value(m.group(0), places)), places[name][0]))
+
+
+def table(part, places):
+    rows = [name for name in places if part_of(name) == part]
+    out = ["| Name | Place | What stands there |", "|---|---|---|"] if rows else []
+    for name in rows:
+        total, purpose = places[name]
+        out.append(f"| `{name}` | {total.replace('*', '·')}" + ("" if total.isdigit() else f" = {value(name, places):,}") + f" | {purpose} |")
+    return "".join(row + "\n" for row in out)
+
+
+def main():
+    if sys.argv[1:] not in ([], ["--check"]):
+        sys.exit(__doc__)
+    if not os.path.exists("crates.txt"):
+        complain("there is no crates.txt here: run it at the root of the repository")
+    places, old = read_places(), open(PAGE).read()
+    marks = re.findall(r"<!-- ([A-Z]+) -->", old)
+    for part in dict.fromkeys(part_of(name) for name in places):
+        if part not in marks:
+            print(f"layout.py: {PAGE} has no mark {part}, so it says nothing of these places", file=sys.stderr)
+    new = re.sub(r"<!-- ([A-Z]+) -->\n(?:\|.*\n)*", lambda m: f"<!-- {m.group(1)} -->\n{table(m.group(1), places)}", old)
+    if not sys.argv[1:]:
+        with open(PAGE, "w") as out:
+            out.write(new)
+    elif new != old:
+        complain(f"{PAGE} is not what the code says: tools/layout.py writes it")
+
+
+main()
