@@ -9,11 +9,12 @@ use arguments::Arguments;
 use linked::{LIBRARY, linked};
 use reference::shape::{OPS, Op};
 use std::fs;
+use std::path::{Path, PathBuf};
 use std::process::ExitCode;
 use std::time::Instant;
 use trial::held::Junk;
 use trial::kinds;
-use trial::replay;
+use trial::replay::{self, List};
 use trial::run::{self, Plan};
 use trial::table;
 
@@ -23,8 +24,8 @@ const USAGE: &str = "usage: oracle COMMAND [--OPTION VALUE]...
   sqrt        compares square roots        --patterns N --seed N
   records     compares record programs     --program FILE --files N --seed N --threads N
   all         calls, and then records      with the options of both
-  write-list  writes the stored list       --file FILE --each N --seed N
-  check-list  checks the stored list       --file FILE
+  write-list  writes the stored list       --folder FOLDER --each N --seed N
+  check-list  checks the stored list       --folder FOLDER --each N --seed N
 ";
 
 fn main() -> ExitCode {
@@ -135,31 +136,51 @@ fn records(arguments: &Arguments) -> Result<bool, String> {
     Ok(equal)
 }
 
+/// The stored files of a folder: the calls, and the lines.
+fn stored(arguments: &Arguments) -> Result<[PathBuf; 2], String> {
+    let folder = arguments.text("folder").ok_or("--folder is missing")?;
+    Ok(["stdin", "stdout"].map(|name| Path::new(folder).join(name)))
+}
+
+/// The list that a seed makes.
+fn made(arguments: &Arguments) -> Result<List, String> {
+    Ok(replay::list(arguments.value("seed", 1)?, arguments.value("each", 30)?))
+}
+
 /// Writes the stored list.
 fn write_list(arguments: &Arguments) -> Result<bool, String> {
-    let file = arguments.text("file").ok_or("--file is missing")?;
-    let (bytes, calls) = replay::list(arguments.value("seed", 1)?, arguments.value("each", 30)?);
-    fs::write(file, &bytes).map_err(|error| format!("{file}: {error}"))?;
-    println!("{calls} calls, {} bytes", bytes.len());
+    let ([calls, lines], list) = (stored(arguments)?, made(arguments)?);
+    for (file, bytes) in [(calls, &list.calls[..]), (lines, list.lines.as_bytes())] {
+        fs::write(&file, bytes).map_err(|error| format!("{}: {error}", file.display()))?;
+        println!("{}: {} bytes", file.display(), bytes.len());
+    }
+    println!("{} calls", list.lines.lines().count());
     Ok(true)
 }
 
-/// Checks the stored list against the Rust, and the library against it.
+/// Checks the stored list against the seed and the Rust, and the library against the Rust.
 fn check_list(arguments: &Arguments) -> Result<bool, String> {
     let (library, own) = linked();
     announce(&own);
-    let file = arguments.text("file").ok_or("--file is missing")?;
-    let bytes = fs::read(file).map_err(|error| format!("{file}: {error}"))?;
-    let found = replay::verify(&bytes, &library)?;
+    let [calls, lines] = stored(arguments)?;
+    let unread = |file: &Path, error| format!("{}: {error}", file.display());
+    let list = List {
+        calls: fs::read(&calls).map_err(|error| unread(&calls, error))?,
+        lines: fs::read_to_string(&lines).map_err(|error| unread(&lines, error))?,
+    };
+    let found = replay::verify(&list, &library)?;
     println!("{:<10}{:>7} {:?}", "op", "calls", "by number, from 0");
     for op in OPS {
         let numbers = found.numbers[op.code()];
         println!("{:<10}{:>7} {numbers:?}", op.name(), numbers.iter().sum::<u64>());
     }
     println!(
-        "{} calls, {} with a NaN ratio, the longest {} words",
+        "{} calls, {} with a NaN ratio, the longest {} bytes",
         found.calls, found.nan_ratios, found.longest
     );
-    println!("differences: {}", found.different);
-    Ok(found.different == 0)
+    let drawn = list == made(arguments)?;
+    println!("both files are what the seed makes: {}", if drawn { "yes" } else { "no" });
+    println!("lines that are not the Rust's: {}", found.lines);
+    println!("differences of the library: {}", found.different);
+    Ok(drawn && found.lines + found.different == 0)
 }

@@ -1,5 +1,6 @@
 //! Tries a library against the Rust files: seeded calls of every kind, each compared in full.
 
+pub mod digest;
 pub mod draw;
 pub mod files;
 pub mod held;
@@ -7,4 +8,5 @@ pub mod kinds;
 pub mod records;
 pub mod replay;
 pub mod run;
+pub mod stored;
 pub mod table;

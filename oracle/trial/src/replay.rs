@@ -1,18 +1,20 @@
-//! The stored list: calls with the answers that the Rust gives, as words of eight bytes.
+//! The stored list of calls, and the stored lines that the Rust's answers make of them.
 
+use crate::digest::line;
 use crate::draw::Draw;
 use crate::held::{Junk, compare};
 use crate::kinds::{Kind, Share, all};
+use crate::stored::{self, BYTES, Fill, HEADER, Rest, Stored};
 use peer::Library;
 use reference::Rust;
 use reference::call::{Answer, Call, Sound, answer};
 use reference::shape::{OPS, Op};
 
+/// A call that is taken into a list, and its answer.
+type Chosen = (Call, Answer);
+
 /// The first word of a list.
 const MARK: u64 = u64::from_le_bytes(*b"GRITLIST");
-
-/// What stands for every NaN in an answer.
-const NAN: u64 = 0x7ff8_0000_0000_0000;
 
 /// The longest slices of f64, kinds and permutations, and the longest call, that a list has.
 const LONGEST: [usize; 3] = [1200, 80, 4096];
@@ -26,45 +28,27 @@ const STRIDE: u64 = 1_000_003;
 /// Calls that the list has at least of each operation and number, where they can be drawn.
 const SELDOM: u64 = 12;
 
-/// The words of one value of an answer.
-fn word(value: f64) -> u64 {
-    if value.is_nan() { NAN } else { value.to_bits() }
-}
-
-/// The words of a call and its answer.
-fn words(call: &Call, owed: &Answer) -> Vec<u64> {
-    let mut words = vec![0];
-    words.extend(call.sizes.iter().map(|&size| size as u64));
-    words.extend(call.inputs.iter().map(|values| values.len() as u64));
-    if call.op == Op::Step {
-        words.push(call.kinds.len() as u64);
-    }
-    words.extend(call.outputs.iter().map(|&len| len as u64));
-    if call.op == Op::Qr {
-        words.push(call.perm as u64);
-    }
-    if call.op.is_lent() {
-        words.extend(call.work.map(|len| len as u64));
-    }
-    words.extend(call.inputs.iter().flatten().map(|value| value.to_bits()));
-    words.extend(call.kinds.iter().map(|&kind| u64::from(kind)));
-    words.extend(owed.outputs.iter().flatten().map(|&value| word(value)));
-    words.extend(owed.perm.iter().map(|&column| u64::from(column)));
-    words.extend(owed.counts.iter().map(|&count| u64::from(count)));
-    words.extend(owed.value.map(word));
-    let head = call.op.code() as u64 | u64::from(owed.number) << 8 | (words.len() as u64) << 16;
-    words[0] = head;
-    words
+/// The words that a call and its answer take: by them calls are chosen.
+fn words(call: &Call, owed: &Answer) -> usize {
+    let groups = [call.sizes.len(), call.inputs.len(), call.outputs.len()];
+    let single = usize::from(call.op == Op::Step) + usize::from(call.op == Op::Qr);
+    let rooms = if call.op.is_lent() { 2 } else { 0 };
+    let lengths = 1 + groups.iter().sum::<usize>() + single + rooms;
+    let inputs = call.inputs.iter().map(Vec::len).sum::<usize>() + call.kinds.len();
+    let outputs = owed.outputs.iter().map(Vec::len).sum::<usize>() + owed.perm.len();
+    lengths + inputs + outputs + owed.counts.len() + usize::from(owed.value.is_some())
 }
 
 /// Whether a call is short enough for a list.
 fn fits(call: &Call) -> bool {
     let reals = call.inputs.iter().map(Vec::len).chain(call.outputs.iter().copied());
-    reals.max().unwrap_or(0) <= LONGEST[0] && call.kinds.len().max(call.perm) <= LONGEST[1]
+    let bytes = HEADER + 8 * call.inputs.iter().map(Vec::len).sum::<usize>() + call.kinds.len();
+    let longest = reals.max().unwrap_or(0);
+    longest <= LONGEST[0] && call.kinds.len().max(call.perm) <= LONGEST[1] && bytes <= BYTES
 }
 
 /// The next call of a kind from an index on that takes no more words than allowed.
-fn next(kind: &Kind, seed: u64, index: &mut u64, allowed: usize) -> Option<Vec<u64>> {
+fn next(kind: &Kind, seed: u64, index: &mut u64, allowed: usize) -> Option<Chosen> {
     for _ in 0..400 {
         let at = match kind.share {
             Share::All(count) if *index >= count => return None,
@@ -77,16 +61,16 @@ fn next(kind: &Kind, seed: u64, index: &mut u64, allowed: usize) -> Option<Vec<u
         if inputs > allowed || !fits(&call) {
             continue;
         }
-        let words = words(&call, &answer::<Rust, Sound>(&call));
-        if words.len() <= allowed {
-            return Some(words);
+        let owed = answer::<Rust, Sound>(&call);
+        if words(&call, &owed) <= allowed {
+            return Some((call, owed));
         }
     }
     None
 }
 
 /// The calls of one kind, so many, mostly short; the few of a small kind whatever their length.
-fn sampled(place: usize, kind: &Kind, seed: u64, each: usize) -> Vec<Vec<u64>> {
+fn sampled(place: usize, kind: &Kind, seed: u64, each: usize) -> Vec<Chosen> {
     let small = matches!(kind.share, Share::All(count) if count <= each as u64);
     let mut index = 0;
     let allowed = |turn: usize| match turn + 1 == each && place.is_multiple_of(4) {
@@ -98,7 +82,7 @@ fn sampled(place: usize, kind: &Kind, seed: u64, each: usize) -> Vec<Vec<u64>> {
 }
 
 /// Calls of numbers that an operation's short calls seldom or never have.
-fn seldom(kind: &Kind, seed: u64, had: &mut [[u64; 9]; OPS.len()]) -> Vec<Vec<u64>> {
+fn seldom(kind: &Kind, seed: u64, had: &mut [[u64; 9]; OPS.len()]) -> Vec<Chosen> {
     let mut taken = vec![];
     for index in 0..match kind.share {
         Share::All(_) => 0,
@@ -107,65 +91,52 @@ fn seldom(kind: &Kind, seed: u64, had: &mut [[u64; 9]; OPS.len()]) -> Vec<Vec<u6
         let (call, _) = kind.call(seed, index);
         let owed = answer::<Rust, Sound>(&call);
         let count = &mut had[call.op.code()][owed.number as usize];
-        let words = words(&call, &owed);
-        if *count < SELDOM && fits(&call) && words.len() <= LONGEST[2] {
+        if *count < SELDOM && fits(&call) && words(&call, &owed) <= LONGEST[2] {
             *count += 1;
-            taken.push(words);
+            taken.push((call, owed));
         }
     }
     taken
 }
 
-/// A list of so many calls of each kind, as bytes, and how many calls it has.
-pub fn list(seed: u64, each: usize) -> (Vec<u8>, u64) {
+/// The calls of a list, so many of each kind, with their answers.
+fn chosen(seed: u64, each: usize) -> Vec<Chosen> {
     let (kinds, mut had) = (all(), [[0; 9]; OPS.len()]);
-    let mut calls: Vec<Vec<u64>> = vec![];
+    let mut calls: Vec<Chosen> = vec![];
     for (place, kind) in kinds.iter().enumerate() {
         calls.extend(sampled(place, kind, seed, each));
     }
-    for call in &calls {
-        had[(call[0] & 0xff) as usize][(call[0] >> 8 & 0xff) as usize] += 1;
+    for (call, owed) in &calls {
+        had[call.op.code()][owed.number as usize] += 1;
     }
     for kind in &kinds {
         calls.extend(seldom(kind, seed, &mut had));
     }
-    let words = [MARK, calls.len() as u64].into_iter().chain(calls.concat());
-    (words.flat_map(u64::to_le_bytes).collect(), calls.len() as u64)
+    calls
 }
 
-/// The words of a list still to be read.
-struct Words<'a>(&'a [u8]);
-
-impl Words<'_> {
-    fn one(&mut self) -> Result<u64, String> {
-        let (word, rest) = self.0.split_first_chunk::<8>().ok_or("the list is cut short")?;
-        self.0 = rest;
-        Ok(u64::from_le_bytes(*word))
-    }
-
-    fn lengths(&mut self, count: usize) -> Result<Vec<usize>, String> {
-        (0..count).map(|_| self.one().map(|word| word as usize)).collect()
-    }
-
-    fn reals(&mut self, count: usize) -> Result<Vec<f64>, String> {
-        (0..count).map(|_| self.one().map(f64::from_bits)).collect()
-    }
+/// The two stored files.
+#[derive(Debug, Default, PartialEq)]
+pub struct List {
+    /// The calls: what the program reads.
+    pub calls: Vec<u8>,
+    /// A line for each: what it must write.
+    pub lines: String,
 }
 
-/// Reads the call after its head.
-fn read_call(op: Op, words: &mut Words) -> Result<Call, String> {
-    let like = op.lengths(&vec![0; op.sizes().len()]);
-    let inputs = if op.is_lent() { like.inputs.len() } else { 1 };
-    let sizes = words.lengths(op.sizes().len())?;
-    let inputs = words.lengths(inputs)?;
-    let kinds = words.lengths(usize::from(op == Op::Step))?.first().copied().unwrap_or(0);
-    let outputs = words.lengths(like.outputs.len())?;
-    let perm = words.lengths(usize::from(op == Op::Qr))?.first().copied().unwrap_or(0);
-    let work = words.lengths(if op.is_lent() { 2 } else { 0 })?;
-    let inputs: Result<_, String> = inputs.into_iter().map(|len| words.reals(len)).collect();
-    let kinds: Result<_, String> = (0..kinds).map(|_| words.one().map(|kind| kind as u8)).collect();
-    let work = [work.first().copied().unwrap_or(0), work.get(1).copied().unwrap_or(0)];
-    Ok(Call { op, sizes, inputs: inputs?, kinds: kinds?, outputs, perm, work })
+/// A list of so many calls of each kind.
+pub fn list(seed: u64, each: usize) -> List {
+    let chosen = chosen(seed, each);
+    let start = [MARK, chosen.len() as u64];
+    let calls = start.into_iter().flat_map(u64::to_le_bytes).collect();
+    let mut list = List { calls, lines: String::new() };
+    for (index, (call, owed)) in chosen.into_iter().enumerate() {
+        let fill = Fill::new(seed, index as u64, call.op, &owed);
+        let stored = Stored { call, fill };
+        list.calls.extend(stored.record());
+        list.lines.push_str(&line(&stored, &owed));
+    }
+    list
 }
 
 /// What a list was found to hold.
@@ -176,34 +147,34 @@ pub struct Found {
     pub numbers: [[u64; 9]; OPS.len()],
     pub nan_ratios: u64,
     pub longest: usize,
+    /// Lines that are not those of the Rust's answers.
+    pub lines: u64,
+    /// Calls that the library answers otherwise than the Rust.
     pub different: u64,
 }
 
-/// Holds every call of a list against the Rust, and the library against the list.
-pub fn verify(bytes: &[u8], library: &Library) -> Result<Found, String> {
-    let mut words = Words(bytes);
-    if words.one()? != MARK {
+/// Holds every line of a list against the Rust's answer to its call, and the library too.
+pub fn verify(list: &List, library: &Library) -> Result<Found, String> {
+    let mut rest = Rest(&list.calls);
+    let start = rest.words(2)?;
+    if start[0] != MARK {
         return Err("no list".to_string());
     }
-    let (mut found, junk, calls) = (Found::default(), Junk::new(1), words.one()?);
-    for index in 0..calls {
-        let start = words.0;
-        let head = words.one()?;
-        let len = (head >> 16) as usize;
-        let op = OPS.get((head & 0xff) as usize).ok_or("no operation of that code")?;
-        let call = read_call(*op, &mut words)?;
-        let owed = answer::<Rust, Sound>(&call);
-        let made: Vec<u8> =
-            self::words(&call, &owed).into_iter().flat_map(u64::to_le_bytes).collect();
-        let stored = start.get(..8 * len).ok_or("the list is cut short")?;
-        let mut draw = Draw::new(1, *op, "replay", index);
-        let differs = !compare(library, &call, &owed, &junk, &mut draw).is_empty();
+    let mut lines = list.lines.split_inclusive('\n');
+    let (mut found, junk) = (Found::default(), Junk::new(1));
+    for index in 0..start[1] {
+        let before = rest.0.len();
+        let stored = stored::next(&mut rest)?;
+        let (call, owed) = (&stored.call, answer::<Rust, Sound>(&stored.call));
+        let mut draw = Draw::new(1, call.op, "replay", index);
+        let differs = !compare(library, call, &owed, &junk, &mut draw).is_empty();
         found.calls += 1;
-        found.numbers[op.code()][owed.number as usize] += 1;
+        found.numbers[call.op.code()][owed.number as usize] += 1;
         found.nan_ratios += u64::from(owed.tally.nan_ratios > 0);
-        found.longest = found.longest.max(len);
-        found.different += u64::from(differs || made != stored);
-        words.0 = &start[8 * len..];
+        found.longest = found.longest.max(before - rest.0.len());
+        found.lines += u64::from(lines.next() != Some(&line(&stored, &owed)));
+        found.different += u64::from(differs);
     }
-    if words.0.is_empty() { Ok(found) } else { Err("words after the last call".to_string()) }
+    found.lines += lines.count() as u64;
+    if rest.0.is_empty() { Ok(found) } else { Err("bytes after the last call".to_string()) }
 }

@@ -1,0 +1,182 @@
+// Runs a stored call through the C interface on memory full of junk.
+use libc::STDOUT_FILENO;
+use replay_list::Call;
+use replay_list::Values;
+use replay_list::digest_of;
+use replay_list::first_output;
+use replay_list::junk;
+use replay_list::kinds;
+use replay_list::length_at;
+use replay_list::mark;
+use replay_list::mix_float;
+use replay_list::mix_kinds;
+use replay_list::mix_mark;
+use replay_list::mix_output;
+use replay_list::mix_places;
+use replay_list::mix_room;
+use replay_list::mix_values;
+use replay_list::output;
+use replay_list::part;
+use replay_list::places;
+use replay_list::room;
+use replay_list::size;
+
+// A u32 as a word.
+fn long(x: u32) -> u64 {
+    x as u64
+}
+
+// Writes a call's number, with which its digest starts.
+fn told(number: u32) -> u64 {
+    io::print_decimal(STDOUT_FILENO, long(number));
+    digest_of(number)
+}
+
+// The root of the first value, the sum or the norm of an input.
+fn run_real(operation: usize, call: &Call, values: &Values) -> f64 {
+    if operation == 0 {
+        return gritstrut::gritstrut_sqrt(values[0]);
+    }
+    if operation == 1 {
+        return gritstrut::gritstrut_sum(part(call, values, 0));
+    }
+    gritstrut::gritstrut_norm(part(call, values, 0))
+}
+
+// Householder QR, whose last output and permutation only this has.
+fn run_qr(
+    call: &Call,
+    values: &Values,
+    r: &mut [f64],
+    u: &mut [f64],
+    w: &mut [f64],
+    iw: &mut [u32],
+) -> u64 {
+    let m = size(call, 0);
+    let n = size(call, 1);
+    let a = part(call, values, 0);
+    let bs = length_at(call, 4, 1200);
+    let perms = length_at(call, 5, 551);
+    let mut b = output(call);
+    let mut perm = places(call);
+    let mut rank = mark(call);
+    let number = gritstrut::gritstrut_qr(
+        m,
+        n,
+        a,
+        r,
+        &mut perm[..perms],
+        u,
+        &mut b[..bs],
+        &mut rank,
+        w,
+        iw,
+    );
+    let d = mix_mark(told(number), rank);
+    mix_places(mix_output(d, &b), &perm)
+}
+
+// The number of NNLS and its counts.
+fn told_counts(number: u32, rounds: u32, factorings: u32) -> u64 {
+    mix_mark(mix_mark(told(number), rounds), factorings)
+}
+
+// The number of a step, its relaxation and the kinds, which it has read.
+fn told_step(number: u32, relaxation: f64, kinds: &[u8]) -> u64 {
+    mix_kinds(mix_float(told(number), relaxation), kinds)
+}
+
+// The approximation B: the identity, a product, the factor, or the update of the matrix in x.
+fn run_hessian(
+    operation: usize,
+    call: &Call,
+    values: &Values,
+    x: &mut [f64],
+    w: &mut [f64],
+    iw: &mut [u32],
+) -> u64 {
+    let n = size(call, 0);
+    let a = part(call, values, 0);
+    let b = part(call, values, 1);
+    let c = part(call, values, 2);
+    match operation {
+        8 => told(gritstrut::gritstrut_identity(n, x, w, iw)),
+        9 => told(gritstrut::gritstrut_times(n, a, b, x, w, iw)),
+        10 => told(gritstrut::gritstrut_cholesky(n, a, x, w, iw)),
+        _ => told(gritstrut::gritstrut_update(n, x, b, c, w, iw)),
+    }
+}
+
+// A call that is lent workspaces.
+fn run_any(
+    operation: usize,
+    call: &Call,
+    values: &Values,
+    x: &mut [f64],
+    y: &mut [f64],
+    w: &mut [f64],
+    iw: &mut [u32],
+) -> u64 {
+    let i = size(call, 0);
+    let j = size(call, 1);
+    let k = size(call, 2);
+    let l = size(call, 3);
+    let a = part(call, values, 0);
+    let b = part(call, values, 1);
+    let c = part(call, values, 2);
+    let d = part(call, values, 3);
+    let e = part(call, values, 4);
+    let f = part(call, values, 5);
+    match operation {
+        3 => run_qr(call, values, x, y, w, iw),
+        4 => {
+            let mut p = mark(call);
+            let mut q = mark(call);
+            let number = gritstrut::gritstrut_nnls(i, j, k, a, b, x, &mut p, &mut q, w, iw);
+            told_counts(number, p, q)
+        }
+        5 => told(gritstrut::gritstrut_ldp(i, j, a, b, x, y, w, iw)),
+        6 => told(gritstrut::gritstrut_lsi(i, j, k, a, b, c, d, x, y, w, iw)),
+        7 => told(gritstrut::gritstrut_lsei(i, j, k, l, a, b, c, d, e, f, x, y, w, iw)),
+        12 => {
+            let g = kinds(call);
+            let mut p = junk(call);
+            let number = gritstrut::gritstrut_step(i, j, a, b, g, c, d, e, f, x, y, &mut p, w, iw);
+            told_step(number, p, g)
+        }
+        _ => run_hessian(operation, call, values, x, w, iw),
+    }
+}
+
+// Lends a call its outputs and workspaces, and mixes all that they hold afterwards.
+fn run_lent(operation: usize, call: &Call, values: &Values) -> u64 {
+    let xs = length_at(call, 2, 1200);
+    let ys = length_at(call, 3, 1200);
+    let ws = length_at(call, 0, 8231);
+    let iws = length_at(call, 1, 551);
+    let mut x = first_output(operation, call, values);
+    let mut y = output(call);
+    let mut w = room(call);
+    let mut iw = places(call);
+    let d = run_any(
+        operation,
+        call,
+        values,
+        &mut x[..xs],
+        &mut y[..ys],
+        &mut w[..ws],
+        &mut iw[..iws],
+    );
+    mix_places(mix_room(mix_output(mix_output(d, &x), &y), &w), &iw)
+}
+
+// Runs a call, writes its number, and gives the digest of all that it left, its inputs last.
+pub fn run(operation: usize, call: &Call, values: &Values) -> u64 {
+    if operation < 3 {
+        return mix_values(
+            mix_float(told(0), run_real(operation, call, values)),
+            values,
+        );
+    }
+    mix_values(run_lent(operation, call, values), values)
+}

@@ -1,0 +1,128 @@
+//! What a call leaves in the memory of the program `replay`, by the Rust's answer, and its digest.
+
+use crate::stored::{BYTES, Fill, HEADER, NAN, Stored, pattern};
+use reference::call::{Answer, Edge, Sound};
+use reference::shape::{Op, WORKSPACES};
+
+/// A prime, and a number whose powers are all numbers below it but 0.
+const PRIME: u64 = 4_294_967_291;
+const FACTOR: u64 = 1_664_525;
+
+/// The memory of an output, of the two workspaces, and of the permutation.
+const OUTPUT: usize = 1_200;
+const ROOMS: [usize; 2] = [8_231, 551];
+
+/// A digest: two numbers below the prime, one of remainders and one of quotients.
+#[derive(Debug, Clone, Copy, PartialEq)]
+pub struct Digest {
+    quotients: u64,
+    remainders: u64,
+}
+
+impl Default for Digest {
+    fn default() -> Self {
+        Self { quotients: 1, remainders: 1 }
+    }
+}
+
+impl Digest {
+    /// A word more.
+    pub fn mix(&mut self, word: u64) {
+        self.quotients = (self.quotients * FACTOR + word / PRIME) % PRIME;
+        self.remainders = (self.remainders * FACTOR + word % PRIME) % PRIME;
+    }
+
+    /// Words more.
+    pub fn mix_all(&mut self, words: impl IntoIterator<Item = u64>) {
+        words.into_iter().for_each(|word| self.mix(word));
+    }
+
+    /// The digest as one number.
+    pub fn number(self) -> u64 {
+        self.quotients << 32 | self.remainders
+    }
+}
+
+/// So many words of memory: those given, and then what it held before.
+fn memory(front: &[f64], before: u64, len: usize) -> Vec<u64> {
+    let mut words = vec![before; len];
+    for (to, &value) in words.iter_mut().zip(front) {
+        *to = pattern(value);
+    }
+    words
+}
+
+/// A workspace: cleared in front after the arithmetic, and as it was before elsewhere.
+fn room(which: usize, number: u32, before: u64) -> Vec<u64> {
+    let cleared = if Sound::clears(number) { WORKSPACES[which] } else { 0 };
+    let mut words = vec![before; ROOMS[which]];
+    words[..cleared].fill(0);
+    words
+}
+
+/// The single results, the last output and the permutation of QR, the kinds of a step.
+fn mix_own(digest: &mut Digest, stored: &Stored, owed: &Answer) {
+    let Stored { call, fill: Fill { output, mark, .. } } = stored;
+    let counts = |i: usize| u64::from(owed.counts.get(i).copied().unwrap_or(*mark));
+    match call.op {
+        Op::Qr => {
+            digest.mix(counts(0));
+            digest.mix_all(memory(written(owed, 2), *output, OUTPUT));
+            let mut perm = vec![u64::from(*mark); ROOMS[1]];
+            for (to, &column) in perm.iter_mut().zip(&owed.perm) {
+                *to = u64::from(column);
+            }
+            digest.mix_all(perm);
+        }
+        Op::Nnls => digest.mix_all([counts(0), counts(1)]),
+        Op::Step => {
+            digest.mix(owed.value.map_or(*output, pattern));
+            digest.mix(call.kinds.len() as u64);
+            digest.mix_all(call.kinds.iter().map(|&kind| u64::from(kind)));
+        }
+        _ => {}
+    }
+}
+
+/// An output of an answer; none after a refusal.
+fn written(owed: &Answer, i: usize) -> &[f64] {
+    owed.outputs.get(i).map_or(&[], Vec::as_slice)
+}
+
+/// The first output: `update` has its matrix there before the call.
+fn first<'a>(stored: &'a Stored, owed: &'a Answer) -> &'a [f64] {
+    match stored.call.op {
+        Op::Update if owed.number != 0 => &stored.call.inputs[0],
+        _ => written(owed, 0),
+    }
+}
+
+/// The floats that the program reads from a call's bytes, with zeros after them.
+fn values(stored: &Stored) -> Vec<u64> {
+    let mut bytes = stored.bytes();
+    bytes.resize(BYTES, 0);
+    let word = |bytes: &[u8]| u64::from_le_bytes(bytes.try_into().expect("eight bytes"));
+    bytes[HEADER..].chunks(8).map(|bytes| pattern(f64::from_bits(word(bytes)))).collect()
+}
+
+/// The digest of all that a call leaves, by its answer.
+pub fn digest(stored: &Stored, owed: &Answer) -> u64 {
+    let (mut digest, fill) = (Digest::default(), stored.fill);
+    digest.mix(u64::from(owed.number));
+    if stored.call.op.is_lent() {
+        mix_own(&mut digest, stored, owed);
+        digest.mix_all(memory(first(stored, owed), fill.output, OUTPUT));
+        digest.mix_all(memory(written(owed, 1), fill.output, OUTPUT));
+        digest.mix_all(room(0, owed.number, fill.room));
+        digest.mix_all(room(1, owed.number, u64::from(fill.mark)));
+    } else {
+        digest.mix(owed.value.map_or(NAN, pattern));
+    }
+    digest.mix_all(values(stored));
+    digest.number()
+}
+
+/// The line that the program owes for a call.
+pub fn line(stored: &Stored, owed: &Answer) -> String {
+    format!("{} {} {:016x}\n", stored.call.op.code(), owed.number, digest(stored, owed))
+}
