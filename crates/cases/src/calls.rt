@@ -6,21 +6,21 @@ use record_answer::float_room;
 use record_answer::word_room;
 
 // What NNLS answers.
-pub struct Counted {
+pub struct NnlsAnswer {
     pub number: u32,
     pub rounds: u32,
     pub factorings: u32,
 }
 
 // What the step answers.
-pub struct Stepped {
+pub struct StepAnswer {
     pub number: u32,
     pub relaxation: f64,
     pub d: f64,
 }
 
 // NNLS on one row of ones, with as many columns as x has, two at most.
-pub fn nnls(b: f64, k: usize, x: &mut [f64]) -> Counted
+pub fn nnls(b: f64, k: usize, x: &mut [f64]) -> NnlsAnswer
     requires { ⌜ length (now x) ≤ 2 ⌝ }
 {
     let a = [1.0, 1.0];
@@ -42,7 +42,7 @@ pub fn nnls(b: f64, k: usize, x: &mut [f64]) -> Counted
         &mut w,
         &mut iw,
     );
-    Counted {
+    NnlsAnswer {
         number: number,
         rounds: rounds,
         factorings: factorings,
@@ -90,7 +90,7 @@ pub fn step(
     jacobian: &[f64],
     multipliers: &mut [f64],
     w: &mut [f64],
-) -> Stepped {
+) -> StepAnswer {
     let one = [1.0];
     let lower = [-1.0 / 0.0];
     let upper = [1.0 / 0.0];
@@ -113,7 +113,7 @@ pub fn step(
         w,
         &mut iw,
     );
-    Stepped {
+    StepAnswer {
         number: number,
         relaxation: relaxation,
         d: d[0],

@@ -1,8 +1,8 @@
 // The cases worked by hand (docs/RULES.md), called through the C interface. The definitions are proved to answer the same
 // table (crates/worked); here the compiled code is held to it.
 use crate::calls;
-use crate::calls::Counted;
-use crate::calls::Stepped;
+use crate::calls::NnlsAnswer;
+use crate::calls::StepAnswer;
 use crate::lines::end_line;
 use crate::lines::tell_call;
 use crate::lines::tell_count;
@@ -15,7 +15,7 @@ ghost use lib.ListN.{length};
 // ---- nonnegative least squares
 
 // What NNLS left.
-fn tell_counted(name: &[u8], counted: Counted, x: &[f64]) {
+fn tell_counted(name: &[u8], counted: NnlsAnswer, x: &[f64]) {
     tell_number(name, counted.number);
     if counted.number == 0 {
         tell_floats(b"x", x);
@@ -148,7 +148,7 @@ fn tell_updates() {
 // ---- the step
 
 // What the step left.
-fn tell_stepped(name: &[u8], stepped: Stepped, multipliers: &[f64]) {
+fn tell_stepped(name: &[u8], stepped: StepAnswer, multipliers: &[f64]) {
     tell_number(name, stepped.number);
     if stepped.number == 0 {
         tell_floats(b"relaxation", &[stepped.relaxation]);

@@ -15,16 +15,16 @@ use Rattle.record_read.specs.Input.{decode}
 use Rattle.step_call.specs.declared.Outcome.{Outcome}
 use Rattle.step_call.specs.declared.Outcome.the-variants.{Done, Refused}
 use Rattle.step_rows.specs.Problem.{problemOf}
-use Rattle.record_answer.specs.Program.{refusedText, doneText, stepText, decodedText, output}
+use Rattle.record_answer.specs.Program.{refusedText, doneText, stepText, decodedText, programText}
 use Rattle.record_answer.specs.Claims.{OneResponse}
-use Rattle.record_answer.specs.inner.Work.{outcomeAnswer, stepFrom}
+use Rattle.record_answer.specs.inner.Work.{stepAnswerOf, stepFrom}
 
 never : {A : Type 0} {v : Float} {r : Refusal} → Done v ≡ Refused r → A
 never e = let z : _≡_ {A = ℕ} 0 1 = cc in absurd (omega arith)
 
 -- what a call of the step promises tells its whole answer
 pub answer-is : (c : Answer Step) (e : Outcome) (d d' l l' w w' : List Float) (iw iw' : List ℕ)
-    → Steps c e d d' l l' w w' iw iw' → outcomeAnswer e d' l' ≡ c
+    → Steps c e d d' l l' w w' iw iw' → stepAnswerOf e d' l' ≡ c
 answer-is (done s) (Done r) d d' l l' w w' iw iw' h =
     let q : r ≡ s .relaxation = cc (h .the-outcome) in
     ap done (rw (q, h .the-d, h .the-multipliers))
@@ -41,20 +41,20 @@ parts-are m n k marks vals factor gradient kinds values jacobian lower upper f g
 
 -- ---- its text
 
-pub done-text : (e : Outcome) (r : Float) (d l : List Float) (c : Answer Step) → e ≡ Done r → outcomeAnswer e d l ≡ c → doneText (stepFrom r d l) ≡ stepText c
-done-text e r d l c q h = ap stepText (sym (ap (λ (x : Outcome). outcomeAnswer x d l) q) ∙ h)
+pub done-text : (e : Outcome) (r : Float) (d l : List Float) → e ≡ Done r → doneText (stepFrom r d l) ≡ stepText (stepAnswerOf e d l)
+done-text e r d l q = ap (λ (x : Outcome). stepText (stepAnswerOf x d l)) (sym q)
 
-pub refused-text : (e : Outcome) (k : Refusal) (d l : List Float) (c : Answer Step) → e ≡ Refused k → outcomeAnswer e d l ≡ c → refusedText (numberOf k) ≡ stepText c
-refused-text e k d l c q h = ap stepText (sym (ap (λ (x : Outcome). outcomeAnswer x d l) q) ∙ h)
+pub refused-text : (e : Outcome) (k : Refusal) (d l : List Float) → e ≡ Refused k → refusedText (numberOf k) ≡ stepText (stepAnswerOf e d l)
+refused-text e k d l q = ap (λ (x : Outcome). stepText (stepAnswerOf x d l)) (sym q)
 
 -- ---- the whole output, from what `decode` answers
 
-pub output-is : (bs : List ℕ) (r q : Input) (marks : List ℕ) (vals : List Float) → r ≡ q → decodedIn r marks vals ≡ decode bs → decodedText (decodedIn q marks vals) ≡ output bs
-unfolding output
+pub output-is : (bs : List ℕ) (r q : Input) (marks : List ℕ) (vals : List Float) → r ≡ q → decodedIn r marks vals ≡ decode bs → decodedText (decodedIn q marks vals) ≡ programText bs
+unfolding programText
 output-is bs r q marks vals e h = ap decodedText (sym (ap (λ (x : Input). decodedIn x marks vals) e) ∙ h)
 
 -- the promise allows one answer only
 pub one-response : OneResponse
 one-response bs r q out out₁ out₂ h k =
     let e : r ≡ q = h .the-count ∙ sym (k .the-count) in
-    (e, h .the-buffer ∙ ap (λ (j : ℕ). output bs ++ drop j out) e ∙ sym (k .the-buffer))
+    (e, h .the-buffer ∙ ap (λ (j : ℕ). programText bs ++ drop j out) e ∙ sym (k .the-buffer))

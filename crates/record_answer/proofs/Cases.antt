@@ -9,26 +9,29 @@ use Rattle.nnls.specs.Nnls.{residual, dualOf, choose, ratioOf, ranksBefore, blo
 use Rattle.step_rows.specs.Problem.{matrixOf, sidesOf, each, unit, boundRows, equalityRows, inequalityRows, opposedRows, loosenedRow, deltaRows, relaxedRows}
 use Rattle.step.specs.Step.{target, inOrder, exactStep, exact, relaxedMatrix, paired, clamped, relaxedStep, relaxed, step}
 use Rattle.endian.specs.Little.{little, bytes}
-use Rattle.record_read.specs.Input.{spareZero, isInside, given, isSound, problemFrom, areGiven, isComplete, walk, isHead, decode}
+use Rattle.record_read.specs.Input.{spareZero, isInside, given, isSound, givenProblem, areGiven, isComplete, walk, isHead, decode}
 use Rattle.nnls_passive.specs.Passive.{members, solveOf}
 use Rattle.householder.specs.Qr.{along, image, columnNorm, pivot, swapped, reflector, pinned, advance, steps, factor, forth, back, applyQt, applyQ, upward, solveR, downward, solveRt, solve}
 use Rattle.lsei.specs.Lsei.{dualMatrix, dualSide, dualResidual, primal, ldp, reducedRows, reducedSides, restored, lsiFrom, lsi, fixed, turned, tailOf, shifted, gradient, equalityMultipliers, rejoined, lseiFrom, lsei}
 use Rattle.record_answer.specs.Text.{ascii, decimalFrom, decimalText, floatText, lineText, linesText}
-use Rattle.record_answer.specs.Program.{faultText, refusedText, doneText, output}
-use Rattle.record_answer.specs.Cases.{stepped, answered, spared, example, faults, outside}
+use Rattle.record_answer.specs.Program.{faultText, refusedText, doneText, programText}
+use Rattle.record_answer.specs.Cases.{withText, spared, ruleCase, faultCases, sizeCases, stepCases, CasesHold}
 
-pub faults-hold : map answered faults ≡ faults
-unfolding bytes spared output decode isHead spareZero little walk isSound isInside given isComplete areGiven tab ascii decimalFrom decimalText faultText
+faults-hold : map withText faultCases ≡ faultCases
+unfolding bytes spared programText decode isHead spareZero little walk isSound isInside given isComplete areGiven tab ascii decimalFrom decimalText faultText
 faults-hold = refl
 
-pub outside-hold : map answered outside ≡ outside
-unfolding bytes spared output decode isHead spareZero little tab ascii decimalFrom decimalText refusedText
-outside-hold = refl
+sizes-hold : map withText sizeCases ≡ sizeCases
+unfolding bytes spared programText decode isHead spareZero little tab ascii decimalFrom decimalText refusedText
+sizes-hold = refl
 
-pub example-holds : answered example ≡ example
-unfolding add sub mul div neg lt le eq isNan sum round size units odd span climb trailingZeros ofBits ofFields toBits Σ tab dot gather scatter rows grid row column transposed floorRoot rootOf sqrtOf norm along image columnNorm pivot swapped reflector pinned advance steps factor forth back applyQt applyQ upward solveR downward solveRt solve residual dualOf members solveOf choose ratioOf ranksBefore blocking stepTo nextX nextMark moveX moveP judge tryNext tries turnNext turns lastly pass roundNext rounds activeSet nnls dualMatrix dualSide dualResidual primal ldp reducedRows reducedSides restored lsiFrom lsi fixed turned tailOf shifted gradient equalityMultipliers rejoined lseiFrom lsei matrixOf sidesOf each unit boundRows equalityRows inequalityRows opposedRows loosenedRow deltaRows relaxedRows target inOrder exactStep exact relaxedMatrix paired clamped relaxedStep relaxed step bytes spared output decode isHead spareZero little walk isSound isInside given isComplete areGiven problemFrom ascii decimalFrom decimalText floatText lineText linesText refusedText doneText
-example-holds = refl
+rule-holds : withText ruleCase ≡ ruleCase
+unfolding add sub mul div neg lt le eq isNan sum round size units odd span climb trailingZeros ofBits ofFields toBits Σ tab dot gather scatter rows grid row column transposed floorRoot rootOf sqrtOf norm along image columnNorm pivot swapped reflector pinned advance steps factor forth back applyQt applyQ upward solveR downward solveRt solve residual dualOf members solveOf choose ratioOf ranksBefore blocking stepTo nextX nextMark moveX moveP judge tryNext tries turnNext turns lastly pass roundNext rounds activeSet nnls dualMatrix dualSide dualResidual primal ldp reducedRows reducedSides restored lsiFrom lsi fixed turned tailOf shifted gradient equalityMultipliers rejoined lseiFrom lsei matrixOf sidesOf each unit boundRows equalityRows inequalityRows opposedRows loosenedRow deltaRows relaxedRows target inOrder exactStep exact relaxedMatrix paired clamped relaxedStep relaxed step bytes spared programText decode isHead spareZero little walk isSound isInside given isComplete areGiven givenProblem ascii decimalFrom decimalText floatText lineText linesText refusedText doneText
+rule-holds = refl
 
-pub stepped-hold : map answered stepped ≡ stepped
-unfolding add sub mul div neg lt le eq isNan sum round size units odd span climb trailingZeros ofBits ofFields toBits Σ tab dot gather scatter rows grid row column transposed floorRoot rootOf sqrtOf norm along image columnNorm pivot swapped reflector pinned advance steps factor forth back applyQt applyQ upward solveR downward solveRt solve residual dualOf members solveOf choose ratioOf ranksBefore blocking stepTo nextX nextMark moveX moveP judge tryNext tries turnNext turns lastly pass roundNext rounds activeSet nnls dualMatrix dualSide dualResidual primal ldp reducedRows reducedSides restored lsiFrom lsi fixed turned tailOf shifted gradient equalityMultipliers rejoined lseiFrom lsei matrixOf sidesOf each unit boundRows equalityRows inequalityRows opposedRows loosenedRow deltaRows relaxedRows target inOrder exactStep exact relaxedMatrix paired clamped relaxedStep relaxed step bytes spared output decode isHead spareZero little walk isSound isInside given isComplete areGiven problemFrom ascii decimalFrom decimalText floatText lineText linesText refusedText doneText
-stepped-hold = refl
+steps-hold : map withText stepCases ≡ stepCases
+unfolding add sub mul div neg lt le eq isNan sum round size units odd span climb trailingZeros ofBits ofFields toBits Σ tab dot gather scatter rows grid row column transposed floorRoot rootOf sqrtOf norm along image columnNorm pivot swapped reflector pinned advance steps factor forth back applyQt applyQ upward solveR downward solveRt solve residual dualOf members solveOf choose ratioOf ranksBefore blocking stepTo nextX nextMark moveX moveP judge tryNext tries turnNext turns lastly pass roundNext rounds activeSet nnls dualMatrix dualSide dualResidual primal ldp reducedRows reducedSides restored lsiFrom lsi fixed turned tailOf shifted gradient equalityMultipliers rejoined lseiFrom lsei matrixOf sidesOf each unit boundRows equalityRows inequalityRows opposedRows loosenedRow deltaRows relaxedRows target inOrder exactStep exact relaxedMatrix paired clamped relaxedStep relaxed step bytes spared programText decode isHead spareZero little walk isSound isInside given isComplete areGiven givenProblem ascii decimalFrom decimalText floatText lineText linesText refusedText doneText
+steps-hold = refl
+
+pub cases-hold : CasesHold
+cases-hold = record { rule = rule-holds; faults = faults-hold; sizes = sizes-hold; steps = steps-hold }

@@ -15,7 +15,7 @@ use Rattle.workspace.specs.Tables.{Answer, call, isDimension, isConstraints, is
 use Rattle.step.specs.Step.{step}
 use Rattle.step_call.specs.Promise.{areKinds, areLengths, stepCall}
 use Rattle.record_read.specs.inner.Tables.{kindAt, problemIn}
-use Rattle.record_read.proofs.Blocks.{square}
+use Rattle.record_read.proofs.Areas.{square}
 use Rattle.record_read.proofs.Heads.{InTable}
 
 passed : {A : Type 0} (s l r k : Bool) (a : Answer A) → s ≡ true → l ≡ true → r ≡ true → k ≡ true → call s l r k a ≡ a

@@ -8,7 +8,7 @@ use lib.ListN.{length, take, drop, set, getD, length-append, length-take, drop-o
 use lib.Seq.{drop-cons}
 use Rattle.endian.specs.Little.{placed}
 use Rattle.endian.proofs.Placed.{placed-none, placed-cons, placed-then, length-placed}
-use Rattle.record_answer.specs.Program.{output}
+use Rattle.record_answer.specs.Program.{programText}
 use Rattle.record_answer.specs.Promise.{Responds}
 use Rattle.record_answer.specs.inner.Work.{Wrote}
 
@@ -39,7 +39,7 @@ wrote-all {b} {t} {a} {r} w =
     (omega (arith, w .fits), omega (arith, w .fits, length-take r a))
 
 -- the program's output, and the rest as it was
-pub responds : {b a : List ℕ} {r : ℕ} (bs t : List ℕ) → t ≡ output bs → Wrote b 0 t a r → Responds bs r b a × ((r ≤ length a) × (r ≡ length (take r a)))
+pub responds : {b a : List ℕ} {r : ℕ} (bs t : List ℕ) → t ≡ programText bs → Wrote b 0 t a r → Responds bs r b a × ((r ≤ length a) × (r ≡ length (take r a)))
 unfolding placed
 responds {b} {a} {r} bs t e w =
     let z : r ≡ length t = w .until ∙ zero-add (length t) in

@@ -4,11 +4,11 @@ use mathlib.Core.Path.{_≡_}
 use mathlib.Core.List.{List, _++_}
 use Prim.Native.Nat.{ℕ}
 use lib.ListN.{length}
-use Rattle.record_answer.specs.Program.{output}
+use Rattle.record_answer.specs.Program.{programText}
 use Rattle.record_answer.specs.Promise.{Responds}
 
 abbrev pub FirstBytesDecide : Type 0
-FirstBytesDecide = (p q : List ℕ) → length p ≡ 9248 → output (p ++ q) ≡ output p
+FirstBytesDecide = (p q : List ℕ) → length p ≡ 9248 → programText (p ++ q) ≡ programText p
 
 -- two calls on the same bytes and buffer answer and leave the same
 abbrev pub OneResponse : Type 0

@@ -31,5 +31,5 @@ decodedText tooLarge = refusedText 1
 decodedText (problem p) = stepText (step p .answer)
 
 -- the program: the bytes written for the bytes read
-unfoldable pub output : List ℕ → List ℕ
-output bs = decodedText (decode bs)
+unfoldable pub programText : List ℕ → List ℕ
+programText bs = decodedText (decode bs)

@@ -3,15 +3,17 @@ mod text;
 
 use record_read::tables;
 ghost use mathlib.Core.Path.{_≡_};
+ghost use mathlib.Core.List.{[], _∷_, _++_};
 ghost use Prim.Native.Nat.{_+_, _≤_, _<_};
 ghost use lib.ListN.{length, take};
 ghost use Rattle.nnls.specs.Counted.{Counted};
 ghost use Rattle.workspace.specs.Tables.{numberOf};
 ghost use Rattle.step.specs.Step.{step};
 ghost use Rattle.record_read.specs.inner.Tables.{PLACES, problemIn};
+ghost use Rattle.record_answer.specs.Text.{decimalText};
 ghost use Rattle.record_answer.specs.Program.{faultText, refusedText, doneText, stepText};
 ghost use Rattle.record_answer.specs.Promise.{Responds};
-ghost use Rattle.record_answer.specs.inner.Work.{Wrote, outcomeAnswer, stepFrom};
+ghost use Rattle.record_answer.specs.inner.Work.{Wrote, stepAnswerOf, stepFrom};
 use crate::text::put_byte;
 use crate::text::put_decimal;
 use crate::text::put_float;
@@ -21,14 +23,22 @@ use workspace::Refusal;
 
 // ---- the text
 
+// A text and a number, as a line.
+fn put_numbered(out: &mut [u8], text: &[u8], k: usize) -> usize
+    requires { ⌜ (2048 ≤ length (now out)) × (length (now text) ≤ 16) ⌝ }
+    ensures { λ r. ⌜ Wrote (now (out .entry)) 0 (now (text .entry) ++ (decimalText k ++ (10 ∷ []))) (now (out .exit)) r ⌝ }
+{
+    let a = put_text(out, 0, text);
+    let b = put_decimal(out, a, k);
+    put_byte(out, b, b'\n')
+}
+
 // `refused 9 at K`
 fn put_fault(out: &mut [u8], k: usize) -> usize
     requires { ⌜ 2048 ≤ length (now out) ⌝ }
     ensures { λ r. ⌜ Wrote (now (out .entry)) 0 (faultText k) (now (out .exit)) r ⌝ }
 {
-    let a = put_text(out, 0, b"refused 9 at ");
-    let b = put_decimal(out, a, k);
-    put_byte(out, b, b'\n')
+    put_numbered(out, b"refused 9 at ", k)
 }
 
 // `refused N`
@@ -36,9 +46,7 @@ fn put_refused(out: &mut [u8], k: usize) -> usize
     requires { ⌜ 2048 ≤ length (now out) ⌝ }
     ensures { λ r. ⌜ Wrote (now (out .entry)) 0 (refusedText k) (now (out .exit)) r ⌝ }
 {
-    let a = put_text(out, 0, b"refused ");
-    let b = put_decimal(out, a, k);
-    put_byte(out, b, b'\n')
+    put_numbered(out, b"refused ", k)
 }
 
 // `refused N` of a refusal of the step.
@@ -59,6 +67,17 @@ fn put_done(out: &mut [u8], relaxation: f64, d: &[f64], multipliers: &[f64]) -> 
     let c = put_byte(out, b, b'\n');
     let e = put_lines(out, c, b'd', d);
     put_lines(out, e, b'm', multipliers)
+}
+
+// What the step answers, with the lists that it leaves.
+fn put_answer(out: &mut [u8], answer: step_call::Outcome, d: &[f64], multipliers: &[f64]) -> usize
+    requires { ⌜ (2048 ≤ length (now out)) × (length (now d) ≤ 16) × (length (now multipliers) ≤ 16) ⌝ }
+    ensures { λ r. ⌜ Wrote (now (out .entry)) 0 (stepText (stepAnswerOf answer (now (d .entry)) (now (multipliers .entry)))) (now (out .exit)) r ⌝ }
+{
+    match answer {
+        step_call::Outcome::Refused(k) => put_refusal(out, k),
+        step_call::Outcome::Done(relaxation) => put_done(out, relaxation, d, multipliers),
+    }
 }
 
 // ---- the step
@@ -88,7 +107,7 @@ fn solve(
 ) -> step_call::Outcome
     requires { ⌜ (m ≤ 16) × (0 < n) × (n ≤ 16) × (length (now marks) ≡ PLACES) × (length (now vals) ≡ PLACES) ⌝ }
     requires { ⌜ (length (now d) ≡ n) × (length (now multipliers) ≡ m) ⌝ }
-    ensures { λ r. ⌜ outcomeAnswer r (now (d .exit)) (now (multipliers .exit)) ≡ step (problemIn m n (now (marks .entry)) (now (vals .entry))) .answer ⌝ }
+    ensures { λ r. ⌜ stepAnswerOf r (now (d .exit)) (now (multipliers .exit)) ≡ step (problemIn m n (now (marks .entry)) (now (vals .entry))) .answer ⌝ }
 {
     let mut w = float_room();
     let mut iw = word_room();
@@ -128,10 +147,8 @@ fn put_step(m: usize, n: usize, marks: &[u8], vals: &[f64], out: &mut [u8]) -> u
     let mut l = sixteen();
     let ds = &mut d[..n];
     let ls = &mut l[..m];
-    match solve(m, n, marks, vals, ds, ls) {
-        step_call::Outcome::Refused(k) => put_refusal(out, k),
-        step_call::Outcome::Done(relaxation) => put_done(out, relaxation, ds, ls),
-    }
+    let answer = solve(m, n, marks, vals, ds, ls);
+    put_answer(out, answer, ds, ls)
 }
 
 // ---- the program

@@ -18,18 +18,18 @@ use Rattle.numbers.proofs.Cases.{lt-or-ge, eq-or-ne}
 use Rattle.numbers.proofs.Lists.{length-tab, getD-tab, tab-same, tab-of, grid-of, grid-same, index-lt}
 use Rattle.workspace.specs.Tables.{isDimension, isConstraints}
 use Rattle.workspace.proofs.Tests.{and-true}
-use Rattle.record_read.specs.declared.Block.{Block}
+use Rattle.record_read.specs.declared.Area.{Area}
 use Rattle.record_read.specs.declared.Spot.{Spot}
 use Rattle.record_read.specs.declared.Spot.the-variants.{Outside, At}
 use Rattle.record_read.specs.declared.Head.the-variants.{Unsound, TooLarge, Sizes}
 use Rattle.record_read.specs.declared.Input.the-variants.{Fault, Large, Whole}
-use Rattle.record_read.specs.Input.{tagOf, rowNumber, columnOf, valueOf, spareZero, recordAt, is, field, gives, given, isSome, isSound, orElse, kindOf, problemFrom, areGiven, isComplete, Decoded, fault, tooLarge, problem, walk, isHead, decode}
-use Rattle.record_read.specs.inner.Tables.{block, blockOf, ifSpot, within, spotOf, markOf, defaultAt, noMarks, defaults, kindAt, problemIn}
-use Rattle.record_read.specs.inner.Filling.{entryOf, kept, added, ifEntered, put, entered, ifHead, sizesOf, headOf, Filling, filling, ifFilling, onEntered, onHead, allMarked, closing, walkTables, decodeTables, stated}
+use Rattle.record_read.specs.Input.{recordTag, recordRow, recordColumn, recordValue, spareZero, recordAt, is, field, gives, given, isSome, isSound, orElse, kindOf, givenProblem, areGiven, isComplete, Decoded, fault, tooLarge, problem, walk, isHead, decode}
+use Rattle.record_read.specs.inner.Tables.{area, areaOf, ifSpot, spotIn, spotOf, tagMark, defaultAt, noMarks, defaultValues, kindAt, problemIn}
+use Rattle.record_read.specs.inner.Filling.{entryOf, kept, added, ifEntered, putAt, entered, ifHead, sizesOf, headOf, Filling, filling, ifFilling, onEntered, onHead, allMarked, closing, walkTables, decodeTables, stated}
 use Rattle.record_read.proofs.Entries.{mark-some}
-use Rattle.record_read.proofs.Blocks.{spot-within, room, within-in, square}
+use Rattle.record_read.proofs.Areas.{spot-within, room, within-in, square}
 use Rattle.record_read.proofs.Heads.{sizes-in, InTable}
-use Rattle.record_read.proofs.Places.{one-entry, one-field, block-field}
+use Rattle.record_read.proofs.Places.{one-entry, one-field, area-field}
 use Rattle.record_read.proofs.Inside.{isAt, inside-at}
 
 -- ---- what the tables hold after some records
@@ -37,27 +37,27 @@ use Rattle.record_read.proofs.Inside.{isAt, inside-at}
 -- the mark of a place
 abbrev markIn : Option (List ℕ) → ℕ
 markIn none = 0
-markIn (some r) = markOf (tagOf r)
+markIn (some r) = tagMark (recordTag r)
 
--- each entry of a block stands in its place
+-- each entry of an area stands in its place
 record Holds (m n : ℕ) (rs : List (List ℕ)) (marks : List ℕ) (vals : List Float) : Type 0 where
   marks-size : length marks ≡ 576
   vals-size : length vals ≡ 576
-  mark : (t i j p : ℕ) → within (blockOf m n t) i j ≡ At p → getD marks p 0 ≡ markIn (given rs t i j)
-  val : (t i j p : ℕ) → within (blockOf m n t) i j ≡ At p → getD vals p nan ≡ orElse (given rs t i j) (defaultAt n p)
+  mark : (t i j p : ℕ) → spotIn (areaOf m n t) i j ≡ At p → getD marks p 0 ≡ markIn (given rs t i j)
+  val : (t i j p : ℕ) → spotIn (areaOf m n t) i j ≡ At p → getD vals p nan ≡ orElse (given rs t i j) (defaultAt n p)
 
 zeros-at : (k p : ℕ) → _≡_ {A = ℕ} (getD (replicate k 0) p 0) 0
 zeros-at zero p = refl
 zeros-at (suc k) zero = refl
 zeros-at (suc k) (suc p) = zeros-at k p
 
-holds-none : (m n : ℕ) → m ≤ 16 → n ≤ 16 → Holds m n [] noMarks (defaults n)
-unfolding noMarks defaults given
+holds-none : (m n : ℕ) → m ≤ 16 → n ≤ 16 → Holds m n [] noMarks (defaultValues n)
+unfolding noMarks defaultValues given
 holds-none m n hm hn = record {
   marks-size = length-replicate {A = ℕ} 576 0;
   vals-size = length-tab 576 (defaultAt n);
   mark = λ t i j p h. zeros-at 576 p;
-  val = λ t i j p h. getD-tab 576 (defaultAt n) nan p (within-in (blockOf m n t) i j p (room m n t hm hn) h);
+  val = λ t i j p h. getD-tab 576 (defaultAt n) nan p (within-in (areaOf m n t) i j p (room m n t hm hn) h);
 }
 
 given-here : (r : List ℕ) (rs : List (List ℕ)) (t i j : ℕ) → gives r t i j ≡ true → given (r ∷ rs) t i j ≡ some r
@@ -68,51 +68,51 @@ given-skip : (r : List ℕ) (rs : List (List ℕ)) (t i j : ℕ) → gives r t i
 unfolding given
 given-skip r rs t i j e = rw e
 
-module _ (m n : ℕ) (hm : m ≤ 16) (hn : n ≤ 16) (r : List ℕ) (q : ℕ) (e : within (blockOf m n (tagOf r)) (rowNumber r) (columnOf r) ≡ At q) where
+module _ (m n : ℕ) (hm : m ≤ 16) (hn : n ≤ 16) (r : List ℕ) (q : ℕ) (e : spotIn (areaOf m n (recordTag r)) (recordRow r) (recordColumn r) ≡ At q) where
   -- an entry with the record's place is the one that it gives
-  gives-here : (t i j : ℕ) → within (blockOf m n t) i j ≡ At q → gives r t i j ≡ true
+  gives-here : (t i j : ℕ) → spotIn (areaOf m n t) i j ≡ At q → gives r t i j ≡ true
   gives-here t i j h =
-      let o = one-entry m n (tagOf r) (rowNumber r) (columnOf r) t i j q hm hn e h in
-      let f = one-field m n (tagOf r) (rowNumber r) (columnOf r) t i j q hm hn e h in
+      let o = one-entry m n (recordTag r) (recordRow r) (recordColumn r) t i j q hm hn e h in
+      let f = one-field m n (recordTag r) (recordRow r) (recordColumn r) t i j q hm hn e h in
       simp (eq-eqb _ _ f, eq-eqb _ _ (o .rows), eq-eqb _ _ (o .cols))
 
   -- and no other is
-  gives-not : (t i j p : ℕ) → within (blockOf m n t) i j ≡ At p → (p ≡ q → ⊥) → gives r t i j ≡ false
+  gives-not : (t i j p : ℕ) → spotIn (areaOf m n t) i j ≡ At p → (p ≡ q → ⊥) → gives r t i j ≡ false
   gives-not t i j p h x = go (gives r t i j) refl
     where
       go : (b : Bool) → gives r t i j ≡ b → b ≡ false
       go true g =
-          let u = and-true (eqb (field (tagOf r)) (field t)) (eqb (rowNumber r) i && eqb (columnOf r) j) g in
-          let v = and-true (eqb (rowNumber r) i) (eqb (columnOf r) j) (u .1) in
-          let f : field (tagOf r) ≡ field t = eqb-true _ _ (u .0) in
-          let b : blockOf m n (tagOf r) ≡ blockOf m n t = sym (block-field m n (tagOf r)) ∙ ap (blockOf m n) f ∙ block-field m n t in
-          let s : within (blockOf m n t) i j ≡ At q = rw (← b, ← eqb-true (rowNumber r) i (v .0), ← eqb-true (columnOf r) j (v .1)) e in
+          let u = and-true (eqb (field (recordTag r)) (field t)) (eqb (recordRow r) i && eqb (recordColumn r) j) g in
+          let v = and-true (eqb (recordRow r) i) (eqb (recordColumn r) j) (u .1) in
+          let f : field (recordTag r) ≡ field t = eqb-true _ _ (u .0) in
+          let b : areaOf m n (recordTag r) ≡ areaOf m n t = sym (area-field m n (recordTag r)) ∙ ap (areaOf m n) f ∙ area-field m n t in
+          let s : spotIn (areaOf m n t) i j ≡ At q = rw (← b, ← eqb-true (recordRow r) i (v .0), ← eqb-true (recordColumn r) j (v .1)) e in
           let z : At p ≡ At q = sym h ∙ s in
           let w : p ≡ q = cc in
           absurd (x w)
       go false g = refl
 
-  holds-more : (rs : List (List ℕ)) (marks : List ℕ) (vals : List Float) → Holds m n rs marks vals → Holds m n (r ∷ rs) (set marks q (markOf (tagOf r))) (set vals q (valueOf r))
+  holds-more : (rs : List (List ℕ)) (marks : List ℕ) (vals : List Float) → Holds m n rs marks vals → Holds m n (r ∷ rs) (set marks q (tagMark (recordTag r))) (set vals q (recordValue r))
   holds-more rs marks vals a =
-      let l : q < 576 = within-in (blockOf m n (tagOf r)) (rowNumber r) (columnOf r) q (room m n (tagOf r) hm hn) e in
+      let l : q < 576 = within-in (areaOf m n (recordTag r)) (recordRow r) (recordColumn r) q (room m n (recordTag r) hm hn) e in
       record {
         marks-size = simp length-set (a .marks-size);
         vals-size = simp length-set (a .vals-size);
         mark = λ t i j p h.
             ⊎-elim
             (λ (s : p ≡ q).
-            let k : within (blockOf m n t) i j ≡ At q = rw (← s) h in
-            rw (s, given-here r rs t i j (gives-here t i j k)) (getD-set-same marks q (markOf (tagOf r)) 0 (omega (arith, a .marks-size))))
+            let k : spotIn (areaOf m n t) i j ≡ At q = rw (← s) h in
+            rw (s, given-here r rs t i j (gives-here t i j k)) (getD-set-same marks q (tagMark (recordTag r)) 0 (omega (arith, a .marks-size))))
             (λ (s : p ≡ q → ⊥).
-            rw (given-skip r rs t i j (gives-not t i j p h s)) (getD-set-other marks q p (markOf (tagOf r)) 0 s ∙ a .mark t i j p h))
+            rw (given-skip r rs t i j (gives-not t i j p h s)) (getD-set-other marks q p (tagMark (recordTag r)) 0 s ∙ a .mark t i j p h))
             (eq-or-ne p q);
         val = λ t i j p h.
             ⊎-elim
             (λ (s : p ≡ q).
-            let k : within (blockOf m n t) i j ≡ At q = rw (← s) h in
-            rw (s, given-here r rs t i j (gives-here t i j k)) (getD-set-same vals q (valueOf r) nan (omega (arith, a .vals-size))))
+            let k : spotIn (areaOf m n t) i j ≡ At q = rw (← s) h in
+            rw (s, given-here r rs t i j (gives-here t i j k)) (getD-set-same vals q (recordValue r) nan (omega (arith, a .vals-size))))
             (λ (s : p ≡ q → ⊥).
-            rw (given-skip r rs t i j (gives-not t i j p h s)) (getD-set-other vals q p (valueOf r) nan s ∙ a .val t i j p h))
+            rw (given-skip r rs t i j (gives-not t i j p h s)) (getD-set-other vals q p (recordValue r) nan s ∙ a .val t i j p h))
             (eq-or-ne p q);
       }
 
@@ -129,8 +129,8 @@ part-grid l o m n f h g =
     ∙ grid-same m n (λ i j. entry n (take (m * n) (drop o l)) i j) f
     (λ i j a b. let k = index-lt m n i j a b in getD-take (m * n) (drop o l) (i * n + j) nan k ∙ getD-drop o l (i * n + j) nan ∙ g i j a b)
 
-cell-at : (b : Block) (i j : ℕ) → i < b .rows → j < b .cols → within b i j ≡ At (b .base + (i * b .cols + j))
-unfolding within
+cell-at : (b : Area) (i j : ℕ) → i < b .rows → j < b .cols → spotIn b i j ≡ At (b .base + (i * b .cols + j))
+unfolding spotIn
 cell-at b i j h k = simp (lt-ltb _ _ h, lt-ltb _ _ k)
 
 default-factor : (n i j : ℕ) → n ≤ 16 → i < n → j < n → defaultAt n (i * n + j) ≡ cond (eqb i j) one +0
@@ -152,18 +152,18 @@ unfolding defaultAt
 default-upper n p h = let g : 256 ≤ p = omega arith in let k : 544 ≤ p = omega arith in simp (le-ltb _ _ g, le-ltb _ _ k, le-ltb _ _ h)
 
 mark-given : (o : Option (List ℕ)) → not (eqb (markIn o) 0) ≡ isSome o
-unfolding markOf
+unfolding tagMark
 mark-given none = refl
-mark-given (some r) = go (is "I" (tagOf r))
+mark-given (some r) = go (is "I" (recordTag r))
   where
     go : (b : Bool) → not (eqb (cond b 2 1) 0) ≡ true
     go true = refl
     go false = refl
 
 mark-kind : (o : Option (List ℕ)) → cond (eqb (markIn o) 2) 1 0 ≡ kindOf o
-unfolding markOf
+unfolding tagMark
 mark-kind none = refl
-mark-kind (some r) = go (is "I" (tagOf r))
+mark-kind (some r) = go (is "I" (recordTag r))
   where
     go : (b : Bool) → _≡_ {A = ℕ} (cond (eqb (cond b 2 1) 2) 1 0) (cond b 1 0)
     go true = refl
@@ -176,20 +176,20 @@ marks-given (suc m) g = rw (mark-given (g zero), marks-given m (λ i. g (suc i))
 
 module _ (m n : ℕ) (w : InTable m n) (rs : List (List ℕ)) (marks : List ℕ) (vals : List Float) (a : Holds m n rs marks vals) where
   -- entry j of a row, at o
-  row-val : (t o : ℕ) → blockOf m n t ≡ block o 1 n → (j : ℕ) → j < n → getD vals (o + j) nan ≡ orElse (given rs t 0 j) (defaultAt n (o + j))
+  row-val : (t o : ℕ) → areaOf m n t ≡ area o 1 n → (j : ℕ) → j < n → getD vals (o + j) nan ≡ orElse (given rs t 0 j) (defaultAt n (o + j))
   row-val t o e j h =
       let z : o + j ≡ o + (0 * n + j) = omega arith in
-      rw z (a .val t 0 j (o + (0 * n + j)) (rw e (cell-at (block o 1 n) 0 j (omega arith) h)))
+      rw z (a .val t 0 j (o + (0 * n + j)) (rw e (cell-at (area o 1 n) 0 j (omega arith) h)))
 
   -- entry (i, j) of a matrix of k rows, at o
-  cell-val : (t o k : ℕ) → blockOf m n t ≡ block o k n → (i j : ℕ) → i < k → j < n
+  cell-val : (t o k : ℕ) → areaOf m n t ≡ area o k n → (i j : ℕ) → i < k → j < n
       → getD vals (o + (i * n + j)) nan ≡ orElse (given rs t i j) (defaultAt n (o + (i * n + j)))
-  cell-val t o k e i j h g = a .val t i j (o + (i * n + j)) (rw e (cell-at (block o k n) i j h g))
+  cell-val t o k e i j h g = a .val t i j (o + (i * n + j)) (rw e (cell-at (area o k n) i j h g))
 
   -- constraint i
-  constraint-at : (i : ℕ) → i < m → within (blockOf m n 69) i 0 ≡ At (272 + i)
-  unfolding blockOf
-  constraint-at i h = let z : 272 + i ≡ 272 + (i * 1 + 0) = omega arith in rw z (cell-at (block 272 m 1) i 0 h (omega arith))
+  constraint-at : (i : ℕ) → i < m → spotIn (areaOf m n 69) i 0 ≡ At (272 + i)
+  unfolding areaOf
+  constraint-at i h = let z : 272 + i ≡ 272 + (i * 1 + 0) = omega arith in rw z (cell-at (area 272 m 1) i 0 h (omega arith))
 
   marks-part : take m (drop 272 marks) ≡ tab m (λ i. markIn (given rs 69 i 0))
   marks-part = part-is 0 marks 272 m _ (omega (arith, a .marks-size, w .few)) (λ i h. a .mark 69 i 0 (272 + i) (constraint-at i h))
@@ -199,7 +199,7 @@ module _ (m n : ℕ) (w : InTable m n) (rs : List (List ℕ)) (marks : List ℕ)
   complete-agrees = ap allMarked marks-part ∙ marks-given m (λ i. given rs 69 i 0)
 
   factor-agrees : take (n * n) vals ≡ grid n n (λ i j. orElse (given rs 76 i j) (cond (eqb i j) one +0))
-  unfolding blockOf
+  unfolding areaOf
   factor-agrees =
       part-grid vals 0 n n _ (omega (arith, a .vals-size, square n n (w .most) (w .most)))
       (λ i j h k.
@@ -207,7 +207,7 @@ module _ (m n : ℕ) (w : InTable m n) (rs : List (List ℕ)) (marks : List ℕ)
       ∙ ap (λ (v : Float). orElse (given rs 76 i j) v) (ap (defaultAt n) (zero-add (i * n + j)) ∙ default-factor n i j (w .most) h k))
 
   gradient-agrees : take n (drop 256 vals) ≡ tab n (λ j. orElse (given rs 71 0 j) +0)
-  unfolding blockOf
+  unfolding areaOf
   gradient-agrees =
       part-is nan vals 256 n _ (omega (arith, a .vals-size, w .most))
       (λ j h. row-val 71 256 refl j h ∙ ap (λ (v : Float). orElse (given rs 71 0 j) v) (default-zero n (256 + j) (omega arith) (omega (arith, w .most))))
@@ -224,7 +224,7 @@ module _ (m n : ℕ) (w : InTable m n) (rs : List (List ℕ)) (marks : List ℕ)
       ∙ ap (λ (v : Float). orElse (given rs 69 i 0) v) (default-zero n (272 + i) (omega arith) (omega (arith, w .few))))
 
   jacobian-agrees : take (m * n) (drop 288 vals) ≡ grid m n (λ i j. orElse (given rs 65 i j) +0)
-  unfolding blockOf
+  unfolding areaOf
   jacobian-agrees =
       let s = square m n (w .few) (w .most) in
       part-grid vals 288 m n _ (omega (arith, a .vals-size, s))
@@ -233,30 +233,30 @@ module _ (m n : ℕ) (w : InTable m n) (rs : List (List ℕ)) (marks : List ℕ)
       ∙ ap (λ (v : Float). orElse (given rs 65 i j) v) (default-zero n (288 + (i * n + j)) (omega arith) (omega (arith, s, index-lt m n i j h k))))
 
   lower-agrees : take n (drop 544 vals) ≡ tab n (λ j. orElse (given rs 66 0 j) (inf true))
-  unfolding blockOf
+  unfolding areaOf
   lower-agrees =
       part-is nan vals 544 n _ (omega (arith, a .vals-size, w .most))
       (λ j h. row-val 66 544 refl j h ∙ ap (λ (v : Float). orElse (given rs 66 0 j) v) (default-lower n (544 + j) (omega arith) (omega (arith, w .most))))
 
   upper-agrees : take n (drop 560 vals) ≡ tab n (λ j. orElse (given rs 84 0 j) (inf false))
-  unfolding blockOf
+  unfolding areaOf
   upper-agrees =
       part-is nan vals 560 n _ (omega (arith, a .vals-size, w .most))
       (λ j h. row-val 84 560 refl j h ∙ ap (λ (v : Float). orElse (given rs 84 0 j) v) (default-upper n (560 + j) (omega arith)))
 
-  problem-agrees : problemIn m n marks vals ≡ problemFrom m n rs
-  unfolding problemIn problemFrom
+  problem-agrees : problemIn m n marks vals ≡ givenProblem m n rs
+  unfolding problemIn givenProblem
   problem-agrees = rw (factor-agrees, gradient-agrees, kinds-agree, values-agree, jacobian-agrees, lower-agrees, upper-agrees)
 
 -- ---- the walk
 
 module _ (m n : ℕ) (w : InTable m n) (bs : List ℕ) where
   end-agrees : (k : ℕ) (rs : List (List ℕ)) (marks : List ℕ) (vals : List Float) → Holds m n rs marks vals
-      → stated (closing m n bs k marks vals) ≡ cond (eqb (length bs % 16) 0 && isComplete m rs) (problem (problemFrom m n rs)) (fault k)
+      → stated (closing m n bs k marks vals) ≡ cond (eqb (length bs % 16) 0 && isComplete m rs) (problem (givenProblem m n rs)) (fault k)
   unfolding closing
   end-agrees k rs marks vals a = rw (complete-agrees m n w rs marks vals a) (go (eqb (length bs % 16) 0) (isComplete m rs))
     where
-      go : (s t : Bool) → stated (ifFilling (s && t) (filling (Whole m n) marks vals) (filling (Fault k) marks vals)) ≡ cond (s && t) (problem (problemFrom m n rs)) (fault k)
+      go : (s t : Bool) → stated (ifFilling (s && t) (filling (Whole m n) marks vals) (filling (Fault k) marks vals)) ≡ cond (s && t) (problem (givenProblem m n rs)) (fault k)
       go true true = ap problem (problem-agrees m n w rs marks vals a)
       go true false = refl
       go false t = refl
@@ -265,26 +265,26 @@ module _ (m n : ℕ) (w : InTable m n) (bs : List ℕ) where
   turn : (r : List ℕ) (k : ℕ) (rs : List (List ℕ)) (marks : List ℕ) (vals : List Float) (f : List ℕ → List Float → Filling) (d : Decoded) → Holds m n rs marks vals
       → ((marks′ : List ℕ) (vals′ : List Float) → Holds m n (r ∷ rs) marks′ vals′ → stated (f marks′ vals′) ≡ d)
       → stated (onEntered (entered m n r marks vals) k f) ≡ cond (isSound m n rs r) d (fault k)
-  unfolding entered entryOf put isSound
-  turn r k rs marks vals f d a ih = rw (← inside-at m n (tagOf r) (rowNumber r) (columnOf r)) (go (spareZero r) (spotOf m n (tagOf r) (rowNumber r) (columnOf r)) refl)
+  unfolding entered entryOf putAt isSound
+  turn r k rs marks vals f d a ih = rw (← inside-at m n (recordTag r) (recordRow r) (recordColumn r)) (go (spareZero r) (spotOf m n (recordTag r) (recordRow r) (recordColumn r)) refl)
     where
-      at : (p : ℕ) → within (blockOf m n (tagOf r)) (rowNumber r) (columnOf r) ≡ At p → (o : Option (List ℕ)) → given rs (tagOf r) (rowNumber r) (columnOf r) ≡ o
-          → stated (onEntered (ifEntered (eqb (getD marks p 0) 0) (added (set marks p (markOf (tagOf r))) (set vals p (valueOf r))) (kept marks vals)) k f)
+      at : (p : ℕ) → spotIn (areaOf m n (recordTag r)) (recordRow r) (recordColumn r) ≡ At p → (o : Option (List ℕ)) → given rs (recordTag r) (recordRow r) (recordColumn r) ≡ o
+          → stated (onEntered (ifEntered (eqb (getD marks p 0) 0) (added (set marks p (tagMark (recordTag r))) (set vals p (recordValue r))) (kept marks vals)) k f)
           ≡ cond (not (isSome o)) d (fault k)
       at p e none g =
-          let z : getD marks p 0 ≡ 0 = a .mark (tagOf r) (rowNumber r) (columnOf r) p e ∙ ap markIn g in
-          rw (eq-eqb _ _ z) (ih (set marks p (markOf (tagOf r))) (set vals p (valueOf r)) (holds-more m n (w .few) (w .most) r p e rs marks vals a))
+          let z : getD marks p 0 ≡ 0 = a .mark (recordTag r) (recordRow r) (recordColumn r) p e ∙ ap markIn g in
+          rw (eq-eqb _ _ z) (ih (set marks p (tagMark (recordTag r))) (set vals p (recordValue r)) (holds-more m n (w .few) (w .most) r p e rs marks vals a))
       at p e (some s) g =
-          let z : getD marks p 0 ≡ markOf (tagOf s) = a .mark (tagOf r) (rowNumber r) (columnOf r) p e ∙ ap markIn g in
-          rw (ne-eqb (getD marks p 0) 0 (λ y. mark-some (tagOf s) (sym z ∙ y)))
+          let z : getD marks p 0 ≡ tagMark (recordTag s) = a .mark (recordTag r) (recordRow r) (recordColumn r) p e ∙ ap markIn g in
+          rw (ne-eqb (getD marks p 0) 0 (λ y. mark-some (recordTag s) (sym z ∙ y)))
 
-      go : (z : Bool) (s : Spot) → spotOf m n (tagOf r) (rowNumber r) (columnOf r) ≡ s
-          → stated (onEntered (put (ifSpot z s) (markOf (tagOf r)) (valueOf r) marks vals) k f)
-          ≡ cond (isAt s && (z && not (isSome (given rs (tagOf r) (rowNumber r) (columnOf r))))) d (fault k)
+      go : (z : Bool) (s : Spot) → spotOf m n (recordTag r) (recordRow r) (recordColumn r) ≡ s
+          → stated (onEntered (putAt (ifSpot z s) (tagMark (recordTag r)) (recordValue r) marks vals) k f)
+          ≡ cond (isAt s && (z && not (isSome (given rs (recordTag r) (recordRow r) (recordColumn r))))) d (fault k)
       go false Outside e = refl
       go false (At p) e = refl
       go true Outside e = refl
-      go true (At p) e = at p (spot-within m n (tagOf r) (rowNumber r) (columnOf r) p e) (given rs (tagOf r) (rowNumber r) (columnOf r)) refl
+      go true (At p) e = at p (spot-within m n (recordTag r) (recordRow r) (recordColumn r) p e) (given rs (recordTag r) (recordRow r) (recordColumn r)) refl
 
   walk-agrees : (left k : ℕ) (rs : List (List ℕ)) (marks : List ℕ) (vals : List Float) → Holds m n rs marks vals
       → stated (walkTables m n bs left k marks vals) ≡ walk m n bs left k rs
@@ -301,17 +301,17 @@ unfolding decode decodeTables headOf sizesOf
 agreement bs marks vals =
     ⊎-elim
     (λ (h : length bs < 16). simp (lt-ltb _ _ h, lt-leb _ _ h))
-    (λ (h : 16 ≤ length bs). simp (le-ltb _ _ h, le-leb _ _ h) (head (isHead (take 16 bs)) (isDimension (columnOf (take 16 bs)) && isConstraints (rowNumber (take 16 bs))) refl))
+    (λ (h : 16 ≤ length bs). simp (le-ltb _ _ h, le-leb _ _ h) (head (isHead (take 16 bs)) (isDimension (recordColumn (take 16 bs)) && isConstraints (recordRow (take 16 bs))) refl))
     (lt-or-ge (length bs) 16)
   where
-    head : (s t : Bool) → (isDimension (columnOf (take 16 bs)) && isConstraints (rowNumber (take 16 bs))) ≡ t
+    head : (s t : Bool) → (isDimension (recordColumn (take 16 bs)) && isConstraints (recordRow (take 16 bs))) ≡ t
         → stated
-        (onHead (ifHead s (ifHead t (Sizes (rowNumber (take 16 bs)) (columnOf (take 16 bs))) TooLarge) Unsound) (filling (Fault 0) marks vals) (filling Large marks vals)
-        (λ m n. walkTables m n bs (length bs / 16 - 1) 1 noMarks (defaults n)))
-        ≡ cond s (cond t (walk (rowNumber (take 16 bs)) (columnOf (take 16 bs)) bs (length bs / 16 - 1) 1 []) tooLarge) (fault 0)
+        (onHead (ifHead s (ifHead t (Sizes (recordRow (take 16 bs)) (recordColumn (take 16 bs))) TooLarge) Unsound) (filling (Fault 0) marks vals) (filling Large marks vals)
+        (λ m n. walkTables m n bs (length bs / 16 - 1) 1 noMarks (defaultValues n)))
+        ≡ cond s (cond t (walk (recordRow (take 16 bs)) (recordColumn (take 16 bs)) bs (length bs / 16 - 1) 1 []) tooLarge) (fault 0)
     head true true e =
-        let w = sizes-in (rowNumber (take 16 bs)) (columnOf (take 16 bs)) e in
-        walk-agrees (rowNumber (take 16 bs)) (columnOf (take 16 bs)) w bs (length bs / 16 - 1) 1 [] noMarks (defaults (columnOf (take 16 bs)))
-        (holds-none (rowNumber (take 16 bs)) (columnOf (take 16 bs)) (w .few) (w .most))
+        let w = sizes-in (recordRow (take 16 bs)) (recordColumn (take 16 bs)) e in
+        walk-agrees (recordRow (take 16 bs)) (recordColumn (take 16 bs)) w bs (length bs / 16 - 1) 1 [] noMarks (defaultValues (recordColumn (take 16 bs)))
+        (holds-none (recordRow (take 16 bs)) (recordColumn (take 16 bs)) (w .few) (w .most))
     head true false e = refl
     head false t e = refl

@@ -14,7 +14,7 @@ use Rattle.record_read.specs.declared.Input.the-variants.{Whole}
 use Rattle.record_read.specs.inner.Tables.{problemIn, decodedIn}
 use Rattle.record_read.specs.inner.Filling.{Filling, filling}
 use Rattle.record_read.specs.Claims.{OneDecoding}
-use Rattle.record_read.specs.Input.{rowNumber, columnOf, recordAt, isSound, problemFrom, isComplete, fault, tooLarge, problem, walk, isHead, decode}
+use Rattle.record_read.specs.Input.{recordRow, recordColumn, recordAt, isSound, givenProblem, isComplete, fault, tooLarge, problem, walk, isHead, decode}
 use Rattle.record_read.proofs.Heads.{InTable, sizes-in}
 
 fault-not : {A : Type 0} (k : ℕ) (p : Problem) → fault k ≡ problem p → A
@@ -25,11 +25,11 @@ large-not p e = let z : _≡_ {A = ℕ} 0 1 = cc in absurd (omega arith)
 
 module _ (m n : ℕ) (bs : List ℕ) (p : Problem) where
   walk-sizes : (left k : ℕ) (rs : List (List ℕ)) → walk m n bs left k rs ≡ problem p → (m ≡ p .m) × (n ≡ p .n)
-  unfolding walk problemFrom
+  unfolding walk givenProblem
   walk-sizes zero k rs e = go (eqb (length bs % 16) 0 && isComplete m rs) e
     where
-      go : (b : Bool) → cond b (problem (problemFrom m n rs)) (fault k) ≡ problem p → (m ≡ p .m) × (n ≡ p .n)
-      go true q = let z : problemFrom m n rs ≡ p = cc in (ap (λ (x : Problem). x .m) z, ap (λ (x : Problem). x .n) z)
+      go : (b : Bool) → cond b (problem (givenProblem m n rs)) (fault k) ≡ problem p → (m ≡ p .m) × (n ≡ p .n)
+      go true q = let z : givenProblem m n rs ≡ p = cc in (ap (λ (x : Problem). x .m) z, ap (λ (x : Problem). x .n) z)
       go false q = fault-not k p q
   walk-sizes (suc left) k rs e = go (isSound m n rs (recordAt bs k)) (λ q. walk-sizes left (k + 1) (recordAt bs k ∷ rs) q) e
     where
@@ -40,13 +40,13 @@ module _ (m n : ℕ) (bs : List ℕ) (p : Problem) where
 
 pub problem-sizes : (bs : List ℕ) (p : Problem) → decode bs ≡ problem p → InTable (p .m) (p .n)
 unfolding decode
-problem-sizes bs p e = go (leb 16 (length bs) && isHead (recordAt bs 0)) (isDimension (columnOf (recordAt bs 0)) && isConstraints (rowNumber (recordAt bs 0))) refl e
+problem-sizes bs p e = go (leb 16 (length bs) && isHead (recordAt bs 0)) (isDimension (recordColumn (recordAt bs 0)) && isConstraints (recordRow (recordAt bs 0))) refl e
   where
-    go : (s t : Bool) → (isDimension (columnOf (recordAt bs 0)) && isConstraints (rowNumber (recordAt bs 0))) ≡ t
-        → cond s (cond t (walk (rowNumber (recordAt bs 0)) (columnOf (recordAt bs 0)) bs (length bs / 16 - 1) 1 []) tooLarge) (fault 0) ≡ problem p → InTable (p .m) (p .n)
+    go : (s t : Bool) → (isDimension (recordColumn (recordAt bs 0)) && isConstraints (recordRow (recordAt bs 0))) ≡ t
+        → cond s (cond t (walk (recordRow (recordAt bs 0)) (recordColumn (recordAt bs 0)) bs (length bs / 16 - 1) 1 []) tooLarge) (fault 0) ≡ problem p → InTable (p .m) (p .n)
     go true true h q =
-        let w = sizes-in (rowNumber (recordAt bs 0)) (columnOf (recordAt bs 0)) h in
-        let s = walk-sizes (rowNumber (recordAt bs 0)) (columnOf (recordAt bs 0)) bs p (length bs / 16 - 1) 1 [] q in
+        let w = sizes-in (recordRow (recordAt bs 0)) (recordColumn (recordAt bs 0)) h in
+        let s = walk-sizes (recordRow (recordAt bs 0)) (recordColumn (recordAt bs 0)) bs p (length bs / 16 - 1) 1 [] q in
         record { few = omega (arith, w .few, s .0); some = omega (arith, w .some, s .1); most = omega (arith, w .most, s .1) }
     go true false h q = large-not p q
     go false t h q = fault-not 0 p q

@@ -15,13 +15,13 @@ use Rattle.record_read.specs.declared.Spot.the-variants.{Outside, At}
 use Rattle.record_read.specs.declared.Head.{Head}
 use Rattle.record_read.specs.declared.Head.the-variants.{Unsound, TooLarge, Sizes}
 use Rattle.record_read.specs.declared.Input.the-variants.{Fault, Large}
-use Rattle.record_read.specs.Input.{tagOf, bitsOf, recordAt}
-use Rattle.record_read.specs.inner.Tables.{markOf, noMarks, defaults}
-use Rattle.record_read.specs.inner.Filling.{entryOf, Entered, kept, added, ifEntered, put, entered, filling, onEntered, onHead, walkTables, decodeTables, headOf, stated}
-use Rattle.record_read.specs.Claims.{FirstBytesDecide}
+use Rattle.record_read.specs.Input.{recordTag, recordBits, recordAt}
+use Rattle.record_read.specs.inner.Tables.{tagMark, noMarks, defaultValues}
+use Rattle.record_read.specs.inner.Filling.{entryOf, Entered, kept, added, ifEntered, putAt, entered, filling, onEntered, onHead, walkTables, decodeTables, headOf, stated}
+use Rattle.record_read.specs.Claims.{FirstBytesSay}
 use Rattle.record_read.proofs.Agreement.{agreement}
 use Rattle.record_read.proofs.Entries.{mark-some}
-use Rattle.record_read.proofs.Blocks.{entry-in}
+use Rattle.record_read.proofs.Areas.{entry-in}
 use Rattle.record_read.proofs.Heads.{InTable, head-in}
 
 -- how many places are marked
@@ -53,8 +53,8 @@ kept-not : {A : Type 0} (a c : List ℕ) (b d : List Float) → kept c d ≡ add
 kept-not a c b d e = let z : _≡_ {A = ℕ} 0 1 = cc in absurd (omega arith)
 
 put-marks : (p k : ℕ) (v : Float) (marks marks′ : List ℕ) (vals vals′ : List Float) → p < length marks → (k ≡ 0 → ⊥)
-    → put (At p) k v marks vals ≡ added marks′ vals′ → Marked marks marks′
-unfolding put
+    → putAt (At p) k v marks vals ≡ added marks′ vals′ → Marked marks marks′
+unfolding putAt
 put-marks p k v marks marks′ vals vals′ h n e = go (eqb (getD marks p 0) 0) refl e
   where
     go : (b : Bool) → eqb (getD marks p 0) 0 ≡ b → ifEntered b (added (set marks p k) (set vals p v)) (kept marks vals) ≡ added marks′ vals′ → Marked marks marks′
@@ -65,14 +65,14 @@ put-marks p k v marks marks′ vals vals′ h n e = go (eqb (getD marks p 0) 0) 
 
 entered-marks : (m n : ℕ) (r marks marks′ : List ℕ) (vals vals′ : List Float) → m ≤ 16 → n ≤ 16 → length marks ≡ 576
     → entered m n r marks vals ≡ added marks′ vals′ → Marked marks marks′
-unfolding entered put
+unfolding entered putAt
 entered-marks m n r marks marks′ vals vals′ hm hn l e = go (entryOf m n r) refl e
   where
-    go : (s : Spot) → entryOf m n r ≡ s → put s (markOf (tagOf r)) (ofBits binary64 (bitsOf r)) marks vals ≡ added marks′ vals′ → Marked marks marks′
+    go : (s : Spot) → entryOf m n r ≡ s → putAt s (tagMark (recordTag r)) (ofBits binary64 (recordBits r)) marks vals ≡ added marks′ vals′ → Marked marks marks′
     go Outside t q = kept-not marks′ marks vals′ vals q
     go (At p) t q =
         let h : p < 576 = entry-in m n r p hm hn t in
-        put-marks p (markOf (tagOf r)) (ofBits binary64 (bitsOf r)) marks marks′ vals vals′ (omega arith) (mark-some (tagOf r)) q
+        put-marks p (tagMark (recordTag r)) (ofBits binary64 (recordBits r)) marks marks′ vals vals′ (omega arith) (mark-some (recordTag r)) q
 
 -- ---- the walk: at record k there are k - 1 marks
 
@@ -120,14 +120,14 @@ enough p q lp =
     simp (le-ltb _ _ h, le-ltb _ _ g, take-append-le 16 p q h) (at (headOf (take 16 p)) refl)
   where
     at : (h : Head) → headOf (take 16 p) ≡ h
-        → onHead h (filling (Fault 0) [] []) (filling Large [] []) (λ m n. walkTables m n (p ++ q) (length (p ++ q) / 16 - 1) 1 noMarks (defaults n))
-        ≡ onHead h (filling (Fault 0) [] []) (filling Large [] []) (λ m n. walkTables m n p (length p / 16 - 1) 1 noMarks (defaults n))
+        → onHead h (filling (Fault 0) [] []) (filling Large [] []) (λ m n. walkTables m n (p ++ q) (length (p ++ q) / 16 - 1) 1 noMarks (defaultValues n))
+        ≡ onHead h (filling (Fault 0) [] []) (filling Large [] []) (λ m n. walkTables m n p (length p / 16 - 1) 1 noMarks (defaultValues n))
     at Unsound t = refl
     at TooLarge t = refl
     at (Sizes m n) t =
         let w : InTable m n = head-in (take 16 p) m n t in
-        walk-same m n p q (length p / 16 - 1) (length (p ++ q) / 16 - 1) 1 noMarks (defaults n) (w .few) (w .most) (no-marks .0) (no-marks .1) lp
+        walk-same m n p q (length p / 16 - 1) (length (p ++ q) / 16 - 1) 1 noMarks (defaultValues n) (w .few) (w .most) (no-marks .0) (no-marks .1) lp
         (omega arith) (omega (arith, length-append p q))
 
-pub first-bytes : FirstBytesDecide
+pub first-bytes : FirstBytesSay
 first-bytes p q lp = sym (agreement (p ++ q) [] []) ∙ ap stated (enough p q lp) ∙ agreement p [] []

@@ -10,21 +10,21 @@ use Rattle.workspace.proofs.Tests.{and-true, dimension-le, dimension-ge, constr
 use Rattle.record_read.specs.declared.Head.{Head}
 use Rattle.record_read.specs.declared.Head.the-variants.{Unsound, TooLarge, Sizes}
 use Rattle.record_read.specs.inner.Filling.{ifHead, headOf, sizesOf}
-use Rattle.record_read.specs.Input.{isHead, spareZero, tagOf, rowNumber, columnOf, bitsOf}
+use Rattle.record_read.specs.Input.{isHead, spareZero, recordTag, recordRow, recordColumn, recordBits}
 
-pub head-tag : (r : List ℕ) → (tagOf r ≡ 68 → ⊥) → Unsound ≡ headOf r
+pub head-tag : (r : List ℕ) → (recordTag r ≡ 68 → ⊥) → Unsound ≡ headOf r
 unfolding headOf isHead
 head-tag r h = simp (ne-eqb _ _ h)
 
-pub head-spare : (r : List ℕ) → tagOf r ≡ 68 → spareZero r ≡ false → Unsound ≡ headOf r
+pub head-spare : (r : List ℕ) → recordTag r ≡ 68 → spareZero r ≡ false → Unsound ≡ headOf r
 unfolding headOf isHead
 head-spare r h e = simp (eq-eqb _ _ h, e)
 
-pub head-bits : (r : List ℕ) → tagOf r ≡ 68 → spareZero r ≡ true → (bitsOf r ≡ 0 → ⊥) → Unsound ≡ headOf r
+pub head-bits : (r : List ℕ) → recordTag r ≡ 68 → spareZero r ≡ true → (recordBits r ≡ 0 → ⊥) → Unsound ≡ headOf r
 unfolding headOf isHead
 head-bits r h e b = simp (eq-eqb _ _ h, e, ne-eqb _ _ b)
 
-pub head-sound : (r : List ℕ) → tagOf r ≡ 68 → spareZero r ≡ true → bitsOf r ≡ 0 → sizesOf (rowNumber r) (columnOf r) ≡ headOf r
+pub head-sound : (r : List ℕ) → recordTag r ≡ 68 → spareZero r ≡ true → recordBits r ≡ 0 → sizesOf (recordRow r) (recordColumn r) ≡ headOf r
 unfolding headOf isHead
 head-sound r h e b = simp (eq-eqb _ _ h, e, eq-eqb _ _ b)
 
@@ -60,8 +60,8 @@ sizes-of a b m n e =
 pub head-in : (r : List ℕ) (m n : ℕ) → headOf r ≡ Sizes m n → InTable m n
 unfolding headOf
 head-in r m n e =
-    let x = if-head (isHead r) (sizesOf (rowNumber r) (columnOf r)) Unsound m n (unsound-not m n) e in
-    sizes-of (rowNumber r) (columnOf r) m n (x .1)
+    let x = if-head (isHead r) (sizesOf (recordRow r) (recordColumn r)) Unsound m n (unsound-not m n) e in
+    sizes-of (recordRow r) (recordColumn r) m n (x .1)
 
 pub sizes-not : (m n : ℕ) → isDimension n ≡ false → TooLarge ≡ sizesOf m n
 unfolding sizesOf

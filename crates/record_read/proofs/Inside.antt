@@ -7,11 +7,11 @@ use native.Mathlib.Omega.{arith}
 use borrow.Author.Tests.{lt-ltb, le-ltb, le-leb, lt-leb, eq-eqb, ne-eqb}
 use lib.Dec.{ltb, leb, eqb}
 use Rattle.numbers.proofs.Cases.{lt-or-ge}
-use Rattle.record_read.specs.declared.Block.{Block}
+use Rattle.record_read.specs.declared.Area.{Area}
 use Rattle.record_read.specs.declared.Spot.{Spot}
 use Rattle.record_read.specs.declared.Spot.the-variants.{Outside, At}
 use Rattle.record_read.specs.Input.{is, isInside}
-use Rattle.record_read.specs.inner.Tables.{block, either, blockOf, ifSpot, within, spotOf}
+use Rattle.record_read.specs.inner.Tables.{area, either, areaOf, ifSpot, spotIn, spotOf}
 use Rattle.record_read.proofs.Bytes.{and-false}
 
 abbrev pub isAt : Spot → Bool
@@ -23,9 +23,9 @@ both true true p = refl
 both true false p = refl
 both false b p = refl
 
--- in a block: below its rows and its columns
-within-at : (b : Block) (i j : ℕ) → isAt (within b i j) ≡ (ltb i (b .rows) && ltb j (b .cols))
-unfolding within
+-- in an area: below its rows and its columns
+within-at : (b : Area) (i j : ℕ) → isAt (spotIn b i j) ≡ (ltb i (b .rows) && ltb j (b .cols))
+unfolding spotIn
 within-at b i j = both (ltb i (b .rows)) (ltb j (b .cols)) (b .base + (i * b .cols + j))
 
 first-only : (i : ℕ) → ltb i 1 ≡ eqb i 0
@@ -35,37 +35,37 @@ first-only i =
     (lt-or-ge i 1)
 
 -- a factor entry, on or below the diagonal
-lower-at : (n i j : ℕ) → isAt (ifSpot (not (ltb i j)) (within (block 0 n n) i j)) ≡ (ltb i n && leb j i)
+lower-at : (n i j : ℕ) → isAt (ifSpot (not (ltb i j)) (spotIn (area 0 n n) i j)) ≡ (ltb i n && leb j i)
 lower-at n i j =
     ⊎-elim
     (λ (h : i < j). simp (lt-ltb i j h, lt-leb j i h) (sym (and-false (ltb i n))))
     (λ (h : j ≤ i).
     simp (le-ltb i j h, le-leb j i h)
-    (within-at (block 0 n n) i j
+    (within-at (area 0 n n) i j
     ∙ ⊎-elim (λ (k : i < n). let g : j < n = omega arith in simp (lt-ltb i n k, lt-ltb j n g)) (λ (k : n ≤ i). simp (le-ltb i n k)) (lt-or-ge i n)))
     (lt-or-ge i j)
 
 pub inside-at : (m n t i j : ℕ) → isAt (spotOf m n t i j) ≡ isInside m n t i j
-unfolding spotOf blockOf isInside
+unfolding spotOf areaOf isInside
 inside-at m n t i j = go (is "L" t) (is "G" t) (is "E" t) (is "I" t) (is "A" t) (is "B" t) (is "T" t)
   where
     go : (l g e k a b u : Bool)
         → isAt
         (ifSpot (not (l && ltb i j))
-        (within
-        (either l (block 0 n n)
-        (either g (block 256 1 n)
-        (either e (block 272 m 1) (either k (block 272 m 1) (either a (block 288 m n) (either b (block 544 1 n) (either u (block 560 1 n) (block 0 0 0))))))))
+        (spotIn
+        (either l (area 0 n n)
+        (either g (area 256 1 n)
+        (either e (area 272 m 1) (either k (area 272 m 1) (either a (area 288 m n) (either b (area 544 1 n) (either u (area 560 1 n) (area 0 0 0))))))))
         i
         j))
         ≡ cond l (ltb i n && leb j i)
         (cond g (eqb i 0 && ltb j n)
         (cond (e || k) (ltb i m && eqb j 0) (cond a (ltb i m && ltb j n) (cond (b || u) (eqb i 0 && ltb j n) false))))
     go true g e k a b u = lower-at n i j
-    go false true e k a b u = within-at (block 256 1 n) i j ∙ rw (first-only i)
-    go false false true k a b u = within-at (block 272 m 1) i j ∙ rw (first-only j)
-    go false false false true a b u = within-at (block 272 m 1) i j ∙ rw (first-only j)
-    go false false false false true b u = within-at (block 288 m n) i j
-    go false false false false false true u = within-at (block 544 1 n) i j ∙ rw (first-only i)
-    go false false false false false false true = within-at (block 560 1 n) i j ∙ rw (first-only i)
-    go false false false false false false false = within-at (block 0 0 0) i j ∙ rw (le-ltb i 0 (omega arith))
+    go false true e k a b u = within-at (area 256 1 n) i j ∙ rw (first-only i)
+    go false false true k a b u = within-at (area 272 m 1) i j ∙ rw (first-only j)
+    go false false false true a b u = within-at (area 272 m 1) i j ∙ rw (first-only j)
+    go false false false false true b u = within-at (area 288 m n) i j
+    go false false false false false true u = within-at (area 544 1 n) i j ∙ rw (first-only i)
+    go false false false false false false true = within-at (area 560 1 n) i j ∙ rw (first-only i)
+    go false false false false false false false = within-at (area 0 0 0) i j ∙ rw (le-ltb i 0 (omega arith))

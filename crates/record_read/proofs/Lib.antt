@@ -1,5 +1,5 @@
 pub mod Bytes
-pub mod Blocks
+pub mod Areas
 pub mod Entries
 pub mod Marks
 pub mod Heads

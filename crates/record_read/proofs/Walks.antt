@@ -12,7 +12,7 @@ use Rattle.record_read.specs.declared.Head.the-variants.{Unsound, TooLar
 use Rattle.record_read.specs.declared.Input.{Input}
 use Rattle.record_read.specs.declared.Input.the-variants.{Fault, Large, Whole}
 use Rattle.record_read.specs.Input.{recordAt}
-use Rattle.record_read.specs.inner.Tables.{VALUES, noMarks, defaults}
+use Rattle.record_read.specs.inner.Tables.{VALUES, noMarks, defaultValues}
 use Rattle.record_read.specs.inner.Filling.{filling, Filling, kept, added, entered, enteredBy, allMarked, closing, walkTables, decodeTables, headOf, stated}
 use Rattle.record_read.specs.Promise.{Decodes}
 use Rattle.record_read.proofs.Agreement.{agreement}
@@ -81,12 +81,12 @@ module _ (bs marks : List ℕ) (vals : List Float) where
     unfolding decodeTables
     decode-large e = simp (le-ltb _ _ h, e)
 
-    decode-walk : (m n : ℕ) → headOf (take 16 bs) ≡ Sizes m n → walkTables m n bs (length bs / 16 - 1) 1 noMarks (defaults n) ≡ decodeTables bs marks vals
+    decode-walk : (m n : ℕ) → headOf (take 16 bs) ≡ Sizes m n → walkTables m n bs (length bs / 16 - 1) 1 noMarks (defaultValues n) ≡ decodeTables bs marks vals
     unfolding decodeTables
     decode-walk m n e = simp (le-ltb _ _ h, e)
 
     -- the walk's answer x, with the tables that it begins with
-    pub decode-from : (m n : ℕ) → headOf (take 16 bs) ≡ Sizes m n → (x : Filling) (marks₁ : List ℕ) (vals₁ : List Float) → marks₁ ≡ noMarks → vals₁ ≡ defaults n
+    pub decode-from : (m n : ℕ) → headOf (take 16 bs) ≡ Sizes m n → (x : Filling) (marks₁ : List ℕ) (vals₁ : List Float) → marks₁ ≡ noMarks → vals₁ ≡ defaultValues n
         → x ≡ walkTables m n bs (length bs / 16 - 1) 1 marks₁ vals₁ → x ≡ decodeTables bs marks vals
     decode-from m n e x marks₁ vals₁ a b q = q ∙ rw (a, b) (decode-walk m n e)
 

@@ -9,8 +9,8 @@ use Rattle.record_read.specs.declared.Input.{Input}
 use Rattle.record_read.specs.Input.{decode}
 use Rattle.record_read.specs.Promise.{Decodes}
 
-abbrev pub FirstBytesDecide : Type 0
-FirstBytesDecide = (p q : List ℕ) → length p ≡ 9248 → decode (p ++ q) ≡ decode p
+abbrev pub FirstBytesSay : Type 0
+FirstBytesSay = (p q : List ℕ) → length p ≡ 9248 → decode (p ++ q) ≡ decode p
 
 -- two calls on the same bytes and tables answer and leave the same
 abbrev pub OneDecoding : Type 0

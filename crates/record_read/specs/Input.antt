@@ -15,20 +15,20 @@ use Rattle.step_rows.specs.Problem.{Problem, problemOf}
 
 -- ---- one record: byte 0 tag, byte 1 zero, bytes 2-3 row, 4-5 column, 6-7 zero, 8-15 the value's bits; numbers little-endian
 
-abbrev pub tagOf : List ℕ → ℕ
-tagOf r = getD r 0 0
+abbrev pub recordTag : List ℕ → ℕ
+recordTag r = getD r 0 0
 
-abbrev pub rowNumber : List ℕ → ℕ
-rowNumber r = numberAt 2 2 r
+abbrev pub recordRow : List ℕ → ℕ
+recordRow r = numberAt 2 2 r
 
-abbrev pub columnOf : List ℕ → ℕ
-columnOf r = numberAt 2 4 r
+abbrev pub recordColumn : List ℕ → ℕ
+recordColumn r = numberAt 2 4 r
 
-abbrev pub bitsOf : List ℕ → ℕ
-bitsOf r = numberAt 8 8 r
+abbrev pub recordBits : List ℕ → ℕ
+recordBits r = numberAt 8 8 r
 
-abbrev pub valueOf : List ℕ → Float
-valueOf r = ofBits binary64 (bitsOf r)
+abbrev pub recordValue : List ℕ → Float
+recordValue r = ofBits binary64 (recordBits r)
 
 unfoldable pub spareZero : List ℕ → Bool
 spareZero r = eqb (getD r 1 0) 0 && (eqb (getD r 6 0) 0 && eqb (getD r 7 0) 0)
@@ -59,7 +59,7 @@ field t = cond (is "I" t) (code "E") t
 
 -- the record r gives the entry of tag t at (row, column)
 abbrev pub gives : List ℕ → (t row column : ℕ) → Bool
-gives r t row column = eqb (field (tagOf r)) (field t) && (eqb (rowNumber r) row && eqb (columnOf r) column)
+gives r t row column = eqb (field (recordTag r)) (field t) && (eqb (recordRow r) row && eqb (recordColumn r) column)
 
 -- the one among some records that gives an entry
 unfoldable pub given : List (List ℕ) → (t row column : ℕ) → Option (List ℕ)
@@ -74,27 +74,27 @@ isSome (some r) = true
 
 -- a repeated entry, or `E` and `I` for one row
 abbrev pub repeats : List (List ℕ) → List ℕ → Bool
-repeats rs r = isSome (given rs (tagOf r) (rowNumber r) (columnOf r))
+repeats rs r = isSome (given rs (recordTag r) (recordRow r) (recordColumn r))
 
 -- a bad tag or an index outside, a nonzero spare byte, a repeated entry
 unfoldable pub isSound : (m n : ℕ) → List (List ℕ) → List ℕ → Bool
-isSound m n rs r = isInside m n (tagOf r) (rowNumber r) (columnOf r) && (spareZero r && not (repeats rs r))
+isSound m n rs r = isInside m n (recordTag r) (recordRow r) (recordColumn r) && (spareZero r && not (repeats rs r))
 
 -- ---- the problem that some records give
 
 -- the value that was given, or what a missing one is
 abbrev pub orElse : Option (List ℕ) → Float → Float
 orElse none v = v
-orElse (some r) v = valueOf r
+orElse (some r) v = recordValue r
 
 -- the kind of a constraint: 1 for `I`
 abbrev pub kindOf : Option (List ℕ) → ℕ
 kindOf none = 0
-kindOf (some r) = cond (is "I" (tagOf r)) 1 0
+kindOf (some r) = cond (is "I" (recordTag r)) 1 0
 
 -- missing: 1 on the factor's diagonal, +0 elsewhere, -infinity for a lower bound, +infinity for an upper
-unfoldable pub problemFrom : (m n : ℕ) → List (List ℕ) → Problem
-problemFrom m n rs =
+unfoldable pub givenProblem : (m n : ℕ) → List (List ℕ) → Problem
+givenProblem m n rs =
     problemOf n m
     (grid n n (λ i j. orElse (given rs (code "L") i j) (cond (eqb i j) one +0)))
     (tab n (λ j. orElse (given rs (code "G") 0 j) +0))
@@ -123,19 +123,19 @@ pub data Decoded : Type 0 where
 -- From record k on, of which `left` more are whole; rs are those before it, the last first.
 -- Behind them a short record is a fault, and so, last, is a missing constraint.
 unfoldable pub walk : (m n : ℕ) → List ℕ → (left k : ℕ) → List (List ℕ) → Decoded
-walk m n bs zero k rs = cond (eqb (length bs % 16) 0 && isComplete m rs) (problem (problemFrom m n rs)) (fault k)
+walk m n bs zero k rs = cond (eqb (length bs % 16) 0 && isComplete m rs) (problem (givenProblem m n rs)) (fault k)
 walk m n bs (suc left) k rs =
     let r = recordAt bs k in
     cond (isSound m n rs r) (walk m n bs left (k + 1) (r ∷ rs)) (fault k)
 
 -- the first record is `D`, with value bits 0: row constraints, column variables
 unfoldable pub isHead : List ℕ → Bool
-isHead r = is "D" (tagOf r) && (spareZero r && eqb (bitsOf r) 0)
+isHead r = is "D" (recordTag r) && (spareZero r && eqb (recordBits r) 0)
 
 -- nothing after a sound first record is read where its sizes are outside the table
 unfoldable pub decode : List ℕ → Decoded
 decode bs =
     let r = recordAt bs 0 in
-    let m = rowNumber r in
-    let n = columnOf r in
+    let m = recordRow r in
+    let n = recordColumn r in
     cond (leb 16 (length bs) && isHead r) (cond (isDimension n && isConstraints m) (walk m n bs (length bs / 16 - 1) 1 []) tooLarge) (fault 0)

@@ -10,10 +10,10 @@ ghost use Prim.Native.Nat.{_+_, _-_, _*_, _/_, _≤_, _<_};
 ghost use lib.ListN.{length, take, drop};
 ghost use Rattle.record_read.specs.Input.{spareZero};
 ghost use Rattle.record_read.specs.Promise.{Decodes};
-ghost use Rattle.record_read.specs.inner.Tables.{PLACES, VALUES as Tables·VALUES, blockOf, within as Tables·within, spotOf, markOf, defaultAt, noMarks, defaults as Tables·defaults};
-ghost use Rattle.record_read.specs.inner.Filling.{entryOf, put as Filling·put, entered, enteredBy, headOf, sizesOf, allMarked, walkTables, filling};
+ghost use Rattle.record_read.specs.inner.Tables.{PLACES, VALUES, areaOf, spotIn, spotOf, tagMark, defaultAt, noMarks, defaultValues};
+ghost use Rattle.record_read.specs.inner.Filling.{entryOf, putAt, entered, enteredBy, headOf, sizesOf, allMarked, walkTables, filling};
 
-// Where the blocks of the tables start, after the factor's at 0, and how many places a table has.
+// Where the areas of the tables start, after the factor's at 0, and how many places a table has.
 const GRADIENT: usize = 256;
 
 const VALUES: usize = GRADIENT + 16;
@@ -26,8 +26,8 @@ const UPPER: usize = LOWER + 16;
 
 const PLACES: usize = UPPER + 16;
 
-// A block of the tables: where it starts, and its shape.
-pub struct Block {
+// An area of the tables: where it starts, and its shape.
+pub struct Area {
     pub base: usize,
     pub rows: usize,
     pub cols: usize,
@@ -66,47 +66,47 @@ fn spare_zero(r: &[u8]) -> bool
     false
 }
 
-// The block that a tag names.
-fn block_of(m: usize, n: usize, tag: u8) -> Block
-    ensures { λ b. ⌜ b ≡ blockOf m n tag ⌝ }
+// The area that a tag names.
+fn area_of(m: usize, n: usize, tag: u8) -> Area
+    ensures { λ b. ⌜ b ≡ areaOf m n tag ⌝ }
 {
     match tag {
-        b'L' => Block {
+        b'L' => Area {
             base: 0,
             rows: n,
             cols: n,
         },
-        b'G' => Block {
+        b'G' => Area {
             base: GRADIENT,
             rows: 1,
             cols: n,
         },
-        b'E' => Block {
+        b'E' => Area {
             base: VALUES,
             rows: m,
             cols: 1,
         },
-        b'I' => Block {
+        b'I' => Area {
             base: VALUES,
             rows: m,
             cols: 1,
         },
-        b'A' => Block {
+        b'A' => Area {
             base: JACOBIAN,
             rows: m,
             cols: n,
         },
-        b'B' => Block {
+        b'B' => Area {
             base: LOWER,
             rows: 1,
             cols: n,
         },
-        b'T' => Block {
+        b'T' => Area {
             base: UPPER,
             rows: 1,
             cols: n,
         },
-        _ => Block {
+        _ => Area {
             base: 0,
             rows: 0,
             cols: 0,
@@ -116,15 +116,15 @@ fn block_of(m: usize, n: usize, tag: u8) -> Block
 
 // The mark of a place that a record with this tag gives.
 fn mark(tag: u8) -> u8
-    ensures { λ r. ⌜ r ≡ markOf tag ⌝ }
+    ensures { λ r. ⌜ r ≡ tagMark tag ⌝ }
 {
     if tag == b'I' { 2 } else { 1 }
 }
 
-// The place of (row, col) in a block that lies in the tables.
-fn within(b: Block, row: usize, col: usize) -> Spot
+// The place of (row, col) in an area that lies in the tables.
+fn within(b: Area, row: usize, col: usize) -> Spot
     requires { ⌜ (b .base ≤ PLACES) × (b .rows ≤ 16) × (b .cols ≤ 16) ⌝ }
-    ensures { λ r. ⌜ r ≡ Tables·within b row col ⌝ }
+    ensures { λ r. ⌜ r ≡ spotIn b row col ⌝ }
 {
     let base = b.base;
     let cols = b.cols;
@@ -136,7 +136,7 @@ fn within(b: Block, row: usize, col: usize) -> Spot
     Spot::Outside
 }
 
-// The place of (row, col) in the block of a tag: none above the factor's diagonal.
+// The place of (row, col) in the area of a tag: none above the factor's diagonal.
 fn spot_of(m: usize, n: usize, tag: u8, row: usize, col: usize) -> Spot
     requires { ⌜ (m ≤ 16) × (n ≤ 16) ⌝ }
     ensures { λ r. ⌜ r ≡ spotOf m n tag row col ⌝ }
@@ -146,13 +146,13 @@ fn spot_of(m: usize, n: usize, tag: u8, row: usize, col: usize) -> Spot
             return Spot::Outside;
         }
     }
-    within(block_of(m, n, tag), row, col)
+    within(area_of(m, n, tag), row, col)
 }
 
 // Puts an entry at a place, unless the place is marked.
 fn put(p: usize, mark: u8, v: f64, marks: &mut [u8], vals: &mut [f64]) -> bool
     requires { ⌜ (p < length (now marks)) × (p < length (now vals)) ⌝ }
-    ensures { λ r. ⌜ enteredBy r (now (marks .exit)) (now (vals .exit)) ≡ Filling·put (Spot.At p) mark v (now (marks .entry)) (now (vals .entry)) ⌝ }
+    ensures { λ r. ⌜ enteredBy r (now (marks .exit)) (now (vals .exit)) ≡ putAt (Spot.At p) mark v (now (marks .entry)) (now (vals .entry)) ⌝ }
 {
     if marks[p] != 0 {
         return false;
@@ -255,7 +255,7 @@ fn default_at(n: usize, p: usize) -> f64
 // Every place at its default.
 fn defaults(n: usize, vals: &mut [f64])
     requires { ⌜ (0 < n) × (length (now vals) ≡ PLACES) ⌝ }
-    ensures { λ _. ⌜ now (vals .exit) ≡ Tables·defaults n ⌝ }
+    ensures { λ _. ⌜ now (vals .exit) ≡ defaultValues n ⌝ }
 {
     for i in 0..PLACES {
         vals[i] = default_at(n, i);
@@ -265,7 +265,7 @@ fn defaults(n: usize, vals: &mut [f64])
 // Whether each of m constraints has its mark.
 fn complete(m: usize, marks: &[u8]) -> bool
     requires { ⌜ (m ≤ 16) × (length (now marks) ≡ PLACES) ⌝ }
-    ensures { λ r. ⌜ r ≡ allMarked (take m (drop Tables·VALUES (now (marks .entry)))) ⌝ }
+    ensures { λ r. ⌜ r ≡ allMarked (take m (drop VALUES (now (marks .entry)))) ⌝ }
 {
     for i in 0..m {
         if marks[VALUES + i] == 0 {

@@ -4,18 +4,18 @@ ghost use Prim.Native.Nat.{_+_, _≤_, _<_};
 ghost use lib.ListN.{length, take, drop};
 ghost use Rattle.record_read.specs.inner.Tables.{PLACES, factorIn, gradientIn, valuesIn, jacobianIn, lowerIn, upperIn, kindAt, kindsIn};
 
-// A table of marks.
-pub fn blank_marks() -> [u8; 576]
+// A table with no mark.
+pub fn blank_marks() -> [u8; crate::PLACES]
     ensures { λ r. ⌜ PLACES ≡ length r ⌝ }
 {
-    [0; 576]
+    [0; crate::PLACES]
 }
 
-// A table of values.
-pub fn blank_values() -> [f64; 576]
+// A table of zeros.
+pub fn blank_values() -> [f64; crate::PLACES]
     ensures { λ r. ⌜ PLACES ≡ length r ⌝ }
 {
-    [0.0; 576]
+    [0.0; crate::PLACES]
 }
 
 // The k entries from a place on.

@@ -1,11 +1,9 @@
 -- `put_step`: the step's answer, as text.
-use mathlib.Core.Path.{sym}
+use mathlib.Core.Path.{sym, ap, _∙_}
 use native.Mathlib.Omega.{arith}
 use lib.Seq.{length-take-le}
-use Rattle.step.specs.Step.{step}
-use Rattle.record_read.specs.inner.Tables.{problemIn}
+use Rattle.record_answer.specs.Program.{stepText}
 use Rattle.record_answer.proofs.Writing.{as-text}
-use Rattle.record_answer.proofs.Answers.{done-text, refused-text}
 use Rattle.record_answer.proofs.put_step.Statement.{statement}
 use Rattle.record_answer.proofs.put_step.Tie as tie
 
@@ -19,49 +17,34 @@ array-borrow-prefix-d : tie.Need-array-borrow-prefix-d
 array-borrow-prefix-d c = omega arith
 
 slice-aggregate-ds : tie.Need-slice-aggregate-ds
-slice-aggregate-ds c = let s = c .before .before .before .before .before .before in sym (length-take-le (s .args .n) _ (omega (arith, s .pre, c .before .before .sixteen .ensures)))
+slice-aggregate-ds c = let s = c .before .before .before .before .before .before in sym (length-take-le (s .args .n) _ (omega (arith, s .pre .2, c .before .before .sixteen .ensures)))
 
 array-borrow-prefix-l : tie.Need-array-borrow-prefix-l
 array-borrow-prefix-l c = omega arith
 
 slice-aggregate-ls : tie.Need-slice-aggregate-ls
-slice-aggregate-ls c = let s = c .before .before .before .before .before .before .before in sym (length-take-le (s .args .m) _ (omega (arith, s .pre, c .before .before .sixteen2 .ensures)))
+slice-aggregate-ls c = let s = c .before .before .before .before .before .before .before in sym (length-take-le (s .args .m) _ (omega (arith, s .pre .0, c .before .before .sixteen2 .ensures)))
 
 solve-requires : tie.Need-solve-requires
-solve-requires c κs = let s = c .before .before .before .before .before .before .before .before .before in
-    ((s .pre .0, s .pre .1, s .pre .2, s .pre .3, s .pre .4), (length-take-le (s .args .n) _ (omega (arith, s .pre, c .before .before .before .before .before .sixteen .ensures)), length-take-le (s .args .m) _ (omega (arith, s .pre, c .before .before .before .before .sixteen2 .ensures))))
+solve-requires c κs =
+    let s = c .before .before .before .before .before .before .before .before .before in
+    let d = length-take-le (s .args .n) (c .before .before .before .before .before .sixteen .result) (omega (arith, s .pre .2, c .before .before .before .before .before .sixteen .ensures)) in
+    let l = length-take-le (s .args .m) (c .before .before .before .before .sixteen2 .result) (omega (arith, s .pre .0, c .before .before .before .before .sixteen2 .ensures)) in
+    ((s .pre .0, s .pre .1, s .pre .2, s .pre .3, s .pre .4), (d, l))
 
-enum-known-k : tie.Need-enum-known-k
-enum-known-k c = omega arith
-
-put-refusal-requires : tie.Need-put-refusal-requires
-put-refusal-requires c κs = omega arith
-
-enum-known-relaxation : tie.Need-enum-known-relaxation
-enum-known-relaxation c = omega arith
-
-put-done-requires : tie.Need-put-done-requires
-put-done-requires c κs = let s = c .before .before .before .before .before .before .before .before .before .before .before .before .before .before .before .before .before .before .before .before in
-    let k = c .before .before .before .before .before .before .before .before .before .before .solve in
-    let d = length-take-le (s .args .n) (c .before .before .before .before .before .before .before .before .before .before .before .before .before .before .before .before .sixteen .result) (omega (arith, s .pre, c .before .before .before .before .before .before .before .before .before .before .before .before .before .before .before .before .sixteen .ensures)) in
-    let l = length-take-le (s .args .m) (c .before .before .before .before .before .before .before .before .before .before .before .before .before .before .before .sixteen2 .result) (omega (arith, s .pre, c .before .before .before .before .before .before .before .before .before .before .before .before .before .before .before .sixteen2 .ensures)) in
+put-answer-requires : tie.Need-put-answer-requires
+put-answer-requires c κs =
+    let s = c .before .before .before .before .before .before .before .before .before .before .before .before .before .before .before .before .before in
+    let k = c .before .before .before .before .before .before .before .solve in
+    let d = length-take-le (s .args .n) (c .before .before .before .before .before .before .before .before .before .before .before .before .before .sixteen .result) (omega (arith, s .pre .2, c .before .before .before .before .before .before .before .before .before .before .before .before .before .sixteen .ensures)) in
+    let l = length-take-le (s .args .m) (c .before .before .before .before .before .before .before .before .before .before .before .before .sixteen2 .result) (omega (arith, s .pre .0, c .before .before .before .before .before .before .before .before .before .before .before .before .sixteen2 .ensures)) in
     (s .pre .5, omega (arith, s .pre .2, d, k .kept .1 .1 .1 .1 .0), omega (arith, s .pre .0, l, k .kept .1 .1 .1 .1 .1 .0))
 
 same-length : tie.Need-same-length
 same-length c = omega arith
 
 returns : tie.Need-returns
-returns c = let a = c .before .before .before .before .before .before .before .before .before .before .before .before .before .before .before .before .before .before .before .before .before .before .before .args in
-    let k = c .before .before .before .before .before .before .before .before .before .before .before .before .before .solve in
-    as-text (refused-text (k .result) _ (k .last .1 .1 .1 .1 .0) (k .last .1 .1 .1 .1 .1 .0) (step (problemIn (a .m) (a .n) (a .marks .now) (a .vals .now)) .answer) (c .before .before .before .before .before .before .before .k .given .1) (k .ensures)) (c .before .before .put-refusal .ensures)
-
-same-length-2 : tie.Need-same-length-2
-same-length-2 c = omega arith
-
-returns-2 : tie.Need-returns-2
-returns-2 c = let a = c .before .before .before .before .before .before .before .before .before .before .before .before .before .before .before .before .before .before .before .before .before .before .before .before .before .args in
-    let k = c .before .before .before .before .before .before .before .before .before .before .before .before .before .before .before .solve in
-    as-text (done-text (k .result) _ (k .last .1 .1 .1 .1 .0) (k .last .1 .1 .1 .1 .1 .0) (step (problemIn (a .m) (a .n) (a .marks .now) (a .vals .now)) .answer) (c .before .before .before .before .before .before .before .before .before .relaxation .given .1) (k .ensures)) (c .before .before .before .before .put-done .ensures)
+returns c = as-text (ap stepText (c .before .before .before .before .before .before .before .before .before .before .before .before .solve .ensures)) (c .before .before .before .before .put-answer .ensures)
 
 pub put-step-spec : {M : Type 1} → statement M
 put-step-spec =
@@ -74,11 +57,6 @@ put-step-spec =
     array-borrow-prefix-l
     slice-aggregate-ls
     solve-requires
-    enum-known-k
-    put-refusal-requires
-    enum-known-relaxation
-    put-done-requires
+    put-answer-requires
     same-length
-    returns
-    same-length-2
-    returns-2)
+    returns)

@@ -20,6 +20,6 @@ pub record Wrote (before : List ℕ) (at : ℕ) (text after : List ℕ) (end : �
 abbrev pub stepFrom : Float → (d multipliers : List Float) → Step
 stepFrom relaxation d l = record { d = d; multipliers = l; relaxation = relaxation }
 
-abbrev pub outcomeAnswer : Outcome → (d multipliers : List Float) → Answer Step
-outcomeAnswer (Done relaxation) d l = done (stepFrom relaxation d l)
-outcomeAnswer (Refused r) d l = refused r
+abbrev pub stepAnswerOf : Outcome → (d multipliers : List Float) → Answer Step
+stepAnswerOf (Done relaxation) d l = done (stepFrom relaxation d l)
+stepAnswerOf (Refused r) d l = refused r

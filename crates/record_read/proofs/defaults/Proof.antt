@@ -2,7 +2,7 @@
 use Prim.Native.Nat.{_-_, _≤_}
 use native.Mathlib.Omega.{arith}
 use Rattle.numbers.proofs.Fills.{Fill, fill-none, fill-more, fill-all}
-use Rattle.record_read.specs.inner.Tables.{defaultAt, defaults}
+use Rattle.record_read.specs.inner.Tables.{defaultAt, defaultValues}
 use Rattle.record_read.proofs.defaults.Statement.{statement}
 use Rattle.record_read.proofs.defaults.Tie as tie
 
@@ -37,7 +37,7 @@ same-length : tie.Need-same-length Inv-loop μ-loop
 same-length c = c .before .loop .inv .1 .size
 
 returns : tie.Need-returns Inv-loop μ-loop
-unfolding defaults
+unfolding defaultValues
 returns c = fill-all (c .before .loop .inv .1) (omega arith) (omega arith)
 
 pub defaults-spec : {M : Type 1} → statement M

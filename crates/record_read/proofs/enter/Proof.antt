@@ -4,7 +4,7 @@ use Prim.Native.Nat.{_<_}
 use native.Mathlib.Omega.{arith}
 use lib.Ieee.{ofBits, binary64}
 use Rattle.record_read.proofs.Entries.{enter-bad, enter-at}
-use Rattle.record_read.proofs.Blocks.{entry-in}
+use Rattle.record_read.proofs.Areas.{entry-in}
 use Rattle.record_read.proofs.enter.Statement.{statement}
 use Rattle.record_read.proofs.enter.Tie as tie
 

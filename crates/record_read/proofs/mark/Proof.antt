@@ -1,15 +1,15 @@
 -- `mark`: 2 for `I`, else 1.
 use borrow.Author.Tests.{ne-eqb}
-use Rattle.record_read.specs.inner.Tables.{markOf}
+use Rattle.record_read.specs.inner.Tables.{tagMark}
 use Rattle.record_read.proofs.mark.Statement.{statement}
 use Rattle.record_read.proofs.mark.Tie as tie
 
 returns : tie.Need-returns
-unfolding markOf
+unfolding tagMark
 returns c = rw (c .if1 .taken)
 
 returns-2 : tie.Need-returns-2
-unfolding markOf
+unfolding tagMark
 returns-2 c = simp (ne-eqb _ _ (c .if1 .left))
 
 pub mark-spec : {M : Type 1} → statement M

@@ -2,7 +2,7 @@
 use native.Mathlib.Omega.{arith}
 use borrow.Author.Tests.{eq-eqb, ne-eqb}
 use lib.ListN.{length-set}
-use Rattle.record_read.specs.inner.Filling.{put}
+use Rattle.record_read.specs.inner.Filling.{putAt}
 use Rattle.record_read.proofs.put.Statement.{statement}
 use Rattle.record_read.proofs.put.Tie as tie
 
@@ -10,7 +10,7 @@ slice-read-if1 : tie.Need-slice-read-if1
 slice-read-if1 c = omega arith
 
 returns : tie.Need-returns
-unfolding put
+unfolding putAt
 returns c = simp (ne-eqb _ _ (c .if1 .taken))
 
 slice-write-marks : tie.Need-slice-write-marks
@@ -29,7 +29,7 @@ same-length-2 : tie.Need-same-length-2
 same-length-2 c = simp length-set
 
 returns-2 : tie.Need-returns-2
-unfolding put
+unfolding putAt
 returns-2 c = simp (eq-eqb _ _ (c .if1 .left))
 
 pub put-spec : {M : Type 1} → statement M

@@ -3,7 +3,7 @@ use Prim.Native.Nat.{_*_, _≤_}
 use native.Mathlib.Nat.{mul-le-mul}
 use native.Mathlib.Omega.{arith}
 use borrow.Author.Tests.{lt-ltb, le-ltb}
-use Rattle.record_read.specs.inner.Tables.{within}
+use Rattle.record_read.specs.inner.Tables.{spotIn}
 use Rattle.record_read.proofs.within.Statement.{statement}
 use Rattle.record_read.proofs.within.Tie as tie
 
@@ -29,15 +29,15 @@ add-t10 c =
     omega arith
 
 returns : tie.Need-returns
-unfolding within
+unfolding spotIn
 returns c = simp (lt-ltb _ _ (c .before .if1 .taken), lt-ltb _ _ (c .if2 .taken))
 
 returns-2 : tie.Need-returns-2
-unfolding within
+unfolding spotIn
 returns-2 c = simp (lt-ltb _ _ (c .before .if1 .taken), le-ltb _ _ (c .if2 .left))
 
 returns-3 : tie.Need-returns-3
-unfolding within
+unfolding spotIn
 returns-3 c = simp (le-ltb _ _ (c .if1 .left))
 
 pub within-spec : {M : Type 1} → statement M

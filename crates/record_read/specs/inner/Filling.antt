@@ -12,14 +12,14 @@ use Rattle.record_read.specs.declared.Head.{Head}
 use Rattle.record_read.specs.declared.Head.the-variants.{Unsound, TooLarge, Sizes}
 use Rattle.record_read.specs.declared.Input.{Input}
 use Rattle.record_read.specs.declared.Input.the-variants.{Fault, Large, Whole}
-use Rattle.record_read.specs.Input.{tagOf, rowNumber, columnOf, valueOf, spareZero, recordAt, isHead, Decoded}
-use Rattle.record_read.specs.inner.Tables.{VALUES, ifSpot, spotOf, markOf, noMarks, defaults, decodedIn}
+use Rattle.record_read.specs.Input.{recordTag, recordRow, recordColumn, recordValue, spareZero, recordAt, isHead, Decoded}
+use Rattle.record_read.specs.inner.Tables.{VALUES, ifSpot, spotOf, tagMark, noMarks, defaultValues, decodedIn}
 
 -- ---- one record after the first
 
 -- the place that a record names: none if a spare byte is not zero
 unfoldable pub entryOf : (m n : ℕ) → List ℕ → Spot
-entryOf m n r = ifSpot (spareZero r) (spotOf m n (tagOf r) (rowNumber r) (columnOf r))
+entryOf m n r = ifSpot (spareZero r) (spotOf m n (recordTag r) (recordRow r) (recordColumn r))
 
 -- the tables after it: as they were if it is at fault, or with its entry
 pub data Entered : Type 0 where
@@ -31,12 +31,12 @@ ifEntered true a b = a
 ifEntered false a b = b
 
 -- a place that is marked already is given already
-unfoldable pub put : Spot → ℕ → Float → List ℕ → List Float → Entered
-put Outside mark v marks vals = kept marks vals
-put (At p) mark v marks vals = ifEntered (eqb (getD marks p 0) 0) (added (set marks p mark) (set vals p v)) (kept marks vals)
+unfoldable pub putAt : Spot → ℕ → Float → List ℕ → List Float → Entered
+putAt Outside mark v marks vals = kept marks vals
+putAt (At p) mark v marks vals = ifEntered (eqb (getD marks p 0) 0) (added (set marks p mark) (set vals p v)) (kept marks vals)
 
 unfoldable pub entered : (m n : ℕ) → List ℕ → List ℕ → List Float → Entered
-entered m n r marks vals = put (entryOf m n r) (markOf (tagOf r)) (valueOf r) marks vals
+entered m n r marks vals = putAt (entryOf m n r) (tagMark (recordTag r)) (recordValue r) marks vals
 
 -- the code's answer, with the tables that it leaves
 abbrev pub enteredBy : Bool → List ℕ → List Float → Entered
@@ -53,7 +53,7 @@ unfoldable pub sizesOf : (m n : ℕ) → Head
 sizesOf m n = ifHead (isDimension n && isConstraints m) (Sizes m n) TooLarge
 
 unfoldable pub headOf : List ℕ → Head
-headOf r = ifHead (isHead r) (sizesOf (rowNumber r) (columnOf r)) Unsound
+headOf r = ifHead (isHead r) (sizesOf (recordRow r) (recordColumn r)) Unsound
 
 -- ---- the whole input
 
@@ -104,4 +104,4 @@ unfoldable pub decodeTables : List ℕ → List ℕ → List Float → Filling
 decodeTables bs marks vals =
     ifFilling (ltb (length bs) 16) (filling (Fault 0) marks vals)
     (onHead (headOf (take 16 bs)) (filling (Fault 0) marks vals) (filling Large marks vals)
-    (λ m n. walkTables m n bs (length bs / 16 - 1) 1 noMarks (defaults n)))
+    (λ m n. walkTables m n bs (length bs / 16 - 1) 1 noMarks (defaultValues n)))

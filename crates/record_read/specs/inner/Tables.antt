@@ -8,14 +8,14 @@ use lib.ListN.{getD, take, drop, replicate}
 use lib.Ieee.{Float, inf}
 use Rattle.numbers.specs.Numbers.{+0, one, tab}
 use Rattle.step_rows.specs.Problem.{Problem, problemOf}
-use Rattle.record_read.specs.declared.Block.{Block}
+use Rattle.record_read.specs.declared.Area.{Area}
 use Rattle.record_read.specs.declared.Spot.{Spot}
 use Rattle.record_read.specs.declared.Spot.the-variants.{Outside, At}
 use Rattle.record_read.specs.declared.Input.{Input}
 use Rattle.record_read.specs.declared.Input.the-variants.{Fault, Large, Whole}
 use Rattle.record_read.specs.Input.{is, Decoded, fault, tooLarge, problem}
 
--- ---- where the blocks start, after the factor's at 0, and how many places there are
+-- ---- where the areas start, after the factor's at 0, and how many places there are
 
 abbrev pub GRADIENT : ℕ
 GRADIENT = 256
@@ -37,40 +37,40 @@ PLACES = UPPER + 16
 
 -- ---- the place of an entry
 
-abbrev pub block : ℕ → ℕ → ℕ → Block
-block base rows cols = record { base = base; rows = rows; cols = cols }
+abbrev pub area : ℕ → ℕ → ℕ → Area
+area base rows cols = record { base = base; rows = rows; cols = cols }
 
-abbrev pub either : Bool → Block → Block → Block
+abbrev pub either : Bool → Area → Area → Area
 either true a b = a
 either false a b = b
 
--- the block that a tag names: where it starts, its rows and columns
-unfoldable pub blockOf : (m n tag : ℕ) → Block
-blockOf m n tag =
-    either (is "L" tag) (block 0 n n)
-    (either (is "G" tag) (block GRADIENT 1 n)
-    (either (is "E" tag) (block VALUES m 1)
-    (either (is "I" tag) (block VALUES m 1)
-    (either (is "A" tag) (block JACOBIAN m n)
-    (either (is "B" tag) (block LOWER 1 n)
-    (either (is "T" tag) (block UPPER 1 n)
-    (block 0 0 0)))))))
+-- the area that a tag names: where it starts, its rows and columns
+unfoldable pub areaOf : (m n tag : ℕ) → Area
+areaOf m n tag =
+    either (is "L" tag) (area 0 n n)
+    (either (is "G" tag) (area GRADIENT 1 n)
+    (either (is "E" tag) (area VALUES m 1)
+    (either (is "I" tag) (area VALUES m 1)
+    (either (is "A" tag) (area JACOBIAN m n)
+    (either (is "B" tag) (area LOWER 1 n)
+    (either (is "T" tag) (area UPPER 1 n)
+    (area 0 0 0)))))))
 
 abbrev pub ifSpot : Bool → Spot → Spot
 ifSpot true s = s
 ifSpot false s = Outside
 
--- the place of (row, column) in a block, or outside
-unfoldable pub within : Block → (row column : ℕ) → Spot
-within b row col = ifSpot (ltb row (b .rows)) (ifSpot (ltb col (b .cols)) (At (b .base + (row * b .cols + col))))
+-- the place of (row, column) in an area, or outside
+unfoldable pub spotIn : Area → (row column : ℕ) → Spot
+spotIn b row col = ifSpot (ltb row (b .rows)) (ifSpot (ltb col (b .cols)) (At (b .base + (row * b .cols + col))))
 
 -- an `L` above the diagonal is outside too
 unfoldable pub spotOf : (m n tag row column : ℕ) → Spot
-spotOf m n tag row col = ifSpot (not (is "L" tag && ltb row col)) (within (blockOf m n tag) row col)
+spotOf m n tag row col = ifSpot (not (is "L" tag && ltb row col)) (spotIn (areaOf m n tag) row col)
 
 -- `I` marks a place with 2, and any other tag with 1
-unfoldable pub markOf : ℕ → ℕ
-markOf tag = cond (is "I" tag) 2 1
+unfoldable pub tagMark : ℕ → ℕ
+tagMark tag = cond (is "I" tag) 2 1
 
 -- ---- the tables before the second record
 
@@ -84,8 +84,8 @@ defaultAt n p =
     (cond (ltb p LOWER) +0
     (cond (ltb p UPPER) (inf true) (inf false)))
 
-unfoldable pub defaults : ℕ → List Float
-defaults n = tab PLACES (defaultAt n)
+unfoldable pub defaultValues : ℕ → List Float
+defaultValues n = tab PLACES (defaultAt n)
 
 -- ---- what the tables say
 

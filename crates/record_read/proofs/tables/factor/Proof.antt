@@ -1,6 +1,6 @@
 -- `factor`: its size is at most 256.
 use native.Mathlib.Omega.{arith}
-use Rattle.record_read.proofs.Blocks.{square}
+use Rattle.record_read.proofs.Areas.{square}
 use Rattle.record_read.proofs.tables.factor.Statement.{statement}
 use Rattle.record_read.proofs.tables.factor.Tie as tie
 

@@ -1,6 +1,6 @@
 -- `jacobian`: its size is at most 256.
 use native.Mathlib.Omega.{arith}
-use Rattle.record_read.proofs.Blocks.{square}
+use Rattle.record_read.proofs.Areas.{square}
 use Rattle.record_read.proofs.tables.jacobian.Statement.{statement}
 use Rattle.record_read.proofs.tables.jacobian.Tie as tie
 

@@ -1,4 +1,4 @@
--- Every block lies in the tables, and so does every place in it.
+-- Every area lies in the tables, and so does every place in it.
 use mathlib.Core.Path.{_≡_, refl}
 use mathlib.Core.Bool.{Bool, true, false, _&&_, not}
 use mathlib.Core.List.{List}
@@ -8,35 +8,35 @@ use native.Mathlib.Omega.{arith}
 use borrow.Author.Tests.{ltb-true}
 use lib.Dec.{eqb, ltb}
 use Rattle.numbers.proofs.Lists.{index-lt}
-use Rattle.record_read.specs.declared.Block.{Block}
+use Rattle.record_read.specs.declared.Area.{Area}
 use Rattle.record_read.specs.declared.Spot.{Spot}
 use Rattle.record_read.specs.declared.Spot.the-variants.{Outside, At}
-use Rattle.record_read.specs.inner.Tables.{block, either, blockOf, within, spotOf, ifSpot}
+use Rattle.record_read.specs.inner.Tables.{area, either, areaOf, spotIn, spotOf, ifSpot}
 use Rattle.record_read.specs.inner.Filling.{entryOf}
-use Rattle.record_read.specs.Input.{is, spareZero, tagOf, rowNumber, columnOf}
+use Rattle.record_read.specs.Input.{is, spareZero, recordTag, recordRow, recordColumn}
 
--- where an `L` is not above the diagonal, the block decides
-pub spot-rest : (m n tag row col : ℕ) → (eqb tag 76 && ltb row col) ≡ false → spotOf m n tag row col ≡ within (blockOf m n tag) row col
+-- where an `L` is not above the diagonal, the area decides
+pub spot-rest : (m n tag row col : ℕ) → (eqb tag 76 && ltb row col) ≡ false → spotOf m n tag row col ≡ spotIn (areaOf m n tag) row col
 unfolding spotOf
 spot-rest m n tag row col e = simp e
 
--- a block that lies in the tables
-pub record Room (b : Block) : Type 0 where
+-- an area that lies in the tables
+pub record Room (b : Area) : Type 0 where
   pub base : b .base ≤ 576
   pub rows : b .rows ≤ 16
   pub cols : b .cols ≤ 16
   pub all : b .base + b .rows * b .cols ≤ 576
 
-fits : (base rows cols : ℕ) → base ≤ 576 → rows ≤ 16 → cols ≤ 16 → base + rows * cols ≤ 576 → Room (block base rows cols)
+fits : (base rows cols : ℕ) → base ≤ 576 → rows ≤ 16 → cols ≤ 16 → base + rows * cols ≤ 576 → Room (area base rows cols)
 fits base rows cols a b c d = record { base = a; rows = b; cols = c; all = d }
 
-room-either : (b : Bool) {x y : Block} → Room x → Room y → Room (either b x y)
+room-either : (b : Bool) {x y : Area} → Room x → Room y → Room (either b x y)
 room-either true p q = p
 room-either false p q = q
 
--- every block lies in the tables
-pub room : (m n tag : ℕ) → m ≤ 16 → n ≤ 16 → Room (blockOf m n tag)
-unfolding blockOf
+-- every area lies in the tables
+pub room : (m n tag : ℕ) → m ≤ 16 → n ≤ 16 → Room (areaOf m n tag)
+unfolding areaOf
 room m n tag hm hn =
     let mn : m * n ≤ 16 * 16 = mul-le-mul hm hn in
     let nn : n * n ≤ 16 * 16 = mul-le-mul hn hn in
@@ -56,8 +56,8 @@ pub if-spot : (b : Bool) (s : Spot) (p : ℕ) → ifSpot b s ≡ At p → (b ≡
 if-spot true s p e = (refl, e)
 if-spot false s p e = never p e
 
-pub within-in : (b : Block) (row col p : ℕ) → Room b → within b row col ≡ At p → p < 576
-unfolding within
+pub within-in : (b : Area) (row col p : ℕ) → Room b → spotIn b row col ≡ At p → p < 576
+unfolding spotIn
 within-in b row col p h e =
     let x = if-spot (ltb row (b .rows)) _ p e in
     let y = if-spot (ltb col (b .cols)) _ p (x .1) in
@@ -70,12 +70,12 @@ pub entry-in : (m n : ℕ) (r : List ℕ) (p : ℕ) → m ≤ 16 → n ≤ 16 �
 unfolding entryOf spotOf
 entry-in m n r p hm hn e =
     let x = if-spot (spareZero r) _ p e in
-    let y = if-spot (not (eqb (tagOf r) 76 && ltb (rowNumber r) (columnOf r))) _ p (x .1) in
-    within-in (blockOf m n (tagOf r)) (rowNumber r) (columnOf r) p (room m n (tagOf r) hm hn) (y .1)
+    let y = if-spot (not (eqb (recordTag r) 76 && ltb (recordRow r) (recordColumn r))) _ p (x .1) in
+    within-in (areaOf m n (recordTag r)) (recordRow r) (recordColumn r) p (room m n (recordTag r) hm hn) (y .1)
 
-pub spot-within : (m n t i j p : ℕ) → spotOf m n t i j ≡ At p → within (blockOf m n t) i j ≡ At p
+pub spot-within : (m n t i j p : ℕ) → spotOf m n t i j ≡ At p → spotIn (areaOf m n t) i j ≡ At p
 unfolding spotOf
-spot-within m n t i j p e = if-spot (not (is "L" t && ltb i j)) (within (blockOf m n t) i j) p e .1
+spot-within m n t i j p e = if-spot (not (is "L" t && ltb i j)) (spotIn (areaOf m n t) i j) p e .1
 
 pub square : (m n : ℕ) → m ≤ 16 → n ≤ 16 → m * n ≤ 256
 square m n h l = mul-le-mul h l
