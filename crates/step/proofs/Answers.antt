@@ -20,7 +20,7 @@ use Rattle.step.specs.inner.Work.{triedStep}
 use Rattle.step.specs.declared.Tried.{Tried}
 use Rattle.step.specs.declared.Tried.the-variants.{Done, Refused}
 
--- what a caller is endedSolution of an ending says what it answers
+-- what a caller is told of an ending says what it answers
 answered-refused : (o : Ending) (s : Solution) (r : Refusal) → Outcome.Refused r ≡ outcomeOf (endingAnswer o s) → endingAnswer o s ≡ refused r
 answered-refused Ending.Done s r e = let z : _≡_ {A = ℕ} 0 1 = cc in absurd (let y : ⊥ = omega arith in y)
 answered-refused Ending.Deficient s r e = let z : r ≡ Deficient = cc in rw z
@@ -42,7 +42,7 @@ answered-late Ending.Capped s = refl
 pub refusal-late : (o : Ending) (s : Solution) (r : Refusal) → Outcome.Refused r ≡ outcomeOf (endingAnswer o s) → isLate r ≡ true
 refusal-late o s r e = ap (λ (a : Answer Solution). isCleared a) (sym (answered-refused o s r e)) ∙ answered-late o s
 
--- c is endingAnswer with the solution s, and q makes a step of it
+-- c is answered with the solution s, and q makes a step of it
 module _ (e : Ended) (s : Solution) (c : Counted Solution) (q : Solution → Step) (h : endedSolution e s ≡ c) where
   made : andThen (endedSolution e s) (λ x. done (q x)) ≡ andThen c (λ x. done (q x))
   made = ap (λ (a : Counted Solution). andThen a (λ x. done (q x))) h

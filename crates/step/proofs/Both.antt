@@ -10,7 +10,7 @@ use Rattle.workspace.specs.inner.Readings.{vec}
 use Rattle.householder.specs.Qr.{downward}
 use Rattle.nnls.specs.Counted.{Counted, after}
 use Rattle.step_rows.specs.Problem.{problemOf, Problem, boundRows, equalityRows, inequalityRows, relaxedRows}
-use Rattle.step.specs.Step.{Step, target, exactStep, exact, relaxedMatrix, relaxedStep, relaxed, orRelaxed, step}
+use Rattle.step.specs.Step.{Step, target, exactStep, exact, relaxedStep, relaxed, orRelaxed, step}
 use Rattle.step.specs.declared.Tried.{Tried}
 use Rattle.step.specs.declared.Tried.the-variants.{Done, Refused}
 use Rattle.step.specs.inner.Work.{triedStep, later, IsLate, Tries}
@@ -22,7 +22,7 @@ module _ (n m : ℕ) (factor gradient : List Float) (kinds : List ℕ) (values j
   exact-bare f = refl
 
   relaxed-bare : (f : List Float) → relaxed (problemOf n m factor [] kinds values jacobian lower upper) f ≡ relaxed (problemOf n m factor gradient kinds values jacobian lower upper) f
-  unfolding relaxed relaxedStep relaxedMatrix relaxedRows boundRows
+  unfolding relaxed relaxedStep relaxedRows boundRows
   relaxed-bare f = refl
 
   target-is : map neg (downward n (transposed n n factor) n gradient) ≡ target (problemOf n m factor gradient kinds values jacobian lower upper)

@@ -14,7 +14,8 @@ use Rattle.numbers.proofs.Lists.{entry-grid}
 use Rattle.workspace.specs.inner.Readings.{mat, Block, Loaded}
 use Rattle.workspace.proofs.Readings.{entry-mat, mat-is}
 use Rattle.workspace.proofs.Copies.{Laid}
-use Rattle.step.specs.inner.Assembly.{triangle, cornered}
+use Rattle.step.specs.Step.{relaxedMatrix}
+use Rattle.step.specs.inner.Assembly.{triangle}
 
 -- j + 1 entries of the factor's row j, and +0 below
 pub column-written : (p n j : ℕ) (l w w′ w″ : List Float) → j < n → Block p (j + 1) (λ t. at l (j * n + t * 1)) w w′ → Block (p + (j + 1)) (n - j) (λ _. +0) w′ w″
@@ -58,10 +59,10 @@ last i n x r = rw (le-ltb n n (omega arith), eq-eqb n n refl) (go (leb i n) (eqb
     go false true = refl
     go false false = refl
 
-pub cornered-is : (n : ℕ) (r : Float) (l w w′ w″ : List Float) → n ≤ 16 → Loaded 444 (n + 1) n (triangle n l) w w′
-    → Block (444 + n * 18) (n + 1) (λ j. cond (eqb j n) r +0) w′ w″ → Loaded 444 (n + 1) (n + 1) (cornered n r l) w w″
-unfolding triangle cornered
-cornered-is n r l w w′ w″ h a b = record {
+pub matrix-written : (n : ℕ) (r : Float) (l w w′ w″ : List Float) → n ≤ 16 → Loaded 444 (n + 1) n (triangle n l) w w′
+    → Block (444 + n * 18) (n + 1) (λ j. cond (eqb j n) r +0) w′ w″ → Loaded 444 (n + 1) (n + 1) (relaxedMatrix n r l) w w″
+unfolding triangle relaxedMatrix
+matrix-written n r l w w′ w″ h a b = record {
   matrix =
       mat-is 444 (n + 1) (n + 1) w″ _
       (λ i j hi hj.

@@ -26,7 +26,6 @@ use Rattle.step.specs.Step.{Step, rootWeight, relaxedMatrix, paired, cla
 use Rattle.step_rows.specs.inner.Work.{Pushed, relaxedAmong}
 use Rattle.step_rows.proofs.Pushing.{pushed-count, pushed-matrix, pushed-sides}
 use Rattle.step_rows.proofs.Among.{enough-relaxed}
-use Rattle.step.specs.inner.Assembly.{cornered}
 use Rattle.lsei.specs.inner.Work.{endingAnswer, endedSolution, sides, squaresIn}
 use Rattle.lsei.specs.declared.Ended.{Ended}
 use Rattle.step.specs.declared.Tried.the-variants.{Done, Refused}
@@ -38,7 +37,7 @@ use Rattle.step.proofs.Parts.{vec-back, front-back}
 -- ---- what is written: E, f and G with h, one behind the other
 
 module _ (n m g : ℕ) (r : Float) (factor : List Float) (kinds : List ℕ) (values jacobian lower upper w w₁ w₂ w₃ : List Float) (n16 : n ≤ 16) (g66 : g ≤ 66) (q : r ≡ rootWeight)
-    (E : Loaded 444 (n + 1) (n + 1) (cornered n r factor) w w₁)
+    (E : Loaded 444 (n + 1) (n + 1) (relaxedMatrix n r factor) w w₁)
     (F : Block 750 (n + 1) (λ t. at (vec 0 n w₁ ++ (+0 ∷ [])) t) w₁ w₂)
     (G : Pushed 768 (n + 1) 0 g (relaxedRows (problemOf n m [] [] kinds values jacobian lower upper)) w₂ w₃) where
   abbrev whole : Problem
@@ -47,10 +46,6 @@ module _ (n m g : ℕ) (r : Float) (factor : List Float) (kinds : List ℕ) (val
   rows-are : relaxedRows (problemOf n m [] [] kinds values jacobian lower upper) ≡ relaxedRows whole
   unfolding relaxedRows boundRows
   rows-are = refl
-
-  matrix-is : cornered n r factor ≡ relaxedMatrix whole
-  unfolding cornered relaxedMatrix
-  matrix-is = ap (λ (x : Float). cornered n x factor) q
 
   target-kept : vec 0 n w₁ ≡ vec 0 n w
   target-kept = vec-same 0 n w w₁ (λ i h. E .before (0 + i) (omega arith))
@@ -68,7 +63,7 @@ module _ (n m g : ℕ) (r : Float) (factor : List Float) (kinds : List ℕ) (val
     several = g66;
     rows = pushed-count 768 (n + 1) g _ w₂ w₃ G ∙ ap length rows-are;
     the-e =
-        mat-same 444 (n + 1) (n + 1) w₁ w₃ (λ i j hi hj. G .before (444 + j * 18 + i) (omega arith) ∙ F .before (444 + j * 18 + i) (omega arith)) ∙ E .matrix ∙ matrix-is;
+        mat-same 444 (n + 1) (n + 1) w₁ w₃ (λ i j hi hj. G .before (444 + j * 18 + i) (omega arith) ∙ F .before (444 + j * 18 + i) (omega arith)) ∙ E .matrix ∙ ap (λ (x : Float). relaxedMatrix n x factor) q;
     the-f =
         vec-same 750 (n + 1) w₂ w₃ (λ i h. G .before (750 + i) (omega arith)) ∙ side-is ∙ ap (λ (f : List Float). f ++ (+0 ∷ [])) target-kept;
     the-g = pushed-matrix 768 (n + 1) g _ w₂ w₃ G ∙ ap matrixOf rows-are;
@@ -87,7 +82,7 @@ module _ (p : Problem) (f : List Float) (g : ℕ) (w v : List Float) (e : Ended)
     ≡ lsi (p .n + 1) (p .n + 1) g (mat 426 (p .n + 1) (p .n + 1) (midOf 18 (length w - 18) w)) (vec 732 (p .n + 1) (midOf 18 (length w - 18) w))
     (stack 750 g (p .n + 1) (midOf 18 (length w - 18) w)) (sides 750 g (p .n + 1) (midOf 18 (length w - 18) w))) where
   abbrev answer : Counted Solution
-  answer = lsi (p .n + 1) (p .n + 1) (length (relaxedRows p)) (relaxedMatrix p) (f ++ (+0 ∷ [])) (matrixOf (relaxedRows p)) (sidesOf (relaxedRows p))
+  answer = lsi (p .n + 1) (p .n + 1) (length (relaxedRows p)) (relaxedMatrix (p .n) rootWeight (p .factor)) (f ++ (+0 ∷ [])) (matrixOf (relaxedRows p)) (sidesOf (relaxedRows p))
 
   abbrev left : List Float
   left = putMid 18 (length w - 18) w v
@@ -103,13 +98,13 @@ module _ (p : Problem) (f : List Float) (g : ℕ) (w v : List Float) (e : Ended)
   few-rounds : e .rounds ≤ 198
   few-rounds =
       let a = rounds-are e (squaresIn (p .n + 1) g v) answer (relaxedStep p) solved in
-      let b = lsi-rounds (p .n + 1) (p .n + 1) (length (relaxedRows p)) (relaxedMatrix p) (f ++ (+0 ∷ [])) (matrixOf (relaxedRows p)) (sidesOf (relaxedRows p)) in
+      let b = lsi-rounds (p .n + 1) (p .n + 1) (length (relaxedRows p)) (relaxedMatrix (p .n) rootWeight (p .factor)) (f ++ (+0 ∷ [])) (matrixOf (relaxedRows p)) (sidesOf (relaxedRows p)) in
       omega (arith, a, b, X .rows, X .several)
 
   few-factorings : e .factorings ≤ 13334
   few-factorings =
       let a = factorings-are e (squaresIn (p .n + 1) g v) answer (relaxedStep p) solved in
-      let b = lsi-most (p .n + 1) (p .n + 1) (length (relaxedRows p)) (relaxedMatrix p) (f ++ (+0 ∷ [])) (matrixOf (relaxedRows p)) (sidesOf (relaxedRows p)) in
+      let b = lsi-most (p .n + 1) (p .n + 1) (length (relaxedRows p)) (relaxedMatrix (p .n) rootWeight (p .factor)) (f ++ (+0 ∷ [])) (matrixOf (relaxedRows p)) (sidesOf (relaxedRows p)) in
       let k : length (relaxedRows p) ≤ 66 = omega (arith, X .rows, X .several) in
       omega (arith, a, b, mul-le-mul k k, k)
 

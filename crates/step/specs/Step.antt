@@ -51,10 +51,8 @@ weight = near 1000000 1
 abbrev pub rootWeight : Float
 rootWeight = near 1000 1
 
-unfoldable pub relaxedMatrix : Problem → List Float
-relaxedMatrix p =
-    let n = p .n in
-    grid (n + 1) (n + 1) (λ i j. cond (leb i j && ltb j n) (entry n (p .factor) j i) (cond (eqb i n && eqb j n) rootWeight +0))
+unfoldable pub relaxedMatrix : (n : ℕ) (corner : Float) (factor : List Float) → List Float
+relaxedMatrix n corner factor = grid (n + 1) (n + 1) (λ i j. cond (leb i j && ltb j n) (entry n factor j i) (cond (eqb i n && eqb j n) corner +0))
 
 -- an equality's multiplier is that of its first row less that of its second; `next` rows are passed
 unfoldable pub paired : (kinds : List ℕ) (next : ℕ) (l : List Float) → List Float
@@ -72,7 +70,7 @@ relaxedStep p s = record { d = take (p .n) (s .x); multipliers = paired (p .kind
 unfoldable pub relaxed : Problem → List Float → Counted Step
 relaxed p f =
     let rs = relaxedRows p in
-    andThen (lsi (p .n + 1) (p .n + 1) (length rs) (relaxedMatrix p) (f ++ (+0 ∷ [])) (matrixOf rs) (sidesOf rs)) (λ s. done (relaxedStep p s))
+    andThen (lsi (p .n + 1) (p .n + 1) (length rs) (relaxedMatrix (p .n) rootWeight (p .factor)) (f ++ (+0 ∷ [])) (matrixOf rs) (sidesOf rs)) (λ s. done (relaxedStep p s))
 
 -- ---- the step
 

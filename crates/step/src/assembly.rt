@@ -9,9 +9,9 @@ ghost use lib.Ieee.{neg};
 ghost use Rattle.numbers.specs.Numbers.{+0, Σ, at, transposed, _⊖_, _⊗_, _⊘_};
 ghost use Rattle.workspace.specs.inner.Readings.{vec, Block, Loaded};
 ghost use Rattle.householder.specs.Qr.{downward};
-ghost use Rattle.step.specs.Step.{inOrder, paired, clamped};
+ghost use Rattle.step.specs.Step.{inOrder, relaxedMatrix, paired, clamped};
 ghost use Rattle.step_rows.specs.inner.Work.{equalitiesAmong, inequalitiesAmong, relaxedAmong};
-ghost use Rattle.step.specs.inner.Assembly.{triangle, cornered};
+ghost use Rattle.step.specs.inner.Assembly.{triangle};
 ghost use Rattle.step.specs.inner.Places.{EXACT_C, EXACT_EQUALITY_MULTIPLIERS, EXACT_MULTIPLIERS, EXACT_X, RELAXED_E, RELAXED_F, RELAXED_G, RELAXED_MULTIPLIERS, STEP_MULTIPLIERS};
 
 // ---- f = -L^-1 g
@@ -102,7 +102,7 @@ fn write_columns(factor: &[f64], w: &mut [f64], n: usize)
 // The relaxed problem's matrix: the upper triangle of L', and in the corner the root of the weight.
 pub fn write_matrix(factor: &[f64], w: &mut [f64], n: usize, root: f64)
     requires { ⌜ (n ≤ 16) × (length (now factor) ≡ n * n) × (RELAXED_F ≤ length (now w)) ⌝ }
-    ensures { λ _. ⌜ Loaded RELAXED_E (n + 1) (n + 1) (cornered n root (now (factor .entry))) (now (w .entry)) (now (w .exit)) ⌝ }
+    ensures { λ _. ⌜ Loaded RELAXED_E (n + 1) (n + 1) (relaxedMatrix n root (now (factor .entry))) (now (w .entry)) (now (w .exit)) ⌝ }
 {
     write_columns(factor, w, n);
     step_rows::write_unit(w, crate::RELAXED_E + n * 18, n + 1, n, root);

@@ -16,7 +16,7 @@ use Rattle.lsei.specs.Lsei.{Solution, lsi, lsei}
 use Rattle.lsei_call.specs.Claims.{ClearFrom}
 use Rattle.lsei_call.proofs.Clear.{lsi-clear, lsei-clear}
 use Rattle.step_rows.specs.Problem.{Problem, Row, isEquality, matrixOf, sidesOf, each, boundRows, exactRow, equalityRows, inequalityRows, opposedRows, loosenedRow, relaxedOf, deltaRows, relaxedRows}
-use Rattle.step.specs.Step.{Step, target, inOrder, exactStep, exact, relaxedMatrix, paired, relaxedStep, relaxed, orRelaxed, step}
+use Rattle.step.specs.Step.{Step, target, inOrder, exactStep, exact, rootWeight, relaxedMatrix, paired, relaxedStep, relaxed, orRelaxed, step}
 use Rattle.step_call.specs.Claims.{ClearStep, StepClear}
 use Rattle.step_rows.specs.inner.Work.{inequalitiesAmong, relaxedAmong}
 use Rattle.step_rows.proofs.Among.{enough-exact, enough-relaxed}
@@ -79,8 +79,8 @@ unfolding relaxed relaxedStep
 relaxed-clear p f e =
     let n = p .n in
     let rs = relaxedRows p in
-    go (lsi (n + 1) (n + 1) (length rs) (relaxedMatrix p) (f ++ (+0 ∷ [])) (matrixOf rs) (sidesOf rs) .answer)
-    (lsi-clear (n + 1) (n + 1) (length rs) (relaxedMatrix p) (f ++ (+0 ∷ [])) (matrixOf rs) (sidesOf rs))
+    go (lsi (n + 1) (n + 1) (length rs) (relaxedMatrix n rootWeight (p .factor)) (f ++ (+0 ∷ [])) (matrixOf rs) (sidesOf rs) .answer)
+    (lsi-clear (n + 1) (n + 1) (length rs) (relaxedMatrix n rootWeight (p .factor)) (f ++ (+0 ∷ [])) (matrixOf rs) (sidesOf rs))
   where
     go : (a : Answer Solution) → ClearFrom 0 (length (relaxedRows p)) a → ClearStep p (then a (λ s. done (relaxedStep p s)))
     go (done s) h = λ j u k.

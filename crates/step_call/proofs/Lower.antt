@@ -40,16 +40,15 @@ target-same p l h =
 
 -- ---- the relaxed problem
 
-matrix-same : (p : Problem) (l : List Float) → SameLower (p .n) (p .factor) l → relaxedMatrix (withFactor p l) ≡ relaxedMatrix p
+matrix-same : (n : ℕ) (r : Float) (k l : List Float) → SameLower n k l → relaxedMatrix n r l ≡ relaxedMatrix n r k
 unfolding relaxedMatrix
-matrix-same p l h =
-    grid-same (p .n + 1) (p .n + 1)
-    (λ i j. cond (leb i j && ltb j (p .n)) (entry (p .n) l j i) (cond (eqb i (p .n) && eqb j (p .n)) rootWeight +0))
-    (λ i j. cond (leb i j && ltb j (p .n)) (entry (p .n) (p .factor) j i) (cond (eqb i (p .n) && eqb j (p .n)) rootWeight +0))
-    (λ i j a b. go i j (leb i j && ltb j (p .n)) (λ t. leb→le i j (and-l (leb i j) (ltb j (p .n)) t)) (λ t. ltb→lt j (p .n) (and-r (leb i j) (ltb j (p .n)) t)))
+matrix-same n r k l h =
+    grid-same (n + 1) (n + 1) (λ i j. cond (leb i j && ltb j n) (entry n l j i) (cond (eqb i n && eqb j n) r +0))
+    (λ i j. cond (leb i j && ltb j n) (entry n k j i) (cond (eqb i n && eqb j n) r +0))
+    (λ i j a b. go i j (leb i j && ltb j n) (λ t. leb→le i j (and-l (leb i j) (ltb j n) t)) (λ t. ltb→lt j n (and-r (leb i j) (ltb j n) t)))
   where
-    go : (i j : ℕ) (b : Bool) → (T b → i ≤ j) → (T b → j < p .n)
-        → cond b (entry (p .n) l j i) (cond (eqb i (p .n) && eqb j (p .n)) rootWeight +0) ≡ cond b (entry (p .n) (p .factor) j i) (cond (eqb i (p .n) && eqb j (p .n)) rootWeight +0)
+    go : (i j : ℕ) (b : Bool) → (T b → i ≤ j) → (T b → j < n)
+        → cond b (entry n l j i) (cond (eqb i n && eqb j n) r +0) ≡ cond b (entry n k j i) (cond (eqb i n && eqb j n) r +0)
     go i j true a c = sym (h j i (c tt) (a tt))
     go i j false a c = refl
 
@@ -57,7 +56,7 @@ relaxed-same : (p : Problem) (l f : List Float) → SameLower (p .n) (p .factor)
 unfolding relaxed relaxedRows boundRows relaxedStep
 relaxed-same p l f h =
     let rs = relaxedRows p in
-    ap (λ (e : List Float). andThen (lsi (p .n + 1) (p .n + 1) (length rs) e (f ++ (+0 ∷ [])) (matrixOf rs) (sidesOf rs)) (λ s. done (relaxedStep p s))) (matrix-same p l h)
+    ap (λ (e : List Float). andThen (lsi (p .n + 1) (p .n + 1) (length rs) e (f ++ (+0 ∷ [])) (matrixOf rs) (sidesOf rs)) (λ s. done (relaxedStep p s))) (matrix-same (p .n) rootWeight (p .factor) l h)
 
 pub read-lower : ReadLower
 read-lower p l f h = (target-same p l h, relaxed-same p l f h)

@@ -10,7 +10,7 @@ use Rattle.workspace.specs.Tables.{done, refused, isLate}
 use Rattle.workspace.specs.inner.Readings.{vec, mat, stack}
 use Rattle.nnls.specs.Counted.{Counted}
 use Rattle.step_rows.specs.Problem.{Problem, matrixOf, sidesOf, equalityRows, inequalityRows, relaxedRows}
-use Rattle.step.specs.Step.{Step, relaxedMatrix}
+use Rattle.step.specs.Step.{Step, rootWeight, relaxedMatrix}
 use Rattle.step_rows.specs.inner.Work.{Lengths}
 use Rattle.lsei.specs.inner.Work.{sides}
 use Rattle.step.specs.declared.Sizes.{Sizes}
@@ -46,7 +46,7 @@ pub record ExactIn (p : Problem) (f : List Float) (s : Sizes) (w : List Float) :
 pub record RelaxedIn (p : Problem) (f : List Float) (g : ℕ) (w : List Float) : Type 0 where
   pub several : g ≤ 66
   pub rows : g ≡ length (relaxedRows p)
-  pub the-e : mat RELAXED_E (p .n + 1) (p .n + 1) w ≡ relaxedMatrix p
+  pub the-e : mat RELAXED_E (p .n + 1) (p .n + 1) w ≡ relaxedMatrix (p .n) rootWeight (p .factor)
   pub the-f : vec RELAXED_F (p .n + 1) w ≡ f ++ (+0 ∷ [])
   pub the-g : stack RELAXED_G g (p .n + 1) w ≡ matrixOf (relaxedRows p)
   pub the-h : sides RELAXED_G g (p .n + 1) w ≡ sidesOf (relaxedRows p)

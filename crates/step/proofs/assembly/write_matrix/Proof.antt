@@ -1,6 +1,6 @@
 -- `write_matrix`: the columns, and the last one.
 use native.Mathlib.Omega.{arith}
-use Rattle.step.proofs.Matrices.{cornered-is}
+use Rattle.step.proofs.Matrices.{matrix-written}
 use Rattle.step.proofs.assembly.write_matrix.Statement.{statement}
 use Rattle.step.proofs.assembly.write_matrix.Tie as tie
 
@@ -23,7 +23,7 @@ same-length : tie.Need-same-length
 same-length c = omega arith
 
 returns : tie.Need-returns
-returns c = cornered-is _ _ _ _ _ _ (omega arith) (c .before .before .before .before .before .before .write-columns .ensures) (c .before .before .write-unit .ensures)
+returns c = matrix-written _ _ _ _ _ _ (omega arith) (c .before .before .before .before .before .before .write-columns .ensures) (c .before .before .write-unit .ensures)
 
 pub write-matrix-spec : {M : Type 1} → statement M
 write-matrix-spec =
