@@ -20,10 +20,10 @@ use Rattle.workspace.proofs.Writes.{written-more, written-as, block-vec}
 use Rattle.nnls.specs.Counted.{Counted, then, andThen}
 use Rattle.nnls.specs.Nnls.{Accepted, nnls}
 use Rattle.nnls.specs.inner.State.{State, read, endedAnswer, Rounded}
-use Rattle.nnls.specs.declared.Ended as Nnls
+use Rattle.nnls.specs.declared.RoundsEnd as Nnls
 use Rattle.lsei.specs.Lsei.{Solution, infeasibility, unlessSmall, dualMatrix, dualSide, dualResidual, primal, ldp}
 use Rattle.lsei.specs.inner.Work.{endingAnswer, endedSolution, sides, distanceIn}
-use Rattle.nnls.specs.declared.Ended.the-variants as nnls-ended
+use Rattle.nnls.specs.declared.RoundsEnd.the-variants as nnls-end
 use Rattle.lsei.specs.declared.Ending.{Ending}
 use Rattle.lsei.specs.declared.Ending.the-variants.{Done, Infeasible, Capped}
 
@@ -124,7 +124,7 @@ module _ (m n : ℕ) (w w₁ : List Float) (m66 : m ≤ 66) (n17 : n ≤ 17) (f 
 
 -- ---- the whole, from the answer of NNLS
 
-module _ (m n : ℕ) (w w₁ w₂ : List Float) (l l₂ : List ℕ) (e : Nnls.Ended) (m66 : m ≤ 66) (n17 : n ≤ 17) (B : Block 1188 (n + 1) (λ j. cond (ltb j n) +0 one) w w₁)
+module _ (m n : ℕ) (w w₁ w₂ : List Float) (l l₂ : List ℕ) (e : Nnls.RoundsEnd) (m66 : m ≤ 66) (n17 : n ≤ 17) (B : Block 1188 (n + 1) (λ j. cond (ltb j n) +0 one) w w₁)
     (N : Rounded (nnls (n + 1) m (mat 0 (n + 1) m w₁) (vec 1188 (n + 1) w₁) (3 * m)) e (read (n + 1) m w₁ l) (read (n + 1) m w₂ l₂)) where
   abbrev matrix : List Float
   matrix = dualMatrix m n (stack 0 m n w) (sides 0 m n w)
@@ -149,14 +149,14 @@ module _ (m n : ℕ) (w w₁ w₂ : List Float) (l l₂ : List ℕ) (e : Nnls.En
       ∙ ap (λ (a : List Float). andThen (nnls (n + 1) m matrix (dualSide n) (3 * m)) (onward a)) matrix₂
 
   -- from how NNLS ended
-  from-ended : Nnls.Ended → Counted Solution
+  from-ended : Nnls.RoundsEnd → Counted Solution
   from-ended t = andThen (endedAnswer t (read (n + 1) m w₂ l₂)) (onward (mat 0 (n + 1) m w₂))
 
-  pub ldp-capped : (r f : ℕ) → e ≡ nnls-ended.Capped r f → (s : Solution) → endedSolution (record { ending = Capped; rounds = r; factorings = f }) s ≡ ldp m n (stack 0 m n w) (sides 0 m n w)
+  pub ldp-capped : (r f : ℕ) → e ≡ nnls-end.Capped r f → (s : Solution) → endedSolution (record { ending = Capped; rounds = r; factorings = f }) s ≡ ldp m n (stack 0 m n w) (sides 0 m n w)
   unfolding from-ended
   ldp-capped r f h s = ap from-ended (sym h) ∙ whole
 
-  pub ldp-ended : (r f : ℕ) → e ≡ nnls-ended.Accepted r f → (o : Ending) (s : Solution)
+  pub ldp-ended : (r f : ℕ) → e ≡ nnls-end.Accepted r f → (o : Ending) (s : Solution)
       → endingAnswer o s ≡ primal m n (vec 1206 m w₂) (dualResidual m n (mat 0 (n + 1) m w₂) (vec 1206 m w₂))
       → endedSolution (record { ending = o; rounds = r; factorings = f }) s ≡ ldp m n (stack 0 m n w) (sides 0 m n w)
   unfolding from-ended

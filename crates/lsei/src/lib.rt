@@ -156,12 +156,12 @@ pub fn solve_ldp(w: &mut [f64], iw: &mut [u32], m: usize, n: usize) -> Ended
     write_side(w, n);
     let e = nnls::solve_in(w, iw, n + 1, m, 3 * m);
     match e {
-        nnls::Ended::Capped(rounds, factorings) => Ended {
+        nnls::RoundsEnd::Capped(rounds, factorings) => Ended {
             ending: Ending::Capped,
             rounds,
             factorings,
         },
-        nnls::Ended::Accepted(rounds, factorings) => {
+        nnls::RoundsEnd::Accepted(rounds, factorings) => {
             let ending = finish(w, m, n);
             Ended {
                 ending,

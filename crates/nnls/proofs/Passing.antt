@@ -11,7 +11,7 @@ use lib.Ieee.{Float}
 use borrow.Author.Tests.{eqb-true}
 use Rattle.numbers.specs.Numbers.{at, nth}
 use Rattle.nnls_passive.specs.Passive.{isIn}
-use Rattle.nnls.specs.Nnls.{above0, choose, Tried, kept, ended, tries}
+use Rattle.nnls.specs.Nnls.{above0, choose, PassEnd, kept, ended, tries}
 use Rattle.nnls.specs.inner.State.{State, put, solveIn}
 use Rattle.nnls.specs.inner.Work.{TriedColumn, Passed}
 use lib.Ieee.Fits.{and-l}
@@ -46,7 +46,7 @@ trying-none m n f s =
     }
 
 module _ (m n f : ℕ) (s₀ s : State) (count : ℕ) (g : Trying m n f s₀ s count) where
-  goal : Tried
+  goal : PassEnd
   goal = tries n (solveIn m n s₀) n (s₀ .dual) (s₀ .passive) (s₀ .rejected) f
 
   -- the choice, in the words of the start

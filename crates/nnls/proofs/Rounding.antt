@@ -9,11 +9,11 @@ use lib.Ieee.{Float}
 use Rattle.numbers.specs.Numbers.{+0}
 use Rattle.nnls.specs.Nnls.{kept, ended, tries, Settled, turns, accept, pass, rounds, activeSet, nnls}
 use Rattle.nnls.specs.inner.State.{State, put, solveIn, dualIn, Rounded}
-use Rattle.nnls.specs.inner.Work.{triedOf, Passed, TurnsTaken}
+use Rattle.nnls.specs.inner.Work.{passEndOf, Passed, TurnsTaken}
 use Rattle.nnls.proofs.States.{states}
 use Rattle.nnls.specs.declared.Pass.{Pass}
-use Rattle.nnls.specs.declared.Ended.{Ended}
-use Rattle.nnls.specs.declared.Ended.the-variants as Ended
+use Rattle.nnls.specs.declared.RoundsEnd.{RoundsEnd}
+use Rattle.nnls.specs.declared.RoundsEnd.the-variants as RoundsEnd
 use Rattle.nnls.proofs.Unroll.{rounds-ended, rounds-last, rounds-again}
 
 -- s has the problem of s₀
@@ -50,7 +50,7 @@ going-none m n k s =
 
 module _ (m n k : ℕ) (s₀ s : State) (past f : ℕ) (n66 : n ≤ 66) (g : Going m n k s₀ s past f) (t : Pass) (s′ : State)
     (P : Passed (pass n (dualIn m n s) (solveIn m n s) (s .x) (s .passive) f) (f + n) t s s′) where
-  answer₀ : triedOf t s′ ≡ pass n (dualIn m n s₀) (solveIn m n s₀) (s .x) (s .passive) f
+  answer₀ : passEndOf t s′ ≡ pass n (dualIn m n s₀) (solveIn m n s₀) (s .x) (s .passive) f
   answer₀ = P .answer ∙ ap (λ (q : State). pass n (dualIn m n q) (solveIn m n q) (s .x) (s .passive) f) (g .after)
 
   was-ended : t .kept ≡ false → pass n (dualIn m n s₀) (solveIn m n s₀) (s .x) (s .passive) f ≡ ended (s′ .rejected) (t .factorings)
@@ -69,7 +69,7 @@ module _ (m n k : ℕ) (s₀ s : State) (past f : ℕ) (n66 : n ≤ 66) (g : Goi
   b-same = ap (λ (q : State). q .b) (P .after) ∙ ap (λ (q : State). q .b) (g .after)
 
   pub round-accept : t .kept ≡ false
-      → Rounded (rounds n (dualIn m n s₀) (solveIn m n s₀) k (s₀ .x) (s₀ .passive) 0 0) (Ended.Accepted past (t .factorings)) s₀ s′
+      → Rounded (rounds n (dualIn m n s₀) (solveIn m n s₀) k (s₀ .x) (s₀ .passive) 0 0) (RoundsEnd.Accepted past (t .factorings)) s₀ s′
   round-accept h = record {
     answer =
         ap₂ (λ (x : List Float) (q : List ℕ). accept x q (s′ .rejected) past (t .factorings)) x-same (P .unchanged h)
@@ -78,7 +78,7 @@ module _ (m n k : ℕ) (s₀ s : State) (past f : ℕ) (n66 : n ≤ 66) (g : Goi
   }
 
   pub round-capped : k ≤ past → t .kept ≡ true
-      → Rounded (rounds n (dualIn m n s₀) (solveIn m n s₀) k (s₀ .x) (s₀ .passive) 0 0) (Ended.Capped past (t .factorings)) s₀ s′
+      → Rounded (rounds n (dualIn m n s₀) (solveIn m n s₀) k (s₀ .x) (s₀ .passive) 0 0) (RoundsEnd.Capped past (t .factorings)) s₀ s′
   round-capped l h = record {
     answer = sym (g .rest ∙ rounds-last n (dualIn m n s₀) (solveIn m n s₀) (s .x) (s .passive) past f (k - past) (s′ .passive) (s′ .z) (t .factorings) (omega arith) (was-kept h));
     after = same-problem s′ s₀ a-same b-same;
@@ -114,7 +114,7 @@ module _ (m n k : ℕ) (s₀ s : State) (past f : ℕ) (n66 : n ≤ 66) (g : Goi
 
 -- ---- the whole
 
-pub nnls-whole : (m n k : ℕ) (s s₁ s′ : State) (r : Ended) → s₁ ≡ put (replicate n +0) (s .z) (s .dual) (replicate n 0) (s .rejected) s
+pub nnls-whole : (m n k : ℕ) (s s₁ s′ : State) (r : RoundsEnd) → s₁ ≡ put (replicate n +0) (s .z) (s .dual) (replicate n 0) (s .rejected) s
     → Rounded (rounds n (dualIn m n s₁) (solveIn m n s₁) k (s₁ .x) (s₁ .passive) 0 0) r s₁ s′ → Rounded (nnls m n (s .a) (s .b) k) r s s′
 unfolding nnls activeSet
 nnls-whole m n k s s₁ s′ r e p =

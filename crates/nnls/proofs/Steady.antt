@@ -12,7 +12,7 @@ use Rattle.numbers.specs.Numbers.{+0, _⊖_, _⊘_, at, nth}
 use Rattle.numbers.proofs.Lists.{length-tab, getD-tab}
 use Rattle.workspace.specs.Tables.{Answer, done}
 use Rattle.nnls_passive.specs.Passive.{isIn, Solved}
-use Rattle.nnls.specs.Nnls.{above0, upTo0, Block, free, block, blocking, ratioOf, ranksBefore, stepTo, nextX, moveX, moveP, Tried, kept, ended, Accepted, turnNext, turns, pass, lastly, roundNext, rounds, activeSet}
+use Rattle.nnls.specs.Nnls.{above0, upTo0, Obstacle, free, block, blocking, ratioOf, ranksBefore, stepTo, nextX, moveX, moveP, PassEnd, kept, ended, Accepted, turnNext, turns, pass, lastly, roundNext, rounds, activeSet}
 use Rattle.nnls.specs.Claims.{ZeroOrAbove, Solver, Place, round, turn, Passes, begins, enters, moves, settles, totalBefore, Steady}
 use Rattle.nnls.proofs.Signs.{negative, not-upTo0, above-sign, div-sign, clear-sign}
 use Rattle.nnls.proofs.Count.{count, count-both, count-some}
@@ -115,7 +115,7 @@ module _ (n : ℕ) (dual : List Float → List Float) (solve : List ℕ → Solv
   none-blocks : (x z : List Float) (p : List ℕ) → count n (isIn p) ≤ 0 → blocking x z p n ≡ free
   none-blocks x z p l = go (blocking x z p n) refl
     where
-      go : (c : Block) → blocking x z p n ≡ c → blocking x z p n ≡ free
+      go : (c : Obstacle) → blocking x z p n ≡ c → blocking x z p n ≡ free
       go free e = e
       go (block q r) e = let a = blocking-at x z p n q r e in absurd (let b = count-some n (isIn p) q (a .0) (a .1) in let c : ⊥ = omega arith in c)
 
@@ -125,7 +125,7 @@ module _ (n : ℕ) (dual : List Float → List Float) (solve : List ℕ → Solv
   turns-pass zero x z p f s l = settles s (none-blocks x z p l)
   turns-pass (suc left) x z p f s l = go (blocking x z p n) refl (turns-pass left)
     where
-      go : (c : Block) → blocking x z p n ≡ c
+      go : (c : Obstacle) → blocking x z p n ≡ c
           → ((x z : List Float) (p : List ℕ) (f : ℕ) → Passes n dual solve (turn x z p) → count n (isIn p) ≤ left → Passes n dual solve (round (turns n solve left x z p f .x) (turns n solve left x z p f .passive)))
           → Passes n dual solve (round (turnNext n solve c x z p f (turns n solve left) .x) (turnNext n solve c x z p f (turns n solve left) .passive))
       go free e again = settles s e
@@ -140,12 +140,12 @@ module _ (n : ℕ) (dual : List Float → List Float) (solve : List ℕ → Solv
   unfolding rounds lastly roundNext
   rounds-pass zero x p past f s a e = go (pass n dual solve x p f) e
     where
-      go : (t : Tried) → lastly t x p past .answer ≡ done a → Passes n dual solve (round (a .x) (a .passive))
+      go : (t : PassEnd) → lastly t x p past .answer ≡ done a → Passes n dual solve (round (a .x) (a .passive))
       go (ended rej f') e = accepted-is x p rej a s e
       go (kept p' z f') e = let y : _≡_ {A = ℕ} 0 1 = cc in absurd (let b : ⊥ = omega arith in b)
   rounds-pass (suc left) x p past f s a e = go (pass n dual solve x p f) refl (rounds-pass left) e
     where
-      go : (t : Tried) → pass n dual solve x p f ≡ t
+      go : (t : PassEnd) → pass n dual solve x p f ≡ t
           → ((x : List Float) (p : List ℕ) (past f : ℕ) → Passes n dual solve (round x p) → (a : Accepted) → rounds n dual solve left x p past f .answer ≡ done a → Passes n dual solve (round (a .x) (a .passive)))
           → roundNext n dual solve t x p past (rounds n dual solve left) .answer ≡ done a → Passes n dual solve (round (a .x) (a .passive))
       go (ended rej f') d again e = accepted-is x p rej a s e

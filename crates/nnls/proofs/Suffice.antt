@@ -5,7 +5,7 @@ use mathlib.Core.List.{List}
 use Prim.Native.Nat.{ℕ, _+_, _<_}
 use lib.Ieee.{Float}
 use Rattle.nnls_passive.specs.Passive.{isIn, Solved}
-use Rattle.nnls.specs.Nnls.{Tried, ended, pass, turns}
+use Rattle.nnls.specs.Nnls.{PassEnd, ended, pass, turns}
 use Rattle.nnls.specs.Claims.{TriesSuffice, TurnsSuffice}
 use Rattle.nnls.proofs.Count.{count}
 use Rattle.nnls.proofs.Loops.{outside, PassOk, pass-ok, turns-suffice}

@@ -10,7 +10,7 @@ use lib.ListN.{set}
 use lib.Ieee.{Float}
 use Rattle.workspace.specs.Tables.{iterationCap}
 use Rattle.nnls_passive.specs.Passive.{Solved}
-use Rattle.nnls.specs.Nnls.{choose, Block, free, block, blocking, moveX, moveP, Tried, kept, ended, accept, keeps, judge, tryNext, tries, turnNext, turns, pass, lastly, roundNext, rounds}
+use Rattle.nnls.specs.Nnls.{choose, Obstacle, free, block, blocking, moveX, moveP, PassEnd, kept, ended, accept, keeps, judge, tryNext, tries, turnNext, turns, pass, lastly, roundNext, rounds}
 
 module _ (n : ℕ) (solve : List ℕ → Solved) where
   -- ---- a pass
@@ -45,7 +45,7 @@ module _ (n : ℕ) (solve : List ℕ → Solved) where
     pub turns-free : (left : ℕ) → blocking x z p n ≡ free → turns n solve left x z p f ≡ record { x = z; passive = p; factorings = f }
     unfolding turns turnNext
     turns-free zero e = refl
-    turns-free (suc left) e = ap (λ (c : Block). turnNext n solve c x z p f (turns n solve left)) e
+    turns-free (suc left) e = ap (λ (c : Obstacle). turnNext n solve c x z p f (turns n solve left)) e
 
     pub turns-out : (left : ℕ) → left ≡ 0 → turns n solve left x z p f ≡ record { x = z; passive = p; factorings = f }
     unfolding turns
@@ -56,7 +56,7 @@ module _ (n : ℕ) (solve : List ℕ → Solved) where
     unfolding turns turnNext
     turns-again left rest q r l e =
         ap (λ (l : ℕ). turns n solve l x z p f) l
-        ∙ ap (λ (c : Block). turnNext n solve c x z p f (turns n solve rest)) e
+        ∙ ap (λ (c : Obstacle). turnNext n solve c x z p f (turns n solve rest)) e
         ∙ ap (λ (g : ℕ). turns n solve rest (moveX n q r x z p) (solve (moveP n q r x z p) .z) (moveP n q r x z p) g) (omega arith)
 
 -- ---- the rounds
@@ -64,12 +64,12 @@ module _ (n : ℕ) (dual : List Float → List Float) (solve : List ℕ → Solv
   pub rounds-ended : (left : ℕ) (rej : List ℕ) (g : ℕ) → pass n dual solve x p f ≡ ended rej g
       → rounds n dual solve left x p past f ≡ accept x p rej past g
   unfolding rounds lastly roundNext
-  rounds-ended zero rej g e = ap (λ (t : Tried). lastly t x p past) e
-  rounds-ended (suc left) rej g e = ap (λ (t : Tried). roundNext n dual solve t x p past (rounds n dual solve left)) e
+  rounds-ended zero rej g e = ap (λ (t : PassEnd). lastly t x p past) e
+  rounds-ended (suc left) rej g e = ap (λ (t : PassEnd). roundNext n dual solve t x p past (rounds n dual solve left)) e
 
   pub rounds-last : (left : ℕ) (p' : List ℕ) (z : List Float) (g : ℕ) → left ≡ 0 → pass n dual solve x p f ≡ kept p' z g → rounds n dual solve left x p past f ≡ record { answer = iterationCap; rounds = past; factorings = g }
   unfolding rounds lastly
-  rounds-last left p' z g l e = ap (λ (l : ℕ). rounds n dual solve l x p past f) l ∙ ap (λ (t : Tried). lastly t x p past) e
+  rounds-last left p' z g l e = ap (λ (l : ℕ). rounds n dual solve l x p past f) l ∙ ap (λ (t : PassEnd). lastly t x p past) e
 
   pub rounds-again : (left rest : ℕ) (p' : List ℕ) (z : List Float) (g : ℕ) → left ≡ suc rest → pass n dual solve x p f ≡ kept p' z g
       → let s = turns n solve n x z p' g in rounds n dual solve left x p past f ≡ rounds n dual solve rest (s .x) (s .passive) (past + 1) (s .factorings)
@@ -77,5 +77,5 @@ module _ (n : ℕ) (dual : List Float → List Float) (solve : List ℕ → Solv
   rounds-again left rest p' z g l e =
       let s = turns n solve n x z p' g in
       ap (λ (l : ℕ). rounds n dual solve l x p past f) l
-      ∙ ap (λ (t : Tried). roundNext n dual solve t x p past (rounds n dual solve rest)) e
+      ∙ ap (λ (t : PassEnd). roundNext n dual solve t x p past (rounds n dual solve rest)) e
       ∙ ap (λ (d : ℕ). rounds n dual solve rest (s .x) (s .passive) d (s .factorings)) (omega arith)

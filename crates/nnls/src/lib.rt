@@ -6,7 +6,7 @@ ghost use Rattle.numbers.specs.Numbers.{Σ, at, nth, _⊖_, _⊗_};
 ghost use Rattle.workspace.specs.inner.Readings.{vec, mat, nums, Block};
 ghost use Rattle.nnls.specs.Nnls as Nnls;
 ghost use Rattle.nnls.specs.inner.State.{read, solveIn, dualIn, Rounded};
-ghost use Rattle.nnls.specs.inner.Work.{betterOf, trialOf, nearerOf, blockOf, Moved, TriedColumn, Passed, TurnsTaken};
+ghost use Rattle.nnls.specs.inner.Work.{betterOf, trialOf, nearerOf, obstacleOf, Moved, TriedColumn, Passed, TurnsTaken};
 ghost use Rattle.nnls_passive.specs.inner.Places.{NNLS_DUAL, NNLS_REJECTED, NNLS_RESIDUAL, NNLS_ROOM, NNLS_SIDE, NNLS_WORDS, NNLS_X, NNLS_Z};
 
 // ---- which column to try
@@ -138,7 +138,7 @@ fn nearer(best: Nearest, j: usize, x: f64, z: f64, passive: u32) -> Nearest
 // The passive column with a trial value <= 0 whose ratio is smallest, the first of equals.
 fn blocking(w: &[f64], iw: &[u32], n: usize) -> Blocker
     requires { ⌜ (n ≤ 66) × (NNLS_ROOM ≤ length (now w)) × (NNLS_WORDS ≤ length (now iw)) ⌝ }
-    ensures { λ r. ⌜ blockOf r ≡ Nnls.blocking (vec NNLS_X n (now (w .entry))) (vec NNLS_Z n (now (w .entry))) (nums 0 n (now (iw .entry))) n ⌝ }
+    ensures { λ r. ⌜ obstacleOf r ≡ Nnls.blocking (vec NNLS_X n (now (w .entry))) (vec NNLS_Z n (now (w .entry))) (nums 0 n (now (iw .entry))) n ⌝ }
 {
     let mut best = Nearest {
         index: 0,
@@ -329,13 +329,13 @@ fn turn_all(w: &mut [f64], iw: &mut [u32], m: usize, n: usize, f: usize) -> usiz
 // ---- the rounds
 
 // How the rounds ended, accepted or at their limit, with the rounds and the factorings that were taken.
-pub enum Ended {
+pub enum RoundsEnd {
     Accepted(usize, usize),
     Capped(usize, usize),
 }
 
 // Rounds, at most k, from x and the passive marks on.
-fn run_rounds(w: &mut [f64], iw: &mut [u32], m: usize, n: usize, k: usize) -> Ended
+fn run_rounds(w: &mut [f64], iw: &mut [u32], m: usize, n: usize, k: usize) -> RoundsEnd
     requires { ⌜ (m ≤ 18) × (n ≤ 66) × (NNLS_ROOM ≤ length (now w)) × (NNLS_WORDS ≤ length (now iw)) × (k ≤ 198) ⌝ }
     ensures { λ r. ⌜ Rounded (Nnls.rounds n (dualIn m n (read m n (now (w .entry)) (now (iw .entry)))) (solveIn m n (read m n (now (w .entry)) (now (iw .entry)))) k (vec NNLS_X n (now (w .entry))) (nums 0 n (now (iw .entry))) 0 0)
         r (read m n (now (w .entry)) (now (iw .entry))) (read m n (now (w .exit)) (now (iw .exit))) ⌝ }
@@ -346,7 +346,7 @@ fn run_rounds(w: &mut [f64], iw: &mut [u32], m: usize, n: usize, k: usize) -> En
         let pass = one_pass(w, iw, m, n, f);
         let g = pass.factorings;
         if !pass.kept {
-            return Ended::Accepted(past, g);
+            return RoundsEnd::Accepted(past, g);
         }
         f = turn_all(w, iw, m, n, g);
         workspace::copy_down(w, nnls_passive::NNLS_Z, nnls_passive::NNLS_X, n);
@@ -355,13 +355,13 @@ fn run_rounds(w: &mut [f64], iw: &mut [u32], m: usize, n: usize, k: usize) -> En
     let pass = one_pass(w, iw, m, n, f);
     let g = pass.factorings;
     if pass.kept {
-        return Ended::Capped(past, g);
+        return RoundsEnd::Capped(past, g);
     }
-    Ended::Accepted(past, g)
+    RoundsEnd::Accepted(past, g)
 }
 
 // Nonnegative least squares of the A and b in the workspace, with k rounds allowed; both stay.
-pub fn solve_in(w: &mut [f64], iw: &mut [u32], m: usize, n: usize, k: usize) -> Ended
+pub fn solve_in(w: &mut [f64], iw: &mut [u32], m: usize, n: usize, k: usize) -> RoundsEnd
     requires { ⌜ (m ≤ 18) × (n ≤ 66) × (NNLS_ROOM ≤ length (now w)) × (NNLS_WORDS ≤ length (now iw)) × (k ≤ 198) ⌝ }
     ensures { λ r. ⌜ Rounded (Nnls.nnls m n (mat 0 m n (now (w .entry))) (vec NNLS_SIDE m (now (w .entry))) k)
         r (read m n (now (w .entry)) (now (iw .entry))) (read m n (now (w .exit)) (now (iw .exit))) ⌝ }

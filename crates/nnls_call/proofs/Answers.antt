@@ -21,8 +21,8 @@ use Rattle.nnls.specs.Counted.{Counted}
 use Rattle.nnls.specs.Nnls.{Accepted, nnls}
 use Rattle.nnls.specs.inner.State.{State, read, endedAnswer, Rounded}
 use Rattle.nnls_call.specs.Promise.{tell, Nnls}
-use Rattle.nnls.specs.declared.Ended.{Ended}
-use Rattle.nnls.specs.declared.Ended.the-variants as Ended
+use Rattle.nnls.specs.declared.RoundsEnd.{RoundsEnd}
+use Rattle.nnls.specs.declared.RoundsEnd.the-variants as RoundsEnd
 use Rattle.nnls_call.specs.declared.Outcome.the-variants.{Done, Refused}
 
 -- ---- the tests
@@ -41,7 +41,7 @@ lengths-are m n a b x h =
 
 -- ---- the problem in the workspace, and what the kernel makes of it
 
-pub ran : (m n k : ℕ) (a b w w₁ w₂ : List Float) (e : Ended) (s s′ : State) → m ≤ 18 → n ≤ 66 → length b ≡ m → Loaded 0 m n a w w₁ → Block 1188 m (λ t. at b t) w₁ w₂
+pub ran : (m n k : ℕ) (a b w w₁ w₂ : List Float) (e : RoundsEnd) (s s′ : State) → m ≤ 18 → n ≤ 66 → length b ≡ m → Loaded 0 m n a w w₁ → Block 1188 m (λ t. at b t) w₁ w₂
     → Rounded (nnls m n (mat 0 m n w₂) (vec 1188 m w₂) k) e s s′ → endedAnswer e s′ ≡ nnls m n a b k
 ran m n k a b w w₁ w₂ e s s′ m18 n66 lb h c r =
     let ea : mat 0 m n w₂ ≡ a = mat-same 0 m n w₁ w₂ (λ i j hi hj. c .before (0 + j * 18 + i) (omega arith)) ∙ h .matrix in
@@ -50,11 +50,11 @@ ran m n k a b w w₁ w₂ e s s′ m18 n66 lb h c r =
 
 -- ---- the two answers: v and u are what the kernel left in the first 8,192 and 512 entries
 
-module _ (m n : ℕ) (g : Counted Accepted) (x w v w′ : List Float) (l u l′ : List ℕ) (e : Ended) (n66 : n ≤ 66) (lv : length v ≡ 8192) (lu : length u ≡ 512)
+module _ (m n : ℕ) (g : Counted Accepted) (x w v w′ : List Float) (l u l′ : List ℕ) (e : RoundsEnd) (n66 : n ≤ 66) (lv : length v ≡ 8192) (lu : length u ≡ 512)
     (h : endedAnswer e (read m n v u) ≡ g) (c : Cleared (v ++ drop 8192 w) w′ (u ++ drop 512 l) l′) where
-  pub capped : (r f : ℕ) → e ≡ Ended.Capped r f → Nnls (tell g) (Refused Capped) x x w w′ l l′
+  pub capped : (r f : ℕ) → e ≡ RoundsEnd.Capped r f → Nnls (tell g) (Refused Capped) x x w w′ l l′
   capped r f q =
-      let z : g .answer ≡ iterationCap = sym (ap (λ (y : Counted Accepted). y .answer) h) ∙ ap (λ (t : Ended). endedAnswer t (read m n v u) .answer) q in
+      let z : g .answer ≡ iterationCap = sym (ap (λ (y : Counted Accepted). y .answer) h) ∙ ap (λ (t : RoundsEnd). endedAnswer t (read m n v u) .answer) q in
       rw z
       (record {
         the-outcome = refl;
@@ -63,12 +63,12 @@ module _ (m n : ℕ) (g : Counted Accepted) (x w v w′ : List Float) (l u l′ 
         the-words = c .words ∙ front-cleared 0 512 u l lu;
       })
 
-  pub accepted : (r f : ℕ) (x′ : List Float) → x′ ≡ vec 1206 n (v ++ drop 8192 w) → e ≡ Ended.Accepted r f → Nnls (tell g) (Done r f) x x′ w w′ l l′
+  pub accepted : (r f : ℕ) (x′ : List Float) → x′ ≡ vec 1206 n (v ++ drop 8192 w) → e ≡ RoundsEnd.Accepted r f → Nnls (tell g) (Done r f) x x′ w w′ l l′
   accepted r f x′ ex q =
       let z : g .answer ≡ done (record { x = read m n v u .x; passive = read m n v u .passive; rejected = read m n v u .rejected }) =
-      sym (ap (λ (y : Counted Accepted). y .answer) h) ∙ ap (λ (t : Ended). endedAnswer t (read m n v u) .answer) q in
-      let er : r ≡ g .rounds = ap (λ (t : Ended). endedAnswer t (read m n v u) .rounds) (sym q) ∙ ap (λ (y : Counted Accepted). y .rounds) h in
-      let ef : f ≡ g .factorings = ap (λ (t : Ended). endedAnswer t (read m n v u) .factorings) (sym q) ∙ ap (λ (y : Counted Accepted). y .factorings) h in
+      sym (ap (λ (y : Counted Accepted). y .answer) h) ∙ ap (λ (t : RoundsEnd). endedAnswer t (read m n v u) .answer) q in
+      let er : r ≡ g .rounds = ap (λ (t : RoundsEnd). endedAnswer t (read m n v u) .rounds) (sym q) ∙ ap (λ (y : Counted Accepted). y .rounds) h in
+      let ef : f ≡ g .factorings = ap (λ (t : RoundsEnd). endedAnswer t (read m n v u) .factorings) (sym q) ∙ ap (λ (y : Counted Accepted). y .factorings) h in
       rw z
       (record {
         the-outcome = ap₂ (λ (i j : ℕ). Done i j) er ef;

@@ -50,7 +50,7 @@ fn run(
     m: usize,
     n: usize,
     k: usize,
-) -> nnls::Ended
+) -> nnls::RoundsEnd
     requires { ⌜ (m ≤ 18) × (n ≤ 66) × (k ≤ 198) × (length (now a) ≡ m * n) × (length (now b) ≡ m) × (NNLS_ROOM ≤ length (now w)) × (NNLS_WORDS ≤ length (now iw)) ⌝ }
     ensures { λ e. ⌜ endedAnswer e (read m n (now (w .exit)) (now (iw .exit))) ≡ Definition.nnls m n (now (a .entry)) (now (b .entry)) k ⌝ }
 {
@@ -74,7 +74,7 @@ fn solve_all(
     ensures { λ r. ⌜ Promise.Nnls (Promise.tell (Definition.nnls m n (now (a .entry)) (now (b .entry)) k)) r (now (x .entry)) (now (x .exit)) (now (w .entry)) (now (w .exit)) (now (iw .entry)) (now (iw .exit)) ⌝ }
 {
     let ended = run(a, b, &mut w[..8192], &mut iw[..512], m, n, k);
-    let nnls::Ended::Accepted(rounds, factorings) = ended else {
+    let nnls::RoundsEnd::Accepted(rounds, factorings) = ended else {
         workspace::clear(w, iw);
         return Outcome::Refused(Refusal::Capped);
     };

@@ -7,6 +7,7 @@ use replay_list::first_output;
 use replay_list::junk;
 use replay_list::kinds;
 use replay_list::length_at;
+use replay_list::lent_output;
 use replay_list::mark;
 use replay_list::mix_float;
 use replay_list::mix_kinds;
@@ -15,7 +16,6 @@ use replay_list::mix_output;
 use replay_list::mix_places;
 use replay_list::mix_room;
 use replay_list::mix_values;
-use replay_list::output;
 use replay_list::part;
 use replay_list::places;
 use replay_list::room;
@@ -57,7 +57,7 @@ fn run_qr(
     let a = part(call, values, 0);
     let bs = length_at(call, 4, 1200);
     let perms = length_at(call, 5, 551);
-    let mut b = output(call);
+    let mut b = lent_output(call);
     let mut perm = places(call);
     let mut rank = mark(call);
     let number = gritstrut::gritstrut_qr(
@@ -155,7 +155,7 @@ fn run_lent(operation: usize, call: &Call, values: &Values) -> u64 {
     let ws = length_at(call, 0, 8231);
     let iws = length_at(call, 1, 551);
     let mut x = first_output(operation, call, values);
-    let mut y = output(call);
+    let mut y = lent_output(call);
     let mut w = room(call);
     let mut iw = places(call);
     let d = run_any(

@@ -21,7 +21,7 @@ pub type Room = [f64; 8231];
 pub type Places = [u32; 551];
 
 // The memory of an output.
-pub fn output(call: &Call) -> Output
+pub fn lent_output(call: &Call) -> Output
     ensures { λ r. ⌜ 1200 ≡ length r ⌝ }
 {
     [junk(call); 1200]
@@ -53,9 +53,9 @@ pub fn first_output(operation: usize, call: &Call, values: &Values) -> Output
     ensures { λ r. ⌜ 1200 ≡ length r ⌝ }
 {
     if operation != 11 {
-        return output(call);
+        return lent_output(call);
     }
-    let mut memory = output(call);
+    let mut memory = lent_output(call);
     load(&mut memory, part(call, values, 0));
     memory
 }

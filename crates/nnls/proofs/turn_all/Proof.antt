@@ -5,7 +5,7 @@ use native.Mathlib.Omega.{arith}
 use lib.ListN.{length}
 use borrow.Author.Needs.{needs}
 use Rattle.nnls.specs.inner.State.{read}
-use Rattle.nnls.specs.inner.Work.{blockOf}
+use Rattle.nnls.specs.inner.Work.{obstacleOf}
 use Rattle.nnls.proofs.States.{read-solve}
 use Rattle.nnls.proofs.Moves.{read-moved}
 use Rattle.nnls.proofs.Turning.{Turning, turning-none, turn-free, turn-out, turn-again}
@@ -44,7 +44,7 @@ returns c =
     let a = c .before .before .before .before .before .before .before .before .before .args in
     let l = c .before .before .before .before .before .before .loop in
     turn-free (a .m) (a .n) (a .f) (read (a .m) (a .n) (a .w .now) (a .iw .now)) (read (a .m) (a .n) (l .w) (l .iw))
-    (l .count) (l .inv .2) (sym (c .before .before .blocking .ensures) ∙ ap blockOf (c .enum-told .given .1))
+    (l .count) (l .inv .2) (sym (c .before .before .blocking .ensures) ∙ ap obstacleOf (c .enum-told .given .1))
 
 move-all-requires : tie.Need-move-all-requires Inv-loop μ-loop
 move-all-requires c κs = omega arith
@@ -68,7 +68,7 @@ loop-again c =
       t .kept .0 ∙ v .kept .0 ∙ l .inv .0,
       t .kept .1 .0 ∙ v .kept .1 .0 ∙ l .inv .1,
       turn-again (a .m) (a .n) (a .f) (read (a .m) (a .n) (a .w .now) (a .iw .now)) (read (a .m) (a .n) (l .w) (l .iw)) (l .count) (l .inv .2) _ _
-          (sym (c .before .before .before .before .before .before .before .before .before .before .before .before .before .before .before .before .before .blocking .ensures) ∙ ap blockOf (c .before .before .before .before .before .before .before .before .before .before .before .before .before .before .before .blocker .given .1))
+          (sym (c .before .before .before .before .before .before .before .before .before .before .before .before .before .before .before .before .before .blocking .ensures) ∙ ap obstacleOf (c .before .before .before .before .before .before .before .before .before .before .before .before .before .before .before .blocker .given .1))
           (c .before .before .before .before .before .before .before .before .before .before .before .before .before .before .before .before .before .before .before .before .loop-test .taken)
           (read (a .m) (a .n) (v .last .0) (v .last .1 .0)) (read (a .m) (a .n) (t .last .0) (t .last .1 .0))
           (read-moved (a .m) (a .n) _ _ (l .w) (v .last .0) (l .iw) (v .last .1 .0) (s .pre .0) (s .pre .1) (v .ensures))

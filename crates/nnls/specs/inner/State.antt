@@ -9,8 +9,8 @@ use Rattle.nnls_passive.specs.Passive.{Solved, solveOf}
 use Rattle.nnls.specs.Counted.{Counted}
 use Rattle.nnls.specs.Nnls as Nnls
 use Rattle.nnls.specs.Nnls.{dualOf, accept}
-use Rattle.nnls.specs.declared.Ended.{Ended}
-use Rattle.nnls.specs.declared.Ended.the-variants.{Accepted, Capped}
+use Rattle.nnls.specs.declared.RoundsEnd.{RoundsEnd}
+use Rattle.nnls.specs.declared.RoundsEnd.the-variants.{Accepted, Capped}
 use Rattle.nnls_passive.specs.inner.Places.{NNLS_DUAL, NNLS_REJECTED, NNLS_SIDE, NNLS_X, NNLS_Z}
 
 pub record State : Type 0 where
@@ -45,11 +45,11 @@ abbrev pub dualIn : (m n : ℕ) → State → List Float → List Float
 dualIn m n s = dualOf m n (s .a) (s .b)
 
 -- how the kernel's answer reads, with what it left
-abbrev pub endedAnswer : Ended → State → Counted Nnls.Accepted
+abbrev pub endedAnswer : RoundsEnd → State → Counted Nnls.Accepted
 endedAnswer (Accepted r f) s = accept (s .x) (s .passive) (s .rejected) r f
 endedAnswer (Capped r f) s = record { answer = iterationCap; rounds = r; factorings = f }
 
 -- the answer is `goal`, and A and b are as they were
-pub record Rounded (goal : Counted Nnls.Accepted) (e : Ended) (s s′ : State) : Type 0 where
+pub record Rounded (goal : Counted Nnls.Accepted) (e : RoundsEnd) (s s′ : State) : Type 0 where
   pub answer : endedAnswer e s′ ≡ goal
   pub after : s′ ≡ put (s′ .x) (s′ .z) (s′ .dual) (s′ .passive) (s′ .rejected) s

@@ -9,7 +9,7 @@ use lib.ListN.{set}
 use lib.Ieee.{Float, lt}
 use Rattle.numbers.specs.Numbers.{at, nth}
 use Rattle.workspace.specs.inner.Readings.{vec, nums}
-use Rattle.nnls.specs.Nnls.{above0, upTo0, Block, free, block, ratioOf, ranksBefore, moveX, moveP, keeps, Tried, kept, ended, Settled}
+use Rattle.nnls.specs.Nnls.{above0, upTo0, Obstacle, free, block, ratioOf, ranksBefore, moveX, moveP, keeps, PassEnd, kept, ended, Settled}
 use Rattle.nnls.specs.inner.State.{State, put, solveIn}
 use Rattle.nnls.specs.declared.Candidate.{Candidate}
 use Rattle.nnls.specs.declared.Trial.{Trial}
@@ -36,12 +36,12 @@ betterOf c j v p rej = cond (eqb p 0 && (eqb rej 0 && (above0 v && not (c .any &
 
 -- ---- the blocking column
 
-abbrev pub nearestOf : Nearest → Block
+abbrev pub nearestOf : Nearest → Obstacle
 nearestOf c = cond (c .any) (block (c .index) (c .ratio)) free
 
-abbrev pub blockOf : Blocker → Block
-blockOf (At q r) = block q r
-blockOf Free = free
+abbrev pub obstacleOf : Blocker → Obstacle
+obstacleOf (At q r) = block q r
+obstacleOf Free = free
 
 -- the nearest so far against column j, at x and headed for z, with its mark
 unfoldable pub nearerOf : Nearest → ℕ → (x z : Float) → ℕ → Nearest
@@ -65,12 +65,12 @@ pub record TriedColumn (m n t : ℕ) (stays : Bool) (s s′ : State) : Type 0 wh
       ≡ put (s .x) (solveIn m n s (set (s .passive) t 1) .z) (s .dual) (cond stays (set (s .passive) t 1) (s .passive)) (cond stays (s .rejected) (set (s .rejected) t 1)) s
 
 -- how a pass's answer reads, with what it left
-abbrev pub triedOf : Pass → State → Tried
-triedOf r s = cond (r .kept) (kept (s .passive) (s .z) (r .factorings)) (ended (s .rejected) (r .factorings))
+abbrev pub passEndOf : Pass → State → PassEnd
+passEndOf r s = cond (r .kept) (kept (s .passive) (s .z) (r .factorings)) (ended (s .rejected) (r .factorings))
 
 -- a pass: x stays, and so do the passive marks where no column is kept
-pub record Passed (goal : Tried) (most : ℕ) (r : Pass) (s s′ : State) : Type 0 where
-  pub answer : triedOf r s′ ≡ goal
+pub record Passed (goal : PassEnd) (most : ℕ) (r : Pass) (s s′ : State) : Type 0 where
+  pub answer : passEndOf r s′ ≡ goal
   pub unchanged : r .kept ≡ false → s′ .passive ≡ s .passive
   pub after : s′ ≡ put (s .x) (s′ .z) (s′ .dual) (s′ .passive) (s′ .rejected) s
   pub few : r .factorings ≤ most

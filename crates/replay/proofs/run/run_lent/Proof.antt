@@ -19,8 +19,8 @@ length-at-requires-4 c κs = search needs
 first-output-requires : tie.Need-first-output-requires
 first-output-requires c κs = search needs
 
-output-requires : tie.Need-output-requires
-output-requires c κs = search needs
+lent-output-requires : tie.Need-lent-output-requires
+lent-output-requires c κs = search needs
 
 room-requires : tie.Need-room-requires
 room-requires c κs = search needs
@@ -38,7 +38,7 @@ array-borrow-prefix-y : tie.Need-array-borrow-prefix-y
 array-borrow-prefix-y c = search needs
 
 slice-aggregate-run-any-2 : tie.Need-slice-aggregate-run-any-2
-slice-aggregate-run-any-2 c = front _ _ _ (c .before .before .before .before .before .before .before .before .length-at2 .ensures) (c .before .before .before .before .output .ensures)
+slice-aggregate-run-any-2 c = front _ _ _ (c .before .before .before .before .before .before .before .before .length-at2 .ensures) (c .before .before .before .before .lent-output .ensures)
 
 array-borrow-prefix-w : tie.Need-array-borrow-prefix-w
 array-borrow-prefix-w c = search needs
@@ -79,7 +79,7 @@ run-lent-spec =
     length-at-requires-3
     length-at-requires-4
     first-output-requires
-    output-requires
+    lent-output-requires
     room-requires
     places-requires
     array-borrow-prefix-x

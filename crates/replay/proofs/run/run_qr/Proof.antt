@@ -19,8 +19,8 @@ length-at-requires c κs = search needs
 length-at-requires-2 : tie.Need-length-at-requires-2
 length-at-requires-2 c κs = search needs
 
-output-requires : tie.Need-output-requires
-output-requires c κs = search needs
+lent-output-requires : tie.Need-lent-output-requires
+lent-output-requires c κs = search needs
 
 places-requires : tie.Need-places-requires
 places-requires c κs = search needs
@@ -38,7 +38,7 @@ array-borrow-prefix-b : tie.Need-array-borrow-prefix-b
 array-borrow-prefix-b c = search needs
 
 slice-aggregate-gritstrut-qr-2 : tie.Need-slice-aggregate-gritstrut-qr-2
-slice-aggregate-gritstrut-qr-2 c = front _ _ _ (c .before .before .before .before .before .before .before .before .length-at .ensures) (c .before .before .before .before .before .before .output .ensures)
+slice-aggregate-gritstrut-qr-2 c = front _ _ _ (c .before .before .before .before .before .before .before .before .length-at .ensures) (c .before .before .before .before .before .before .lent-output .ensures)
 
 gritstrut-qr-requires : tie.Need-gritstrut-qr-requires
 gritstrut-qr-requires c κs = search needs
@@ -79,7 +79,7 @@ run-qr-spec =
     part-requires
     length-at-requires
     length-at-requires-2
-    output-requires
+    lent-output-requires
     places-requires
     mark-requires
     array-borrow-prefix-perm
