@@ -1,13 +1,11 @@
 -- Laws of the digest: a step, and what a loop over a slice needs.
 use mathlib.Core.Path.{_≡_, refl, sym, ap, _∙_}
-use mathlib.Core.Bool.{false, true, not, true≢false}
+use mathlib.Core.Bool.{false, true}
 use Prim.Native.Nat.{ℕ, zero, suc, _+_, _*_, _/_, _%_, _≤_, _<_}
 use native.Mathlib.Nat.{le-antisymm, mod-lt}
 use native.Mathlib.Numerals.{add-one}
 use native.Mathlib.Omega.{arith}
-use lib.Dec.{T}
-use lib.Ieee.{Float, nan, inf, fin, binary64, isNan, ne, toBits}
-use lib.Ieee.Compare.{nan-differs}
+use lib.Ieee.{Float, binary64, ne, toBits}
 use Rattle.replay_list.specs.Digest.{lane, mix, over, patternOf}
 
 pub lane-is : (h x : ℕ) → (h * 1664525 + x) % 4294967291 ≡ lane h x
@@ -36,13 +34,6 @@ over-more i d f acc next e g = g ∙ ap (λ (a : ℕ). mix a (f i)) e ∙ sym (o
 
 pub over-done : (i n d : ℕ) (f : ℕ → ℕ) (acc : ℕ) → i ≤ n → n ≤ i → acc ≡ over i d f → acc ≡ over n d f
 over-done i n d f acc h k e = e ∙ ap (λ (m : ℕ). over m d f) (le-antisymm h k)
-
--- a number has bits
-pub number : (x : Float) → ne x x ≡ false → T (not (isNan x))
-unfolding isNan
-number nan d = absurd (true≢false (sym nan-differs ∙ d))
-number (inf s) d = tt
-number (fin s m e) d = tt
 
 pub pattern-nan : (x : Float) → ne x x ≡ true → 9221120237041090560 ≡ patternOf x
 unfolding patternOf

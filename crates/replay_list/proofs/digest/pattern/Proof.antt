@@ -1,5 +1,6 @@
 -- `pattern` meets its contract.
-use Rattle.replay_list.proofs.Digests.{number, pattern-nan, pattern-bits}
+use Rattle.record_read.proofs.Bytes.{some-bits}
+use Rattle.replay_list.proofs.Digests.{pattern-nan, pattern-bits}
 use borrow.Author.Needs.{needs}
 use Rattle.replay_list.proofs.digest.pattern.Statement.{statement}
 use Rattle.replay_list.proofs.digest.pattern.Tie as tie
@@ -8,7 +9,7 @@ returns : tie.Need-returns
 returns c = pattern-nan _ (c .if1 .taken)
 
 float-to-bits-result : tie.Need-float-to-bits-result
-float-to-bits-result c = number _ (c .if1 .left)
+float-to-bits-result c = some-bits _ (c .if1 .left)
 
 returns-2 : tie.Need-returns-2
 returns-2 c = pattern-bits _ (c .if1 .left)
