@@ -10,7 +10,7 @@ ghost use Prim.Native.Nat.{_+_, _-_, _*_, _/_, _≤_, _<_};
 ghost use lib.ListN.{length, take, drop};
 ghost use Rattle.record_read.specs.Input.{spareZero};
 ghost use Rattle.record_read.specs.Promise.{Decodes};
-ghost use Rattle.record_read.specs.inner.Tables.{PLACES, VALUES, areaOf, spotIn, spotOf, tagMark, defaultAt, noMarks, defaultValues};
+ghost use Rattle.record_read.specs.inner.Tables.{PLACES, VALUES, area, areaOf, spotIn, spotOf, tagMark, defaultAt, noMarks, defaultValues};
 ghost use Rattle.record_read.specs.inner.Filling.{entryOf, putAt, entered, enteredBy, headOf, sizesOf, allMarked, walkTables, filling};
 
 // Where the areas of the tables start, after the factor's at 0, and how many places a table has.
@@ -66,51 +66,30 @@ fn spare_zero(r: &[u8]) -> bool
     false
 }
 
+// An area by its parts.
+fn make_area(base: usize, rows: usize, cols: usize) -> Area
+    ensures { λ b. ⌜ b ≡ area base rows cols ⌝ }
+{
+    Area {
+        base: base,
+        rows: rows,
+        cols: cols,
+    }
+}
+
 // The area that a tag names.
 fn area_of(m: usize, n: usize, tag: u8) -> Area
     ensures { λ b. ⌜ b ≡ areaOf m n tag ⌝ }
 {
     match tag {
-        b'L' => Area {
-            base: 0,
-            rows: n,
-            cols: n,
-        },
-        b'G' => Area {
-            base: GRADIENT,
-            rows: 1,
-            cols: n,
-        },
-        b'E' => Area {
-            base: VALUES,
-            rows: m,
-            cols: 1,
-        },
-        b'I' => Area {
-            base: VALUES,
-            rows: m,
-            cols: 1,
-        },
-        b'A' => Area {
-            base: JACOBIAN,
-            rows: m,
-            cols: n,
-        },
-        b'B' => Area {
-            base: LOWER,
-            rows: 1,
-            cols: n,
-        },
-        b'T' => Area {
-            base: UPPER,
-            rows: 1,
-            cols: n,
-        },
-        _ => Area {
-            base: 0,
-            rows: 0,
-            cols: 0,
-        },
+        b'L' => make_area(0, n, n),
+        b'G' => make_area(GRADIENT, 1, n),
+        b'E' => make_area(VALUES, m, 1),
+        b'I' => make_area(VALUES, m, 1),
+        b'A' => make_area(JACOBIAN, m, n),
+        b'B' => make_area(LOWER, 1, n),
+        b'T' => make_area(UPPER, 1, n),
+        _ => make_area(0, 0, 0),
     }
 }
 
