@@ -7,7 +7,7 @@ fn main() {
     let sources = gather::gather();
     let modules = gather::tree(&sources, &out.join("rust"), "crate", gather::NORM);
     let plain = gather::tree(&sources, &out.join("plain"), "crate::plain", gather::PLAIN);
-    let modules = format!("{modules}mod plain {{\n{plain}}}\n");
+    let modules = format!("{modules}#[allow(clippy::duplicate_mod)]\nmod plain {{\n{plain}}}\n");
     fs::write(out.join("tree.rs"), modules).expect("the module tree written");
     println!("cargo::rerun-if-changed=build.rs");
     let rustc = std::env::var("RUSTC").expect("RUSTC");
