@@ -42,6 +42,9 @@
  *   workspace past the first 8192 and 512 never change. Inputs never change, except b under
  *   gritstrut_update.
  * - Single results are stored through their pointers only where the number is 0.
+ * - Units: the rank is told at any scale, but an answer is right only where the largest entry of
+ *   each matrix that is factored is between 1e-137 and 1e153 in magnitude. Outside it may be done,
+ *   finite and of the wrong sign (docs/DIFFERENCES.md, "A norm for rank only").
  */
 #ifndef GRITSTRUT_H
 #define GRITSTRUT_H
@@ -76,7 +79,9 @@ uint32_t gritstrut_version(void);
 /* The IEEE 754 square root, to nearest. */
 double gritstrut_sqrt(double x);
 
-/* The sum of x, left to right from -0; and the root of the sum of its squares. */
+/* The sum of x, left to right from -0; and its norm, the root of the sum of its squares, worked on
+ * entries that a power of two has brought near 1: NaN if one is NaN, else +infinity if one is
+ * infinite, and +0 for zeros and for no entries. */
 double gritstrut_sum(const double *x, size_t x_len);
 double gritstrut_norm(const double *x, size_t x_len);
 

@@ -1,7 +1,8 @@
-//! Makes a copy of the Rust files for each slip, with that slip in it.
+//! Makes a copy of the Rust files for each slip, with that slip in it or in the norm below it.
 
 use std::fmt::Write;
 use std::fs;
+use std::path::Path;
 
 include!("slips.rs");
 
@@ -14,25 +15,65 @@ fn main() {
     for (index, slip) in SLIPS.iter().enumerate() {
         let mut copies = sources.clone();
         for source in copies.iter_mut().filter(|source| source.name == slip.file) {
-            source.text = slipped(slip, &source.text);
+            source.text = slipped(slip.name, slip.changes, &source.text);
         }
         let name = format!("slip_{index}");
-        let tree = gather::tree(&copies, &out.join(&name), &format!("crate::{name}"));
+        let at = format!("crate::{name}");
+        let tree = gather::tree(&copies, &out.join(&name), &at, gather::NORM);
         writeln!(modules, "#[allow(warnings)]\nmod {name} {{\n{tree}}}").expect("a module");
         writeln!(list, "    peer::library::<{name}::kernels::Rust, Sound>(),").expect("a line");
     }
-    let text =
-        format!("{modules}\nfn libraries() -> Vec<peer::Library> {{\n    vec![\n{list}]\n}}\n");
+    let mut pairs = String::new();
+    let stand_in = stand_in();
+    for (index, slip) in NORM_SLIPS.iter().enumerate() {
+        let name = format!("norm_{index}");
+        let (folder, at) = (out.join(&name), format!("crate::{name}"));
+        let tree = gather::tree(&sources, &folder, &at, &format!("{at}::stand_in::norm"));
+        let path = folder.join("stand_in.rs");
+        let text = slipped(slip.name, slip.changes, &stand_in);
+        fs::write(&path, text).expect("a stand-in written");
+        writeln!(
+            modules,
+            "#[allow(warnings)]\nmod {name} {{\n{tree}#[path = {path:?}]\nmod stand_in;\n{EDGE}}}"
+        )
+        .expect("a module");
+        writeln!(
+            pairs,
+            "    [peer::library::<reference::Rust, {name}::Slipped>(), \
+             peer::library::<{name}::kernels::Rust, Sound>()],"
+        )
+        .expect("a line");
+    }
+    let text = format!(
+        "{modules}\nfn libraries() -> Vec<peer::Library> {{\n    vec![\n{list}]\n}}\n\
+         fn norm_libraries() -> Vec<[peer::Library; 2]> {{\n    vec![\n{pairs}]\n}}\n"
+    );
     fs::write(out.join("slipped.rs"), text).expect("the copies written");
 }
 
-/// The text with the slip in it.
-fn slipped(slip: &Slip, text: &str) -> String {
+/// The edge whose norm is the slipped stand-in's.
+const EDGE: &str = "
+pub struct Slipped;
+impl reference::call::Edge for Slipped {
+    fn norm(x: &[f64]) -> f64 {
+        stand_in::norm(x.iter().copied())
+    }
+}
+";
+
+/// The text of the stand-in.
+fn stand_in() -> String {
+    let path = Path::new(env!("CARGO_MANIFEST_DIR")).join("../reference/src/stand_in.rs");
+    println!("cargo::rerun-if-changed={}", path.display());
+    fs::read_to_string(&path).expect("the stand-in")
+}
+
+/// The text with a slip's changes in it.
+fn slipped(name: &str, changes: &[(&str, usize, &str)], text: &str) -> String {
     let mut text = text.to_string();
-    for &(found, place, put) in slip.changes {
+    for &(found, place, put) in changes {
         let places: Vec<usize> = text.match_indices(found).map(|(at, _)| at).collect();
-        let fits = places.len() >= place;
-        assert!(fits, "{}: {found:?} stands {} times", slip.name, places.len());
+        assert!(places.len() >= place, "{name}: {found:?} stands {} times", places.len());
         let at = places[place - 1];
         text.replace_range(at..at + found.len(), put);
     }

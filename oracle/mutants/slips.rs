@@ -8,6 +8,24 @@ pub struct Slip {
     pub unseen: Option<&'static str>,
 }
 
+/// One slip in the stand-in's norm, put into the operation and, apart from it, below the Rust files:
+/// what is changed, and why either cannot be told.
+pub struct NormSlip {
+    pub name: &'static str,
+    pub changes: &'static [(&'static str, usize, &'static str)],
+    pub unseen: Option<&'static str>,
+    pub unseen_below: Option<&'static str>,
+}
+
+const fn norm(
+    name: &'static str,
+    changes: &'static [(&'static str, usize, &'static str)],
+    unseen: Option<&'static str>,
+    unseen_below: Option<&'static str>,
+) -> NormSlip {
+    NormSlip { name, changes, unseen, unseen_below }
+}
+
 const fn told(
     file: &'static str,
     name: &'static str,
@@ -153,4 +171,59 @@ pub const SLIPS: &[Slip] = &[
     told(STEP, "weight instead of its root", &[("WEIGHT.sqrt()", 1, "WEIGHT")]),
     told(STEP, "whole rows in the solve for f", &[("i * n + i], &w[..i]", 1, "i * n + n], &w")]),
     told(STEP, "inequality multipliers from the first", &[("(0, equalities.rhs.len())", 1, "(0, 0)")]),
+];
+
+/// Why a rounding of scaled entries does not show.
+const VANISHES: &str = "an entry that scaling rounds becomes subnormal, and its square vanishes";
+
+/// Why the sum's start does not show.
+const ABOVE: &str = "one square at least is above zero";
+
+pub const NORM_SLIPS: &[NormSlip] = &[
+    norm("entries not scaled", &[("exponent(largest)", 1, "0")], None, None),
+    norm("entries scaled twice", &[
+        ("scaled(value, -power)", 1, "scaled(scaled(value, -power), -power)"),
+    ], None, None),
+    norm("entries scaled with two roundings", &[
+        ("scaled(value, -power)", 1, "scaled(value, -power - 1) * 2.0"),
+    ], Some(VANISHES), Some(VANISHES)),
+    norm("squares before scaling", &[(
+        "|value| scaled(value, -power)).map(|value| value * value)",
+        1,
+        "|value| scaled(scaled(value * value, -power), -power))",
+    )], None, None),
+    norm("largest brought to 1/2 and below 1", &[("exponent(largest)", 1, "exponent(largest) + 1")],
+        None,
+        Some("it shows only in a square rounded below 2^-1020, each further entry carries that up by 54 places at most, and a column has 18")),
+    norm("largest of the entries, not of the magnitudes", &[(".map(f64::abs)", 1, "")], None, None),
+    norm("infinity before NaN", &[
+        ("f64::is_nan", 1, "f64::is_infinite"),
+        ("return f64::NAN", 1, "return f64::INFINITY"),
+        ("f64::is_infinite", 2, "f64::is_nan"),
+        ("return f64::INFINITY", 2, "return f64::NAN"),
+    ], None, None),
+    norm("-0 for zeros", &[(
+        "return 0.0",
+        1,
+        "return if values.count() == 0 { 0.0 } else { -0.0 }",
+    )], None, Some("a zero norm is only compared, and its sign does not count")),
+    norm("-0 for the empty list", &[(
+        "return 0.0",
+        1,
+        "return if values.count() == 0 { -0.0 } else { 0.0 }",
+    )], None, Some("no column whose norm is taken is empty")),
+    norm("sum from +0", &[(".sum()", 1, FROM_ZERO)], Some(ABOVE), Some(ABOVE)),
+    norm("sum right to left", &[(
+        "f64 = values.map",
+        1,
+        "f64 = values.collect::<Vec<_>>().into_iter().rev().map",
+    )], None, None),
+    norm("scaled back with two roundings", &[(
+        "scaled(sum.sqrt(), power)",
+        1,
+        "if power < -1000 { scaled(sum.sqrt(), power + 1) * 0.5 } else { scaled(sum.sqrt(), power) }",
+    )], None, None),
+    norm("scaled back before the root", &[
+        ("scaled(sum.sqrt(), power)", 1, "scaled(scaled(sum, power), power).sqrt()"),
+    ], None, None),
 ];

@@ -4,7 +4,10 @@ use std::fs;
 
 fn main() {
     let out = gather::out();
-    let modules = gather::tree(&gather::gather(), &out.join("rust"), "crate");
+    let sources = gather::gather();
+    let modules = gather::tree(&sources, &out.join("rust"), "crate", gather::NORM);
+    let plain = gather::tree(&sources, &out.join("plain"), "crate::plain", gather::PLAIN);
+    let modules = format!("{modules}#[allow(clippy::duplicate_mod)]\nmod plain {{\n{plain}}}\n");
     fs::write(out.join("tree.rs"), modules).expect("the module tree written");
     println!("cargo::rerun-if-changed=build.rs");
     let rustc = std::env::var("RUSTC").expect("RUSTC");

@@ -1,6 +1,7 @@
 // The C interface: every public operation, each slice a pointer and a length. include/gritstrut.h declares it.
 ghost use mathlib.Core.Path.{_≡_};
-ghost use Rattle.numbers.specs.Root.{sqrtOf, sumOf, norm};
+ghost use Rattle.numbers.specs.Root.{sqrtOf, sumOf};
+ghost use Rattle.norms.specs.Norm.{norm};
 ghost use Rattle.householder_call.specs.Promise.{qrCall};
 ghost use Rattle.nnls_call.specs.Promise.{nnlsCall};
 ghost use Rattle.lsei_call.specs.Promise.{ldpCall, lsiCall, lseiCall};
@@ -45,7 +46,7 @@ pub extern "C" fn gritstrut_sum(x: &[f64]) -> f64
 pub extern "C" fn gritstrut_norm(x: &[f64]) -> f64
     ensures { λ r. ⌜ r ≡ norm (now (x .entry)) ⌝ }
 {
-    numbers::norm(x)
+    norms::norm(x)
 }
 
 // ---- least squares

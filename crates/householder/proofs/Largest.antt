@@ -1,14 +1,14 @@
 -- The pivot is the first of the columns with the largest norm.
-use mathlib.Core.Path.{_≡_, refl, sym, ap, _∙_, subst}
+use mathlib.Core.Path.{_≡_, refl, sym, subst}
 use mathlib.Core.Logic.{_⊎_, inl, inr}
-use mathlib.Core.Bool.{Bool, true, false, cond, true≢false}
+use mathlib.Core.Bool.{Bool, true, false, cond}
 use mathlib.Core.List.{List}
 use Prim.Native.Nat.{ℕ, zero, suc, _+_, _<_}
 use native.Mathlib.Nat.{not-suc-le-zero}
 use native.Mathlib.Omega.{arith}
 use lib.Dec.{T}
 use lib.Ieee.{Float, nan, inf, fin, lt}
-use Rattle.numbers.specs.Numbers.{at, -1}
+use Rattle.numbers.specs.Numbers.{ -1}
 use Rattle.numbers.proofs.Cases.{last-or-before}
 use Rattle.numbers.proofs.Order.{lt-asym, lt-irrefl, lt-between, above-no-nan}
 use Rattle.householder.specs.Qr.{columnNorm, pivot, better}

@@ -6,7 +6,7 @@ use Prim.Native.Nat.{ℕ, zero, suc, _+_, _-_}
 use lib.Dec.{ltb}
 use lib.ListN.{length, set, length-set, replicate, length-replicate}
 use lib.Ieee.{Float, eq}
-use Rattle.numbers.specs.Numbers.{+0, _⊕_, _⊖_, _⊗_, _⊘_, Σ, at, tab, scatter, entry, row}
+use Rattle.numbers.specs.Numbers.{+0, _⊕_, _⊗_, _⊘_, at, tab, row}
 use Rattle.numbers.proofs.Lists.{length-tab, length-scatter}
 use Rattle.householder.specs.Qr.{Factors, along, image, reflect, forth, back, applyQt, applyQ, upward, solveR, downward, solveRt, solve}
 

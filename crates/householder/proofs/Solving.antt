@@ -1,7 +1,7 @@
 -- What `apply_qt`, `apply_q`, `solve_r`, `solve_rt`, `place` and `solve` rest on.
 use mathlib.Core.Path.{_≡_, refl, sym, ap, ap₂, _∙_}
 use mathlib.Core.List.{List}
-use Prim.Native.Nat.{ℕ, zero, suc, _+_, _-_, _*_, _≤_, _<_, min}
+use Prim.Native.Nat.{ℕ, suc, _+_, _-_, _*_, _≤_, _<_}
 use native.Mathlib.Nat.{zero-add}
 use native.Mathlib.Numerals.{add-one}
 use native.Mathlib.Omega.{arith}
@@ -14,7 +14,7 @@ use Rattle.numbers.proofs.Lists.{tab-replicate, scatter-same}
 use Rattle.workspace.specs.inner.Readings.{vec, mat, nums, Block}
 use Rattle.workspace.proofs.Readings.{at-vec, vec-same, vec-set, entry-mat, nth-nums}
 use Rattle.workspace.proofs.Writes.{block-vec}
-use Rattle.householder.specs.Qr.{image, reflect, forth, back, applyQt, applyQ, upward, solveR, downward, solveRt, solve}
+use Rattle.householder.specs.Qr.{image, forth, back, applyQt, applyQ, upward, solveR, downward, solveRt, solve}
 use Rattle.householder.specs.inner.Work.{held, Reflected, AppliedQt, AppliedQ, SolvedR, SolvedRt, Placed}
 use Rattle.householder.proofs.Held.{held-same, reflect-held, forth-same}
 

@@ -1,22 +1,22 @@
 -- What `step` and `factor_in` rest on: from what the functions do to the workspaces to the definitions.
 use mathlib.Core.Path.{_≡_, refl, sym, ap, ap₂, _∙_}
 use mathlib.Core.Bool.{Bool, true, false, cond}
-use mathlib.Core.List.{List, [], _++_}
+use mathlib.Core.List.{List, _++_}
 use mathlib.Core.Logic.{⊎-elim}
-use Prim.Native.Nat.{ℕ, zero, suc, _+_, _-_, _*_, _^_, _≤_, _<_, min}
-use native.Mathlib.Nat.{min-le-left, min-le-right, zero-add, suc-mul, zero-mul}
+use Prim.Native.Nat.{ℕ, zero, suc, _+_, _-_, _*_, _≤_, _<_, min}
+use native.Mathlib.Nat.{zero-add, suc-mul, zero-mul}
 use native.Mathlib.Omega.{arith}
-use lib.Dec.{ltb, eqb}
+use lib.Dec.{eqb}
 use lib.ListN.{length, set, length-set, replicate, replicate-append-replicate}
 use lib.Seq.{getD-set-same, getD-set-other}
 use lib.Ieee.{Float, nan, binary64, le, lt, ofBits, ofFields, odd, round}
 use borrow.Author.Tests.{lt-ltb, le-ltb, eq-eqb, ne-eqb}
-use Rattle.numbers.specs.Numbers.{+0, epsilon, _⊖_, _⊗_, at, nth, tab, entry, rows, row, column, transposed}
+use Rattle.numbers.specs.Numbers.{+0, epsilon, _⊗_, at, nth, tab, entry, rows, row, column, transposed}
 use Rattle.numbers.proofs.Cases.{lt-or-ge, eq-or-ne}
-use Rattle.numbers.proofs.Lists.{tab-replicate, rows-same}
+use Rattle.numbers.proofs.Lists.{tab-replicate}
 use Rattle.workspace.specs.inner.Readings.{vec, mat, stack, nums, Block}
 use Rattle.workspace.proofs.Readings.{at-vec, vec-is, vec-same, vec-set, vec-mat, entry-mat, mat-is, mat-same, mat-stack, stack-is, stack-same, row-stack, nth-front, nums-set-front}
-use Rattle.householder.specs.Qr.{Factors, image, columnNorm, better, pivot, exchange, swapped, signed, reflector, pinned, stepped, advance, tolerance, stopIf, steps, start, factor}
+use Rattle.householder.specs.Qr.{Factors, columnNorm, pivot, swapped, signed, reflector, pinned, stepped, advance, tolerance, stopIf, steps, start, factor}
 use Rattle.householder.specs.inner.Work.{held, Turned, Exchanged, Prepared, diagonalOf}
 use Rattle.householder.specs.declared.Candidate.{Candidate}
 

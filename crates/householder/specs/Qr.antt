@@ -6,7 +6,7 @@ use lib.Dec.{ltb, eqb}
 use lib.ListN.{drop, set, replicate}
 use lib.Ieee.{Float, eq, lt, le, neg}
 use Rattle.numbers.specs.Numbers.{+0, -1, near, epsilon, _⊕_, _⊖_, _⊗_, _⊘_, Σ, at, nth, tab, scatter, entry, rows, grid, row, column, transposed}
-use Rattle.numbers.specs.Root.{norm}
+use Rattle.norms.specs.Norm.{norm}
 use Rattle.householder.specs.declared.Candidate.{Candidate}
 
 -- ---- a reflector H = I + u u' / b, whose u has m places with +0 before row k

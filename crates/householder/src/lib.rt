@@ -1,4 +1,5 @@
 // Householder QR with column pivoting, in a lent part of the workspaces.
+mod search;
 mod vectors;
 
 ghost use mathlib.Core.Path.{_≡_};
@@ -7,13 +8,14 @@ ghost use mathlib.Core.List.{List};
 ghost use Prim.Native.Nat.{ℕ, _+_, _-_, _*_, _/_, _<_, _≤_, min, max};
 ghost use lib.Dec.{eqb};
 ghost use lib.Ieee.{Float};
-ghost use lib.ListN.{length, set};
-ghost use Rattle.numbers.specs.Numbers.{Σ, at, nth, tab, _⊕_, _⊖_, _⊗_, _⊘_};
+ghost use lib.ListN.{length};
+ghost use Rattle.numbers.specs.Numbers.{at, nth, tab};
 ghost use Rattle.workspace.specs.inner.Readings.{vec, mat, nums, Block};
 ghost use Rattle.householder.specs.Qr.{pivot, tolerance, signed, advance, factor, solve};
-ghost use Rattle.householder.specs.inner.Search.{shown, weighed, product, four, Leads};
-ghost use Rattle.householder.specs.inner.Work.{held, Reflected, Turned, Exchanged, Prepared, AppliedQt, AppliedQ, SolvedR, SolvedRt, Placed};
+ghost use Rattle.householder.specs.inner.Search.{product, four};
+ghost use Rattle.householder.specs.inner.Work.{held, Turned, Prepared, AppliedQt, AppliedQ, SolvedR, SolvedRt, Placed};
 ghost use Rattle.householder.specs.inner.Places.{QR_MATRIX, QR_SIDE, QR_SOLUTION};
+use crate::search::pivot;
 use crate::vectors::reflect;
 use crate::vectors::reflect_by;
 use crate::vectors::swap;
@@ -32,71 +34,12 @@ pub const QR_SOLUTION: usize = QR_SIDE + 18;
 // The columns of the matrix, and then of R, 18 places each.
 pub const QR_MATRIX: usize = QR_SOLUTION + 66;
 
-// ---- the pivot
+// ---- shared by the search for the pivot and the step
 
 // A column and its norm.
 pub struct Candidate {
     pub index: usize,
     pub norm: f64,
-}
-
-// The best column so far by its sum of squares, where there is one that has a norm.
-struct Lead {
-    index: usize,
-    sum: f64,
-    any: bool,
-}
-
-impl Lead {
-    // 1 + 2^-47: a sum that is larger by more than this factor has a strictly larger root.
-    const GAP: f64 = 1.0000000000000071;
-}
-
-// Column j with the sum of squares s, against the lead: only a strictly larger norm replaces it, and
-// roots are taken only of a near tie.
-fn weigh(old: Lead, j: usize, s: f64) -> Lead
-    ensures { λ r. ⌜ r ≡ weighed old j s ⌝ }
-{
-    let new = Lead {
-        index: j,
-        sum: s,
-        any: true,
-    };
-    if old.any {
-        if s > old.sum {
-            if s > old.sum * Lead::GAP {
-                return new;
-            }
-            let x = numbers::sqrt(old.sum);
-            let y = numbers::sqrt(s);
-            if y > x {
-                return new;
-            }
-            return old;
-        }
-        return old;
-    }
-    if s >= 0.0 {
-        return new;
-    }
-    old
-}
-
-// The lead with its norm.
-fn show(top: Lead) -> Candidate
-    ensures { λ r. ⌜ r ≡ shown top ⌝ }
-{
-    if top.any {
-        let x = numbers::sqrt(top.sum);
-        return Candidate {
-            index: top.index,
-            norm: x,
-        };
-    }
-    Candidate {
-        index: top.index,
-        norm: -1.0,
-    }
 }
 
 // Four sums, one for each of four columns.
@@ -129,44 +72,6 @@ fn products_four(w: &[f64], p: usize, s: usize, q: usize, n: usize) -> Four
         c: c,
         d: d,
     }
-}
-
-// The lead among the columns from k on, by fours: up to three columns are left.
-fn pivot_fours(w: &[f64], m: usize, n: usize, k: usize) -> Lead
-    requires { ⌜ (m ≤ 18) × (n ≤ 66) × (k < m) × (k < n) × (QR_MATRIX + n * 18 ≤ length (now w)) ⌝ }
-    ensures { λ r. ⌜ Leads m n k ((n - k) / 4 * 4) (now (w .entry)) r ⌝ }
-{
-    let mut top = Lead {
-        index: k,
-        sum: 0.0,
-        any: false,
-    };
-    let c = (n - k) / 4;
-    for q in 0..c {
-        let j = k + q * 4;
-        let o = QR_MATRIX + j * 18 + k;
-        let s = products_four(w, o, 18, o, m - k);
-        top = weigh(top, j, s.a);
-        top = weigh(top, j + 1, s.b);
-        top = weigh(top, j + 2, s.c);
-        top = weigh(top, j + 3, s.d);
-    }
-    top
-}
-
-// The column of the largest norm among those from k on, and that norm.
-fn pivot(w: &[f64], m: usize, n: usize, k: usize) -> Candidate
-    requires { ⌜ (m ≤ 18) × (n ≤ 66) × (k < m) × (k < n) × (QR_MATRIX + n * 18 ≤ length (now w)) ⌝ }
-    ensures { λ r. ⌜ r ≡ pivot m n k (mat QR_MATRIX m n (now (w .entry))) (n - k) ⌝ }
-{
-    let mut top = pivot_fours(w, m, n, k);
-    let c = n - k;
-    for t in c / 4 * 4..c {
-        let p = QR_MATRIX + (k + t) * 18 + k;
-        let s = numbers::dot_within(w, p, p, m - k);
-        top = weigh(top, k + t, s);
-    }
-    show(top)
 }
 
 // ---- one step

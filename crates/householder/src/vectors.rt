@@ -1,6 +1,6 @@
 // What is done to one vector or two: a reflector is applied, and two columns change places.
 ghost use mathlib.Core.Path.{_≡_};
-ghost use Prim.Native.Nat.{ℕ, _+_, _-_, _*_, _<_, _≤_};
+ghost use Prim.Native.Nat.{_+_, _-_, _*_, _<_, _≤_};
 ghost use lib.ListN.{length, set};
 ghost use Rattle.numbers.specs.Numbers.{at, nth, _⊕_, _⊗_};
 ghost use Rattle.workspace.specs.inner.Readings.{Block};

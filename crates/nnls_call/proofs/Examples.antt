@@ -10,7 +10,8 @@ use lib.IntN.{pos}
 use lib.Ieee.{Float, inf, fin, add, sub, mul, div, neg, lt, le, eq, isNan, sum, round, size, units, odd, span, climb}
 use borrow.Author.Tests.{ne-eqb}
 use Rattle.numbers.specs.Numbers.{+0, near, Σ, tab, dot, scatter, rows, grid, row, column, transposed}
-use Rattle.numbers.specs.Root.{floorRoot, rootOf, sqrtOf, norm}
+use Rattle.numbers.specs.Root.{floorRoot, rootOf, sqrtOf}
+use Rattle.norms.specs.Norm.{plainNorm, scaled, hasNan, hasInf, largest, reduced, rescaled, norm}
 use Rattle.householder.specs.Qr.{along, image, columnNorm, pivot, swapped, reflector, pinned, advance, steps, factor, forth, applyQt, upward, solveR, solve}
 use Rattle.nnls_passive.specs.Passive.{Solved, members, solveOf}
 use Rattle.nnls.specs.Claims.{Sound}
@@ -39,7 +40,7 @@ b = neg (large 2) ∷ neg (large 8) ∷ large 6 ∷ []
 
 -- In round 3 columns 0 and 2 block: column 2 comes from +infinity, so its ratio is a NaN, and column 0 blocks.
 nan-ratio : nnls 3 3 a b 9 ≡ accept (+0 ∷ inf false ∷ inf false ∷ []) (0 ∷ 1 ∷ 1 ∷ []) (0 ∷ 0 ∷ 0 ∷ []) 3 4
-unfolding a b hundredths large add sub mul div neg lt le eq isNan sum round size units odd span climb trailingZeros Σ tab dot scatter rows grid row column transposed floorRoot rootOf sqrtOf norm along image columnNorm pivot swapped reflector pinned advance steps factor forth applyQt upward solveR solve members solveOf residual dualOf choose ratioOf ranksBefore blocking stepTo nextX nextMark moveX moveP judge tryNext tries turnNext turns lastly pass roundNext rounds activeSet nnls
+unfolding a b hundredths large add sub mul div neg lt le eq isNan sum round size units odd span climb trailingZeros Σ tab dot scatter rows grid row column transposed floorRoot rootOf sqrtOf norm rescaled reduced plainNorm scaled largest hasNan hasInf along image columnNorm pivot swapped reflector pinned advance steps factor forth applyQt upward solveR solve members solveOf residual dualOf choose ratioOf ranksBefore blocking stepTo nextX nextMark moveX moveP judge tryNext tries turnNext turns lastly pass roundNext rounds activeSet nnls
 nan-ratio = refl
 
 -- ---- one column, handed back
@@ -63,7 +64,7 @@ unfolding members
 both-in k = rw (ne-eqb (suc k) 0 (λ e. omega arith))
 
 handed-back-at : (p rej : List ℕ) → Sound 2 (dualOf 2 2 identity ones) (solveOf 2 2 identity ones) (record { x = +0 ∷ one ∷ []; passive = p; rejected = rej }) → ⊥
-unfolding one identity ones add sub mul div neg lt le eq isNan sum round size units odd span climb trailingZeros Σ tab dot scatter rows grid row column transposed floorRoot rootOf sqrtOf norm along image columnNorm pivot swapped reflector pinned advance steps factor forth applyQt upward solveR solve members solveOf residual dualOf
+unfolding one identity ones add sub mul div neg lt le eq isNan sum round size units odd span climb trailingZeros Σ tab dot scatter rows grid row column transposed floorRoot rootOf sqrtOf norm rescaled reduced plainNorm scaled largest hasNan hasInf along image columnNorm pivot swapped reflector pinned advance steps factor forth applyQt upward solveR solve members solveOf residual dualOf
 handed-back-at [] rej s = let h = s .size-passive in let z : ⊥ = omega arith in z
 handed-back-at (m ∷ []) rej s = let h = s .size-passive in let z : ⊥ = omega arith in z
 handed-back-at (m ∷ k ∷ l ∷ p) rej s = let h = s .size-passive in let z : ⊥ = omega arith in z

@@ -95,7 +95,7 @@ gap-above c k q i a l h = go (order k i)
         le-trans (le-of-eq (sym (suc-mul c (2 ^ k)))) (le-trans (mul-le-mul-right (2 ^ k) (lt-of-mul-lt-mul-right (2 ^ k) (lt-of-lt-of-le h (le-of-eq e)))) (le-of-eq (sym e)))
     go (inr g) = absurd (not-le-of-lt (lt-of-lt-of-le h (le-of-lt (fewer-places q k i g l))) (mul-le-mul-right (2 ^ k) a))
 
-gap-below : (c k q i : ℕ) → 2 ^ 52 < c → q < 2 ^ 53 → q * 2 ^ i < c * 2 ^ k → q * 2 ^ i + 2 ^ k ≤ c * 2 ^ k
+pub gap-below : (c k q i : ℕ) → 2 ^ 52 < c → q < 2 ^ 53 → q * 2 ^ i < c * 2 ^ k → q * 2 ^ i + 2 ^ k ≤ c * 2 ^ k
 gap-below c k q i a l h = go (order k i)
   where
     join : (q' K : ℕ) → suc q' ≤ c → q' * K + K ≤ c * K
@@ -138,7 +138,7 @@ no-units : (Y : ℕ) (e : ℤ) → zero * up e * 2 ^ 1074 ≡ Y * down e → Y �
 no-units zero e h = refl
 no-units (suc Y) e h = absurd (lt-irrefl 0 (subst (λ (x : ℕ). 0 < x) (sym h ∙ ap (λ (x : ℕ). x * 2 ^ 1074) (zero-mul (up e)) ∙ zero-mul (2 ^ 1074)) (mul-pos (zero-lt-suc Y) (down-pos e))))
 
-in-units : (y : Float) (Y : ℕ) → T (fits binary64 y) → IsUnits y Y → (q : ℕ) × (i : ℕ) × (q < 2 ^ 53) × (Y ≡ q * 2 ^ i)
+pub in-units : (y : Float) (Y : ℕ) → T (fits binary64 y) → IsUnits y Y → (q : ℕ) × (i : ℕ) × (q < 2 ^ 53) × (Y ≡ q * 2 ^ i)
 in-units nan Y h v = absurd v
 in-units (inf s) Y h v = absurd v
 in-units (fin s zero e) Y h v = (0, 0, pow-pos 53, no-units Y e (v .1))
@@ -317,7 +317,7 @@ unfolding sqrtOf
 specials = (refl, refl, refl, (λ s. refl), (λ m e. refl))
 
 -- ---- only one value is nearest
-same-units : (x : Float) (n n' : ℕ) → IsUnits x n → IsUnits x n' → n ≡ n'
+pub same-units : (x : Float) (n n' : ℕ) → IsUnits x n → IsUnits x n' → n ≡ n'
 same-units nan n n' v w = absurd v
 same-units (inf s) n n' v w = absurd v
 same-units (fin s m e) n n' v w = eq-of-mul-eq-mul-right (down e) (down-pos e) n n' (sym (v .1) ∙ w .1)

@@ -5,7 +5,7 @@ use mathlib.Core.List.{[], _∷_}
 use lib.IntN.{pos, negsuc}
 use lib.Ieee.{Float, nan, inf, fin, binary64, ofBits, add, mul, round, size, odd}
 use Rattle.numbers.specs.Numbers.{Σ, dot, near, epsilon, -0}
-use Rattle.numbers.specs.Root.{floorRoot, rootOf, sqrtOf, sumOf, norm}
+use Rattle.numbers.specs.Root.{floorRoot, rootOf, sqrtOf, sumOf}
 
 -- 0.1
 abbrev t : Float
@@ -37,11 +37,7 @@ million : sqrtOf (ofBits binary64 0x412e_8480_0000_0000) ≡ ofBits binary64 0x4
 unfolding sqrtOf rootOf floorRoot size odd ofBits
 million = refl
 
--- the norm of (3, 4), and a sum of sixteen numbers
-five : norm (fin false 3 (pos 0) ∷ fin false 1 (pos 2) ∷ []) ≡ fin false 5 (pos 0)
-unfolding norm dot sqrtOf rootOf floorRoot size odd Σ mul add
-five = refl
-
+-- ten tenths, summed, are not 1
 tenths : sumOf (t ∷ t ∷ t ∷ t ∷ t ∷ t ∷ t ∷ t ∷ t ∷ t ∷ []) ≡ ofBits binary64 0x3fef_ffff_ffff_ffff
 unfolding sumOf Σ add ofBits
 tenths = refl

@@ -1,9 +1,9 @@
-// The numeric leaves: sums of f64s, left to right from -0, the square root and the norm.
+// The numeric leaves: sums of f64s, left to right from -0, and the square root.
 ghost use mathlib.Core.Path.{_≡_};
 ghost use Prim.Native.Nat.{ℕ, _≤_, _+_, _*_, _<_, _^_};
 ghost use lib.ListN.{length};
 ghost use Rattle.numbers.specs.Numbers.{Σ, at, dot, _⊗_};
-ghost use Rattle.numbers.specs.Root.{floorRoot, rootOf, sqrtOf, sumOf, norm};
+ghost use Rattle.numbers.specs.Root.{floorRoot, rootOf, sqrtOf, sumOf};
 
 // The f64 type's own numbers.
 pub struct Binary64 {}
@@ -232,11 +232,4 @@ pub fn sqrt(x: f64) -> f64
         return root_at(t, 0);
     }
     root_at(0x10_0000_0000_0000 + t, e - 1)
-}
-
-// The norm of a slice: the root of the sum of its squares.
-pub fn norm(xs: &[f64]) -> f64
-    ensures { λ r. ⌜ r ≡ norm (now (xs .entry)) ⌝ }
-{
-    sqrt(dot(xs.len(), xs, xs))
 }

@@ -4,7 +4,8 @@ use mathlib.Core.List.{map}
 use lib.Ieee.{add, sub, mul, div, neg, lt, le, eq, isNan, sum, round, size, units, odd, span, climb, ofBits, ofFields, toBits}
 use lib.Count.{trailingZeros}
 use Rattle.numbers.specs.Numbers.{Σ, tab, dot, gather, scatter, rows, grid, row, column, transposed}
-use Rattle.numbers.specs.Root.{floorRoot, rootOf, sqrtOf, norm}
+use Rattle.numbers.specs.Root.{floorRoot, rootOf, sqrtOf}
+use Rattle.norms.specs.Norm.{plainNorm, scaled, hasNan, hasInf, largest, reduced, rescaled, norm}
 use Rattle.nnls.specs.Nnls.{residual, dualOf, choose, ratioOf, ranksBefore, blocking, stepTo, nextX, nextMark, moveX, moveP, judge, tryNext, tries, turnNext, turns, lastly, pass, roundNext, rounds, activeSet, nnls}
 use Rattle.step_rows.specs.Problem.{matrixOf, sidesOf, each, unit, boundRows, equalityRows, inequalityRows, opposedRows, loosenedRow, deltaRows, relaxedRows}
 use Rattle.step.specs.Step.{target, inOrder, exactStep, exact, relaxedMatrix, paired, clamped, relaxedStep, relaxed, step}
@@ -26,11 +27,11 @@ unfolding bytes spared programText decode isHead spareZero little tab ascii deci
 sizes-hold = refl
 
 rule-holds : withText ruleCase ≡ ruleCase
-unfolding add sub mul div neg lt le eq isNan sum round size units odd span climb trailingZeros ofBits ofFields toBits Σ tab dot gather scatter rows grid row column transposed floorRoot rootOf sqrtOf norm along image columnNorm pivot swapped reflector pinned advance steps factor forth back applyQt applyQ upward solveR downward solveRt solve residual dualOf members solveOf choose ratioOf ranksBefore blocking stepTo nextX nextMark moveX moveP judge tryNext tries turnNext turns lastly pass roundNext rounds activeSet nnls dualMatrix dualSide dualResidual primal ldp reducedRows reducedSides restored lsiFrom lsi fixed turned tailOf shifted gradient equalityMultipliers rejoined lseiFrom lsei matrixOf sidesOf each unit boundRows equalityRows inequalityRows opposedRows loosenedRow deltaRows relaxedRows target inOrder exactStep exact relaxedMatrix paired clamped relaxedStep relaxed step bytes spared programText decode isHead spareZero little walk isSound isInside given isComplete areGiven givenProblem ascii decimalFrom decimalText floatText lineText linesText refusedText doneText
+unfolding add sub mul div neg lt le eq isNan sum round size units odd span climb trailingZeros ofBits ofFields toBits Σ tab dot gather scatter rows grid row column transposed floorRoot rootOf sqrtOf norm rescaled reduced plainNorm scaled largest hasNan hasInf along image columnNorm pivot swapped reflector pinned advance steps factor forth back applyQt applyQ upward solveR downward solveRt solve residual dualOf members solveOf choose ratioOf ranksBefore blocking stepTo nextX nextMark moveX moveP judge tryNext tries turnNext turns lastly pass roundNext rounds activeSet nnls dualMatrix dualSide dualResidual primal ldp reducedRows reducedSides restored lsiFrom lsi fixed turned tailOf shifted gradient equalityMultipliers rejoined lseiFrom lsei matrixOf sidesOf each unit boundRows equalityRows inequalityRows opposedRows loosenedRow deltaRows relaxedRows target inOrder exactStep exact relaxedMatrix paired clamped relaxedStep relaxed step bytes spared programText decode isHead spareZero little walk isSound isInside given isComplete areGiven givenProblem ascii decimalFrom decimalText floatText lineText linesText refusedText doneText
 rule-holds = refl
 
 steps-hold : map withText stepCases ≡ stepCases
-unfolding add sub mul div neg lt le eq isNan sum round size units odd span climb trailingZeros ofBits ofFields toBits Σ tab dot gather scatter rows grid row column transposed floorRoot rootOf sqrtOf norm along image columnNorm pivot swapped reflector pinned advance steps factor forth back applyQt applyQ upward solveR downward solveRt solve residual dualOf members solveOf choose ratioOf ranksBefore blocking stepTo nextX nextMark moveX moveP judge tryNext tries turnNext turns lastly pass roundNext rounds activeSet nnls dualMatrix dualSide dualResidual primal ldp reducedRows reducedSides restored lsiFrom lsi fixed turned tailOf shifted gradient equalityMultipliers rejoined lseiFrom lsei matrixOf sidesOf each unit boundRows equalityRows inequalityRows opposedRows loosenedRow deltaRows relaxedRows target inOrder exactStep exact relaxedMatrix paired clamped relaxedStep relaxed step bytes spared programText decode isHead spareZero little walk isSound isInside given isComplete areGiven givenProblem ascii decimalFrom decimalText floatText lineText linesText refusedText doneText
+unfolding add sub mul div neg lt le eq isNan sum round size units odd span climb trailingZeros ofBits ofFields toBits Σ tab dot gather scatter rows grid row column transposed floorRoot rootOf sqrtOf norm rescaled reduced plainNorm scaled largest hasNan hasInf along image columnNorm pivot swapped reflector pinned advance steps factor forth back applyQt applyQ upward solveR downward solveRt solve residual dualOf members solveOf choose ratioOf ranksBefore blocking stepTo nextX nextMark moveX moveP judge tryNext tries turnNext turns lastly pass roundNext rounds activeSet nnls dualMatrix dualSide dualResidual primal ldp reducedRows reducedSides restored lsiFrom lsi fixed turned tailOf shifted gradient equalityMultipliers rejoined lseiFrom lsei matrixOf sidesOf each unit boundRows equalityRows inequalityRows opposedRows loosenedRow deltaRows relaxedRows target inOrder exactStep exact relaxedMatrix paired clamped relaxedStep relaxed step bytes spared programText decode isHead spareZero little walk isSound isInside given isComplete areGiven givenProblem ascii decimalFrom decimalText floatText lineText linesText refusedText doneText
 steps-hold = refl
 
 pub cases-hold : CasesHold

@@ -20,6 +20,17 @@ pub enum Refusal {
     Infeasible,
     Capped,
     Pivot,
+    Tolerance,
+    Dependent,
+    Reading,
+    Spread,
+    Width,
+    Bound,
+    Crossed,
+    Nonfinite,
+    Unasked,
+    Output,
+    Triangle,
 }
 
 impl Refusal {
@@ -36,6 +47,17 @@ impl Refusal {
             Refusal::Infeasible => 6,
             Refusal::Capped => 7,
             Refusal::Pivot => 8,
+            Refusal::Tolerance => 10,
+            Refusal::Dependent => 11,
+            Refusal::Reading => 12,
+            Refusal::Spread => 13,
+            Refusal::Width => 14,
+            Refusal::Bound => 15,
+            Refusal::Crossed => 16,
+            Refusal::Nonfinite => 17,
+            Refusal::Unasked => 18,
+            Refusal::Output => 19,
+            Refusal::Triangle => 20,
         }
     }
 }

@@ -17,6 +17,10 @@ const FILES: [(&str, &str); 5] = [
     ("slsqp", "subproblem"),
 ];
 
+/// The norm of docs/RULES.md, and the plain one.
+pub const NORM: &str = "reference::stand_in::norm";
+pub const PLAIN: &str = "reference::stand_in::plain_norm as norm";
+
 /// Where the sources may stand below the folder that is given.
 const BELOW: [&str; 2] = ["", "crates/itofin-optimize/src"];
 
@@ -115,15 +119,17 @@ fn beside(text: &str, mark: &str, put: impl Fn(&str) -> String) -> String {
         .collect()
 }
 
-/// Writes the files into a folder and answers the module tree that takes them in, for the
-/// module `at` of the crate that is built (`crate` itself, or a module below it).
-pub fn tree(sources: &[Source], folder: &Path, at: &str) -> String {
+/// Writes the files into a folder and answers the module tree that takes them in over a norm, for
+/// the module `at` of the crate that is built (`crate` itself, or a module below it).
+pub fn tree(sources: &[Source], folder: &Path, at: &str, norm: &str) -> String {
     fs::create_dir_all(folder).expect("a folder for the sources");
     let mut modules = String::new();
     for parent in ["lsq", "slsqp"] {
         let stand_in = match parent {
-            "lsq" => "pub(crate) use reference::stand_in::{Failure, MatRef, norm};\n",
-            _ => "",
+            "lsq" => format!(
+                "pub(crate) use reference::stand_in::{{Failure, MatRef}};\npub(crate) use {norm};\n"
+            ),
+            _ => String::new(),
         };
         modules += &format!("#[allow(dead_code)]\npub(crate) mod {parent} {{\n{stand_in}");
         for source in sources.iter().filter(|source| source.parent == parent) {

@@ -25,11 +25,8 @@ edges! {
     SumBackwards "sum right to left" {
         fn sum(x: &[f64]) -> f64 { x.iter().rev().sum() }
     }
-    NormFromZero "norm from +0" {
-        fn norm(x: &[f64]) -> f64 { x.iter().fold(0.0, |sum, term| sum + term * term).sqrt() }
-    }
-    NormScaled "norm that survives small units" {
-        fn norm(x: &[f64]) -> f64 { x.iter().fold(-0.0, |sum: f64, term| sum.hypot(*term)) }
+    NormByHypot "norm by hypot" {
+        fn norm(x: &[f64]) -> f64 { x.iter().fold(0.0, |sum: f64, term| sum.hypot(*term)) }
     }
     RootOfMinusZero "root of -0 taken as +0" {
         fn sqrt(x: f64) -> f64 { x.sqrt() + 0.0 }

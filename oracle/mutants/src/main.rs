@@ -90,22 +90,34 @@ fn main() -> ExitCode {
     let nothing = Some("the same Rust on both sides");
     let mut unexpected = u32::from(!line("none", "no slip", &sound, nothing, &plan));
     let wanted = std::env::args().nth(1).unwrap_or_default();
+    let wants = |place: &str, name: &str| place == wanted || name.contains(&wanted);
     for (slip, library) in SLIPS.iter().zip(libraries()) {
-        if !slip.name.contains(&wanted) {
+        if !wants(slip.file, slip.name) {
             continue;
         }
         unexpected += u32::from(!line(slip.file, slip.name, &library, slip.unseen, &plan));
     }
+    for (slip, [operation, below]) in NORM_SLIPS.iter().zip(norm_libraries()) {
+        if !wants("norm", slip.name) {
+            continue;
+        }
+        unexpected += u32::from(!line("norm", slip.name, &operation, slip.unseen, &plan));
+        unexpected += u32::from(!line("norm below", slip.name, &below, slip.unseen_below, &plan));
+    }
     for (name, library) in edges::libraries() {
-        if !name.contains(&wanted) {
+        if !wants("edge", name) {
             continue;
         }
         unexpected += u32::from(!line("edge", name, &library, None, &plan));
     }
     for slip in records::SLIPS {
+        if !wants("records", &format!("{slip:?}")) {
+            continue;
+        }
         unexpected += u32::from(!reading(slip, FILES, plan.seed));
     }
-    let slips = SLIPS.len() + edges::libraries().len() + records::SLIPS.len();
+    let slips =
+        SLIPS.len() + 2 * NORM_SLIPS.len() + edges::libraries().len() + records::SLIPS.len();
     println!("slips: {slips}; unexpected: {unexpected}");
     if unexpected == 0 { ExitCode::SUCCESS } else { ExitCode::FAILURE }
 }

@@ -75,6 +75,23 @@ impl Answer {
         all.any(|value| value.is_nan())
     }
 
+    /// Whether the other has the same number, counts and values, any NaN for any NaN.
+    pub fn same(&self, other: &Answer) -> bool {
+        let words = |answer: &Answer| -> Vec<u64> {
+            let values = answer.outputs.iter().flatten().chain(&answer.value);
+            values.map(|x| if x.is_nan() { u64::MAX } else { x.to_bits() }).collect()
+        };
+        let told = |answer: &Answer| (answer.number, answer.counts.clone(), answer.perm.clone());
+        told(self) == told(other) && words(self) == words(other)
+    }
+
+    /// Whether this is an answer and the other was kept from one by its rank: refused with 5, of
+    /// rank 0, or with no column of NNLS kept.
+    pub fn ranks_beside(&self, other: &Answer) -> bool {
+        let none = |answer: &Answer| answer.number == 5 || answer.counts.first() == Some(&0);
+        self.number == 0 && !none(self) && none(other)
+    }
+
     /// Columns that NNLS tried and put back.
     pub fn rejected(&self) -> u32 {
         let rounds = self.counts.first().copied().unwrap_or(0);
@@ -131,6 +148,15 @@ pub trait Edge: 'static {
 pub struct Sound;
 
 impl Edge for Sound {}
+
+/// The edge over the plain norm.
+pub struct Plain;
+
+impl Edge for Plain {
+    fn norm(x: &[f64]) -> f64 {
+        stand_in::plain_norm(x.iter().copied())
+    }
+}
 
 /// The arithmetic behind the public operations, as the Rust files have it.
 pub trait Kernels: 'static {

@@ -11,6 +11,7 @@ pub mod tally;
 include!(concat!(env!("OUT_DIR"), "/tree.rs"));
 
 pub use kernels::Rust;
+pub use plain::kernels::Rust as PlainRust;
 
 /// The toolchain that this was built with.
 pub const TOOLCHAIN: &str = env!("TOOLCHAIN");

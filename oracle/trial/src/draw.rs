@@ -113,9 +113,11 @@ impl Draw {
         ((self.bits() >> 12) + 1) as f64 / (1u64 << 52) as f64
     }
 
-    /// A power of two, its exponent between the two given.
+    /// A power of two, its exponent between the two given, which are at least -1074.
     pub fn power(&mut self, from: i32, to: i32) -> f64 {
-        2f64.powi(from + self.below((to - from + 1) as usize) as i32)
+        let exponent = from + self.below((to - from + 1) as usize) as i32;
+        // `powi` takes an inverse, which is 0 below 2^-1023.
+        2f64.powi(exponent.max(-1000)) * 2f64.powi(exponent.min(-1000) + 1000)
     }
 
     /// One value of a palette.

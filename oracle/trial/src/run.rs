@@ -4,9 +4,9 @@ use crate::held::{Junk, compare};
 use crate::kinds::{Kind, Share, of};
 use crate::table::{Aim, Counts};
 use peer::Library;
-use reference::Rust;
-use reference::call::{Answer, Call, Sound, answer};
+use reference::call::{Answer, Call, Plain, Sound, answer};
 use reference::shape::Op;
+use reference::{PlainRust, Rust};
 use std::thread;
 
 /// Calls from which on a kind must have come where it aims.
@@ -110,11 +110,15 @@ fn run_share(
     let (mut rows, mut differences) = (vec![], vec![]);
     for portion in portions {
         let mut counts = Counts::default();
+        let beside = portion.kind.aims.iter().any(|aim| matches!(aim, Aim::Moved | Aim::Ranked));
         let mut place = thread;
         while place < portion.count {
             let index = portion.index(place);
             let (call, owed, found) = try_one(library, &portion.kind, plan.seed, index, &junk);
             counts.count(call.op, &owed, !found.is_empty());
+            if beside {
+                counts.count_beside(&owed, &answer::<PlainRust, Plain>(&call));
+            }
             if !found.is_empty() && differences.len() < SHOWN {
                 let (op, kind) = (call.op, portion.kind.name);
                 differences.push(Difference { op, kind, index, found });

@@ -18,6 +18,10 @@ pub enum Aim {
     Rejected,
     /// A NaN ratio.
     NanRatio,
+    /// An answer other than the one over the plain norm.
+    Moved,
+    /// An answer where the plain norm takes the rank away.
+    Ranked,
 }
 
 /// The counts of one kind.
@@ -30,6 +34,8 @@ pub struct Counts {
     pub blocked: u64,
     pub rejected: u64,
     pub not_comparable: u64,
+    pub moved: u64,
+    pub ranked: u64,
     pub different: u64,
 }
 
@@ -47,6 +53,12 @@ impl Counts {
         self.different += u64::from(different);
     }
 
+    /// Counts one call again, beside its answer over the plain norm.
+    pub fn count_beside(&mut self, owed: &Answer, plain: &Answer) {
+        self.moved += u64::from(!owed.same(plain));
+        self.ranked += u64::from(owed.ranks_beside(plain));
+    }
+
     /// Adds the counts of another run.
     pub fn add(&mut self, other: &Counts) {
         self.calls += other.calls;
@@ -58,6 +70,8 @@ impl Counts {
         self.blocked += other.blocked;
         self.rejected += other.rejected;
         self.not_comparable += other.not_comparable;
+        self.moved += other.moved;
+        self.ranked += other.ranked;
         self.different += other.different;
     }
 
@@ -70,10 +84,12 @@ impl Counts {
             Aim::Blocked => self.blocked,
             Aim::Rejected => self.rejected,
             Aim::NanRatio => self.not_comparable,
+            Aim::Moved => self.moved,
+            Aim::Ranked => self.ranked,
         }
     }
 
-    fn columns(&self) -> [u64; 16] {
+    fn columns(&self) -> [u64; 18] {
         let n = self.numbers;
         [
             self.calls,
@@ -91,12 +107,14 @@ impl Counts {
             self.blocked,
             self.rejected,
             self.not_comparable,
+            self.moved,
+            self.ranked,
             self.different,
         ]
     }
 }
 
-const HEADS: [&str; 16] = [
+const HEADS: [&str; 18] = [
     "calls",
     "ok",
     "1",
@@ -112,11 +130,13 @@ const HEADS: [&str; 16] = [
     "blocked",
     "put back",
     "nan ratio",
+    "moved",
+    "ranked",
     "differ",
 ];
 
 /// Prints one line of the table.
-fn line(op: &str, kind: &str, columns: &[String; 16]) {
+fn line(op: &str, kind: &str, columns: &[String; 18]) {
     print!("{op:<9}{kind:<20}");
     for column in columns {
         print!("{column:>9}");

@@ -1,9 +1,9 @@
 //! Kinds for LDP, LSI and LSEI.
 
-use super::parts::{huge, low_rank, product, repeat_rows, strew, tiny};
+use super::parts::{huge, in_columns, in_rows, low_rank, product, repeat_rows, strew, tiny, units};
 use super::{Row, Share};
 use crate::draw::{Draw, Palette, specials, spell};
-use crate::table::Aim::{Blocked, Nan, Number};
+use crate::table::Aim::{Blocked, Moved, Nan, Number, Ranked};
 use reference::call::Call;
 use reference::shape::Op;
 
@@ -44,6 +44,7 @@ pub const LDP: &[Row] = rows![
     ("two by two", Share::All(729), &[Number(0), Number(6)], |op, index, _| {
         spelt(op, index, &[2, 2], &[-1.0, 0.0, 1.0])
     }),
+    ("units", Share::Weight(4), &[Number(0), Moved], in_units),
 ];
 
 pub const LSI: &[Row] = rows![
@@ -55,6 +56,7 @@ pub const LSI: &[Row] = rows![
         spelt(op, index, &[1, 2, 2], &[-1.0, 0.0, 2.0])
     }),
     ("dependent", Share::Weight(3), &[Number(5)], dependent),
+    ("units", Share::Weight(4), &[Number(0), Moved, Ranked], in_units),
 ];
 
 pub const LSEI: &[Row] = rows![
@@ -63,6 +65,7 @@ pub const LSEI: &[Row] = rows![
         spelt(op, index, &[1, 1, 1, 2], &[-1.0, 0.0, 2.0])
     }),
     ("dependent", Share::Weight(3), &[Number(5)], dependent),
+    ("units", Share::Weight(4), &[Number(0), Moved, Ranked], in_units),
     ("too many", Share::Weight(2), &[Number(5)], |op, _, draw| {
         let n = draw.between(0, 15);
         let sizes = [n, draw.between(n + 1, 16), draw.size(0, 17), draw.size(0, 66)];
@@ -143,6 +146,18 @@ fn scaled(op: Op, draw: &mut Draw, scale: fn(&mut Draw, &mut [Vec<f64>])) -> Cal
         scale(draw, &mut call.inputs[one..=one]);
     } else {
         scale(draw, &mut call.inputs);
+    }
+    call
+}
+
+/// Variables in units, and rows with their right-hand sides.
+fn in_units(op: Op, _: u64, draw: &mut Draw) -> Call {
+    let mut call = any(op, draw, Palette::Smooth);
+    let units = units(draw, columns(&call));
+    for pair in call.inputs.chunks_exact_mut(2) {
+        let (a, rhs) = pair.split_at_mut(1);
+        in_columns(&mut a[0], &units);
+        in_rows(draw, &mut a[0], &mut rhs[0]);
     }
     call
 }

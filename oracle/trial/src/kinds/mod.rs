@@ -70,7 +70,8 @@ fn kind(op: Op, row: &Row) -> Kind {
 fn own(op: Op) -> Vec<Row> {
     match op {
         Op::Sqrt => plain::SQRT.to_vec(),
-        Op::Sum | Op::Norm => plain::LISTS.to_vec(),
+        Op::Sum => plain::LISTS.to_vec(),
+        Op::Norm => [&plain::LISTS[..], &plain::NORM].concat(),
         Op::Qr => qr::ROWS.to_vec(),
         Op::Nnls => nnls::ROWS.to_vec(),
         Op::Ldp => lsei::LDP.to_vec(),

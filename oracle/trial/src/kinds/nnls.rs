@@ -1,15 +1,17 @@
 //! Kinds for NNLS.
 
-use super::parts::{huge, low_rank, product, repeat_columns, strew, tiny};
+use super::parts::{
+    huge, in_columns, in_rows, low_rank, product, repeat_columns, strew, tiny, units,
+};
 use super::{Row, Share};
 use crate::draw::{Draw, Palette, specials, spell};
-use crate::table::Aim::{Blocked, Nan, NanRatio, Number, Rejected};
+use crate::table::Aim::{Blocked, Moved, NanRatio, Number, Ranked, Rejected};
 use reference::Rust;
-use reference::call::{Answer, Call, Sound, answer};
+use reference::call::{Call, Sound, answer};
 use reference::shape::Op;
 use reference::tally;
 
-pub const ROWS: [Row; 23] = [
+pub const ROWS: [Row; 24] = [
     ("every size", Share::All(2 * 19 * 67), &[Number(0)], every_size),
     ("one by one", Share::All(26 * 26), &[Number(0)], |_, index, _| {
         let values = spell(index, &specials(), 2);
@@ -42,12 +44,13 @@ pub const ROWS: [Row; 23] = [
     (
         "nan ratio decides",
         Share::All(DECIDING.len() as u64),
-        &[Number(0), NanRatio, Nan],
+        &[Number(0), Number(7), NanRatio],
         |_, index, _| numbered(DECIDING[index as usize]),
     ),
     ("wide", Share::Weight(4), &[Number(0), Blocked], |_, _, draw| of(draw, Palette::Wide)),
-    ("tiny", Share::Weight(3), &[Number(0)], |_, _, draw| scaled(draw, tiny)),
+    ("tiny", Share::Weight(3), &[Number(0), Moved], |_, _, draw| scaled(draw, tiny)),
     ("huge", Share::Weight(3), &[Number(0)], |_, _, draw| scaled(draw, huge)),
+    ("units", Share::Weight(4), &[Number(0), Moved, Ranked, Blocked], in_units),
     ("one special", Share::Weight(4), &[Number(0)], |_, _, draw| {
         let mut call = of(draw, Palette::Smooth);
         strew(draw, &mut call.inputs, 1);
@@ -70,9 +73,11 @@ pub fn overflow_numbered(number: u64) -> Call {
 }
 
 /// Numbers of coarse problems in which the place of a NaN ratio among numbers decides the answer,
-/// found among the first ten million by `decides`.
-const DECIDING: [u64; 8] =
-    [629_009, 829_970, 3_516_640, 3_605_381, 4_488_103, 5_892_519, 6_554_361, 8_888_794];
+/// the first sixteen of those found among the first ten million by `decides`.
+const DECIDING: [u64; 16] = [
+    3596, 170_311, 438_694, 467_296, 541_069, 629_009, 639_697, 1_042_598, 1_149_378, 1_157_825,
+    1_264_076, 1_349_255, 1_427_402, 1_556_014, 1_992_495, 2_106_452,
+];
 
 fn nnls(m: usize, n: usize, k: usize, a: Vec<f64>, b: Vec<f64>) -> Call {
     Call::new(Op::Nnls, &[m, n, k], vec![a, b])
@@ -88,6 +93,17 @@ fn scaled(draw: &mut Draw, scale: fn(&mut Draw, &mut [Vec<f64>])) -> Call {
     let palette = draw.pick(&[Palette::Smooth, Palette::Whole]);
     let mut call = of(draw, palette);
     scale(draw, &mut call.inputs);
+    call
+}
+
+/// Columns in units, and rows with their right-hand sides.
+fn in_units(_: Op, _: u64, draw: &mut Draw) -> Call {
+    let palette = draw.pick(&[Palette::Smooth, Palette::Whole]);
+    let mut call = of(draw, palette);
+    let units = units(draw, call.sizes[1]);
+    in_columns(&mut call.inputs[0], &units);
+    let (a, b) = call.inputs.split_at_mut(1);
+    in_rows(draw, &mut a[0], &mut b[0]);
     call
 }
 
@@ -243,11 +259,5 @@ pub fn decides(number: u64) -> bool {
     tally::rank_nan_first(true);
     let before = answer::<Rust, Sound>(&call);
     tally::rank_nan_first(false);
-    let words = |answer: &Answer| -> Vec<u64> {
-        let values = answer.outputs.iter().flatten();
-        values.map(|x| if x.is_nan() { u64::MAX } else { x.to_bits() }).collect()
-    };
-    after.number != before.number
-        || after.counts != before.counts
-        || words(&after) != words(&before)
+    !after.same(&before)
 }

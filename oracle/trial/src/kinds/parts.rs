@@ -83,3 +83,27 @@ pub fn huge(draw: &mut Draw, inputs: &mut [Vec<f64>]) {
     let most = draw.pick(&[500, 515, 1023]);
     rescale(draw, inputs, 440, most);
 }
+
+/// So many units between 1e-300 and 1e300: one for all, some near one another, or each its own.
+pub fn units(draw: &mut Draw, count: usize) -> Vec<f64> {
+    let middle = draw.between(0, 1960) as i32 - 980;
+    let spread = draw.pick(&[0, 0, 15, 2000]);
+    let unit =
+        |draw: &mut Draw| draw.power((middle - spread).max(-996), (middle + spread).min(996));
+    (0..count).map(|_| unit(draw)).collect()
+}
+
+/// Puts each column of a row-major matrix into its unit.
+pub fn in_columns(a: &mut [f64], units: &[f64]) {
+    a.iter_mut().zip(units.iter().cycle()).for_each(|(value, unit)| *value *= unit);
+}
+
+/// Puts each row, and its right-hand side, into a unit of its own, or none.
+pub fn in_rows(draw: &mut Draw, a: &mut [f64], rhs: &mut [f64]) {
+    if rhs.is_empty() || draw.one_in(2) {
+        return;
+    }
+    let (cols, units) = (a.len() / rhs.len(), units(draw, rhs.len()));
+    a.iter_mut().enumerate().for_each(|(at, value)| *value *= units[at / cols]);
+    in_columns(rhs, &units);
+}

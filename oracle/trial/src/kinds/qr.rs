@@ -1,13 +1,13 @@
 //! Kinds for the pivoted QR.
 
-use super::parts::{huge, low_rank, repeat_columns, strew, tiny};
+use super::parts::{huge, in_columns, in_rows, low_rank, repeat_columns, strew, tiny, units};
 use super::{Row, Share};
 use crate::draw::{Draw, Palette, specials, spell};
-use crate::table::Aim::{Nan, Number};
+use crate::table::Aim::{Moved, Nan, Number, Ranked};
 use reference::call::Call;
 use reference::shape::Op;
 
-pub const ROWS: [Row; 16] = [
+pub const ROWS: [Row; 19] = [
     ("every size", Share::All(3 * 19 * 67), &[Number(0)], every_size),
     ("one by one", Share::All(26), &[Number(0), Nan], |_, index, _| {
         factor(1, 1, spell(index, &specials(), 1))
@@ -30,11 +30,25 @@ pub const ROWS: [Row; 16] = [
             (draw.pick(&[Palette::Smooth, Palette::Whole]), draw.below(m.min(n) + 1));
         factor(m, n, low_rank(draw, palette, m, n, rank))
     }),
-    ("edge of rank", Share::Weight(4), &[Number(0)], edge_of_rank),
+    ("edge of rank", Share::Weight(4), &[Number(0)], |_, _, draw| edge_of_rank(draw, 1.0)),
+    ("edge of rank, scaled", Share::Weight(3), &[Number(0), Moved, Ranked], |_, _, draw| {
+        let unit = units(draw, 1)[0];
+        edge_of_rank(draw, unit)
+    }),
     ("wide", Share::Weight(4), &[Number(0)], |_, _, draw| of(draw, Palette::Wide)),
     ("vast", Share::Weight(2), &[Number(0)], |_, _, draw| of(draw, Palette::Vast)),
-    ("tiny", Share::Weight(3), &[Number(0)], |_, _, draw| scaled(draw, tiny)),
-    ("huge", Share::Weight(3), &[Number(0)], |_, _, draw| scaled(draw, huge)),
+    ("tiny", Share::Weight(3), &[Number(0), Moved, Ranked], |_, _, draw| scaled(draw, tiny)),
+    ("huge", Share::Weight(3), &[Number(0), Moved, Ranked], |_, _, draw| scaled(draw, huge)),
+    ("units", Share::Weight(4), &[Number(0), Moved, Ranked], in_units),
+    ("dependent, scaled", Share::Weight(3), &[Number(0), Moved, Ranked], |_, _, draw| {
+        let (m, n) = (draw.size(1, 18), draw.size(1, 66));
+        let (palette, rank) =
+            (draw.pick(&[Palette::Smooth, Palette::Whole]), draw.below(m.min(n) + 1));
+        let mut a = low_rank(draw, palette, m, n, rank);
+        let unit = units(draw, 1);
+        in_columns(&mut a, &unit);
+        factor(m, n, a)
+    }),
     ("one special", Share::Weight(4), &[Number(0), Nan], |_, _, draw| {
         let mut call = of(draw, Palette::Smooth);
         strew(draw, &mut call.inputs, 1);
@@ -61,6 +75,17 @@ fn scaled(draw: &mut Draw, scale: fn(&mut Draw, &mut [Vec<f64>])) -> Call {
     call
 }
 
+/// Columns in units, and rows.
+fn in_units(_: Op, _: u64, draw: &mut Draw) -> Call {
+    let palette = draw.pick(&[Palette::Smooth, Palette::Whole]);
+    let mut call = of(draw, palette);
+    let units = units(draw, call.sizes[1]);
+    in_columns(&mut call.inputs[0], &units);
+    let mut rows = vec![0.0; call.sizes[0]];
+    in_rows(draw, &mut call.inputs[0], &mut rows);
+    call
+}
+
 /// Every size, with three palettes.
 fn every_size(_: Op, index: u64, draw: &mut Draw) -> Call {
     let palette = [Palette::Smooth, Palette::Whole, Palette::Signs][(index % 3) as usize];
@@ -70,10 +95,10 @@ fn every_size(_: Op, index: u64, draw: &mut Draw) -> Call {
 }
 
 /// Columns along different axes, the last of them as long as the tolerance, or one step off.
-fn edge_of_rank(_: Op, _: u64, draw: &mut Draw) -> Call {
+fn edge_of_rank(draw: &mut Draw, unit: f64) -> Call {
     let (m, n) = (draw.size(2, 18), draw.size(2, 66));
     let rank = draw.between(1, m.min(n) - 1);
-    let largest = draw.pick(&[1.0, 2.0, 3.0, 0.7]);
+    let largest = draw.pick(&[1.0, 2.0, 3.0, 0.7]) * unit;
     let tolerance = m.max(n) as f64 * f64::EPSILON * largest;
     let nearby = f64::from_bits(tolerance.to_bits() + draw.below(3) as u64 - 1);
     let mut a = vec![0.0; m * n];

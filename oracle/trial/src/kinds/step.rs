@@ -1,21 +1,22 @@
 //! Kinds for the step.
 
-use super::parts::{huge, product, strew, tiny};
+use super::parts::{huge, in_columns, in_rows, product, strew, tiny, units};
 use super::{Row, Share};
 use crate::draw::{Draw, Palette, SPECIAL, spell};
-use crate::table::Aim::{Blocked, Nan, Number, Relaxed};
+use crate::table::Aim::{Blocked, Moved, Nan, Number, Ranked, Relaxed};
 use reference::call::Call;
 use reference::shape::Op;
 use std::cmp::Ordering;
 
 /// The places of the slices in a call.
 const FACTOR: usize = 0;
+const GRADIENT: usize = 1;
 const VALUES: usize = 2;
 const JACOBIAN: usize = 3;
 const LOWER: usize = 4;
 const UPPER: usize = 5;
 
-pub const ROWS: [Row; 23] = [
+pub const ROWS: [Row; 24] = [
     ("every size", Share::All(16 * 17 * 8), &[Number(0), Relaxed], |_, index, draw| {
         let at = index / 8;
         posed(draw, (at / 17) as usize + 1, (at % 17) as usize, Palette::Smooth)
@@ -42,6 +43,7 @@ pub const ROWS: [Row; 23] = [
     ("wide", Share::Weight(4), &[Number(0)], |_, _, draw| of(draw, Palette::Wide)),
     ("tiny", Share::Weight(3), &[Number(0)], |_, _, draw| scaled(draw, tiny)),
     ("huge", Share::Weight(3), &[Number(0)], |_, _, draw| scaled(draw, huge)),
+    ("units", Share::Weight(5), &[Number(0), Moved, Ranked], in_units),
     ("one special", Share::Weight(6), &[Number(0), Nan, Relaxed], |_, _, draw| strewn(draw, 1)),
     ("some special", Share::Weight(4), &[Number(0), Nan], |_, _, draw| strewn(draw, 4)),
     ("specials", Share::Weight(3), &[Number(0)], |_, _, draw| loose(draw, Palette::Special)),
@@ -114,6 +116,24 @@ fn scaled(draw: &mut Draw, scale: fn(&mut Draw, &mut [Vec<f64>])) -> Call {
     call
 }
 
+/// Variables in units (their bounds in the inverse ones), constraints in theirs.
+fn in_units(_: Op, _: u64, draw: &mut Draw) -> Call {
+    let mut call = of(draw, Palette::Smooth);
+    let n = call.sizes[0];
+    let units = units(draw, n);
+    for (at, entry) in call.inputs[FACTOR].iter_mut().enumerate() {
+        *entry *= units[at / n];
+    }
+    in_columns(&mut call.inputs[GRADIENT], &units);
+    in_columns(&mut call.inputs[JACOBIAN], &units);
+    for side in [LOWER, UPPER] {
+        call.inputs[side].iter_mut().zip(&units).for_each(|(bound, unit)| *bound /= unit);
+    }
+    let (values, jacobian) = call.inputs.split_at_mut(JACOBIAN);
+    in_rows(draw, &mut jacobian[0], &mut values[VALUES]);
+    call
+}
+
 fn strewn(draw: &mut Draw, places: usize) -> Call {
     let mut call = of(draw, Palette::Smooth);
     strew(draw, &mut call.inputs, places);
@@ -125,7 +145,9 @@ fn at_rest(_: Op, _: u64, draw: &mut Draw) -> Call {
     let (n, m) = (draw.size(1, 4), draw.size(0, 4));
     let palette = draw.pick(&[Palette::Smooth, Palette::Whole]);
     let mut call = posed(draw, n, m, palette);
-    for (side, open) in [(1, 0.0), (VALUES, 0.0), (LOWER, -f64::INFINITY), (UPPER, f64::INFINITY)] {
+    for (side, open) in
+        [(GRADIENT, 0.0), (VALUES, 0.0), (LOWER, -f64::INFINITY), (UPPER, f64::INFINITY)]
+    {
         call.inputs[side].iter_mut().for_each(|value| *value = draw.pick(&[0.0, -0.0, open]));
     }
     call

@@ -1,0 +1,12 @@
+pub mod Bounds
+pub mod Units
+pub mod Pairs
+pub mod Scaled
+pub mod Keeps
+pub mod Powers
+pub mod Patterns
+pub mod Answers
+pub mod Chain
+pub mod Squares
+pub mod Decides
+pub mod Examples

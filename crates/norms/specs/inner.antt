@@ -1,0 +1,3 @@
+-- What serves the contracts of inner functions alone. Definitions only.
+pub mod Sums
+pub mod Patterns
