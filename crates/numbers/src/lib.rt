@@ -70,128 +70,28 @@ pub fn dot_strided(xs: &[f64], a: usize, s: usize, ys: &[f64], b: usize, t: usiz
     part
 }
 
-// The root of m * 2^54, rounded down: one binary digit at a time, the highest first. At each turn
-// q * q + r * 2^i is m * 2^54, and r is below 2 * q + 2^i, so that q + 2^i is above the root.
-fn digits(m: u64) -> u64
-    requires { ⌜ m < 2 ^ 54 ⌝ }
-    ensures { λ r. ⌜ r ≡ floorRoot 54 (m * 2 ^ 54) ⌝ }
-{
-    let mut q: u64 = 0;
-    let mut r = m;
-    let mut i: u64 = 54;
-    while 0 < i {
-        i -= 1;
-        let b = 1u64 << i;
-        let t = 2 * q + b;
-        r = 2 * r;
-        if t <= r {
-            r -= t;
-            q += b;
-        }
-    }
-    q
-}
-
-// A number that is most often up to four below the root of m * 2^54: a polynomial, which is within
-// 2^-13 of the root of a v from 1 to 4, and two of Newton's steps. Nothing is promised of it:
-// `left_of` and `leap` are right whatever it is.
-fn guess(m: u64) -> u64 {
-    let v = std::num::nearest_u64_to_f64(m) * 2.220446049250313e-16;
-    let low = 0.34354006252410174 + 0.8706121075749577 * v;
-    let middle = -0.2800154561079939 + 0.07726012096638309 * v;
-    let high = -0.012129285429296963 + 0.0007957370176240484 * v;
-    let square = v * v;
-    let y1 = low + square * (middle + square * high);
-    let y2 = 0.5 * (y1 + v / y1);
-    let y3 = 0.5 * (y2 + v / y2);
-    let z = y3 * 9007199254740992.0 - 1.5;
-    if z > -1.0 {
-        if z < 18446744073709551616.0 {
-            return std::num::truncating_f64_to_u64(z);
-        }
-    }
-    0
-}
-
-// What is left of m * 2^54 when q * q is taken off, where that is found in 64 bits.
-enum Rest {
-    Left(u64),
-    Unknown,
-}
-
-// q is h * 2^27 + l, and its square is taken off in three parts.
-fn left_of(m: u64, q: u64) -> Rest
-    requires { ⌜ m < 2 ^ 54 ⌝ }
-    ensures { λ r. ⌜ ((d : ℕ) → r ≡ Rest.Left d → m * 2 ^ 54 ≡ q * q + d) ⌝ }
-{
-    let h = q / 134217728;
-    let l = q % 134217728;
-    if 134217728 <= h {
-        return Rest::Unknown;
-    }
-    let hh = h * h;
-    let hl = h * l;
-    let ll = l * l;
-    if m < hh {
-        return Rest::Unknown;
-    }
-    let a = m - hh;
-    if 268435456 <= a {
-        return Rest::Unknown;
-    }
-    if a * 134217728 < 2 * hl {
-        return Rest::Unknown;
-    }
-    let b = a * 134217728 - 2 * hl;
-    if 68719476736 <= b {
-        return Rest::Unknown;
-    }
-    if b * 134217728 < ll {
-        return Rest::Unknown;
-    }
-    let d = b * 134217728 - ll;
-    Rest::Left(d)
-}
-
-// The root of start * start + left, rounded down, by steps of one.
-fn climb(start: u64, left: u64) -> u64
-    requires { ⌜ start * start + left < 2 ^ 54 * 2 ^ 54 ⌝ }
-    ensures { λ r. ⌜ r ≡ floorRoot 54 (start * start + left) ⌝ }
-{
-    let mut q = start;
-    let mut r = left;
-    while 2 * q < r {
-        r -= 2 * q + 1;
-        q += 1;
-    }
-    q
-}
-
-// The same, with up to eight of the steps taken at once: how many are due is not to be foreseen, and a
-// loop that ends at a foreseen turn is much faster. The quotient is of numbers below 2^32, which some
-// machines divide faster; it is at most left / (2 * start + 8).
-fn leap(start: u64, left: u64) -> u64
-    requires { ⌜ start * start + left < 2 ^ 54 * 2 ^ 54 ⌝ }
-    ensures { λ r. ⌜ r ≡ floorRoot 54 (start * start + left) ⌝ }
-{
-    let k = left / 67108864 / ((2 * start + 8) / 67108864 + 1);
-    if k <= 8 {
-        return climb(start + k, left - k * (2 * start + k));
-    }
-    climb(start, left)
-}
-
-// The root of m * 2^54, rounded down.
+// The root of m * 2^54, rounded down, one binary digit a pass, as docs/ROOT.md works it on paper: `rest`
+// is what the square of `root` leaves of the digits that have come down, `below` holds the others.
 fn floor_root(m: u64) -> u64
     requires { ⌜ m < 2 ^ 54 ⌝ }
     ensures { λ r. ⌜ r ≡ floorRoot 54 (m * 2 ^ 54) ⌝ }
 {
-    let q = guess(m);
-    let t = left_of(m, q);
-    match t {
-        Rest::Left(r) => leap(q, r),
-        Rest::Unknown => digits(m),
+    let mut root: u64 = 0;
+    let mut rest: u64 = 0;
+    let mut below = m;
+    let mut k: u64 = 0;
+    while k < 54 {
+        k += 1;
+        rest = 4 * rest + below / 0x10_0000_0000_0000;
+        below = 4 * (below % 0x10_0000_0000_0000);
+        let trial = 4 * root + 1;
+        root = 2 * root;
+        if trial <= rest {
+            rest -= trial;
+            root += 1;
+        }
     }
+    root
 }
 
 // The root of m * 2^j units of 2^-1074, to the nearest f64. g zeros stand above m's 53 places; p / 2
