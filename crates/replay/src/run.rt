@@ -176,8 +176,23 @@ fn run_any(
         }
         7 => {
             let mut p = mark(call);
-            let number =
-                gritstrut::gritstrut_lsei(i, j, k, l, a, b, c, d, e, f, x, y, &mut p, w, iw);
+            let number = gritstrut::gritstrut_lsei(
+                i,
+                j,
+                k,
+                l,
+                a,
+                b,
+                c,
+                d,
+                e,
+                f,
+                x,
+                y,
+                &mut p,
+                w,
+                iw,
+            );
             told_place(number, p)
         }
         12 => run_step(call, values, x, y, w, iw),

@@ -256,18 +256,24 @@ fn after(why: Refusal, rounds: usize, factorings: usize, second: Tried) -> Stepp
     ensures { λ r. ⌜ r ≡ later why rounds factorings second ⌝ }
 {
     match second {
-        Tried::Done(delta, r, f) => Stepped::Done(delta, Report {
-            exact: Stage::Failed(why),
-            relaxed: Stage::Passed,
-            rounds: (rounds + r) as u32,
-            factorings: (factorings + f) as u32,
-        }),
-        Tried::Refused(k, r, f) => Stepped::Refused(k, Report {
-            exact: Stage::Failed(why),
-            relaxed: Stage::Failed(k),
-            rounds: (rounds + r) as u32,
-            factorings: (factorings + f) as u32,
-        }),
+        Tried::Done(delta, r, f) => Stepped::Done(
+            delta,
+            Report {
+                exact: Stage::Failed(why),
+                relaxed: Stage::Passed,
+                rounds: (rounds + r) as u32,
+                factorings: (factorings + f) as u32,
+            },
+        ),
+        Tried::Refused(k, r, f) => Stepped::Refused(
+            k,
+            Report {
+                exact: Stage::Failed(why),
+                relaxed: Stage::Failed(k),
+                rounds: (rounds + r) as u32,
+                factorings: (factorings + f) as u32,
+            },
+        ),
     }
 }
 
@@ -291,12 +297,15 @@ pub fn solve_step(
     assembly::write_target(factor, gradient, w, n);
     let first = try_exact(factor, kinds, values, jacobian, lower, upper, w, iw, n, m);
     match first {
-        Tried::Done(relaxation, rounds, factorings) => Stepped::Done(relaxation, Report {
-            exact: Stage::Passed,
-            relaxed: Stage::Passed,
-            rounds: rounds as u32,
-            factorings: factorings as u32,
-        }),
+        Tried::Done(relaxation, rounds, factorings) => Stepped::Done(
+            relaxation,
+            Report {
+                exact: Stage::Passed,
+                relaxed: Stage::Passed,
+                rounds: rounds as u32,
+                factorings: factorings as u32,
+            },
+        ),
         Tried::Refused(why, rounds, factorings) => {
             let second = try_relaxed(factor, kinds, values, jacobian, lower, upper, w, iw, n, m);
             after(why, rounds, factorings, second)
