@@ -4,40 +4,75 @@
  *     cc -std=c99 -Wall -Wextra -I include examples/meters.c target/staticlib/libgritstrut.a -o target/meters && target/meters
  *
  * The corrections d of the measured flows are the least squares, each weighed by its meter's
- * spread, such that the corrected flows balance and none is below zero. */
+ * spread, such that the corrected flows balance and none is below zero. With any word after
+ * target/meters the header's balance is entered twice, behind a floor on vessel 2, to show what the
+ * report then says. */
 #include <stdio.h>
 
 #include "gritstrut.h"
 
-enum { METERS = 4, BALANCES = 1 };
+enum { METERS = 4, ROWS = 3 };
 
 static double w[GRITSTRUT_FLOATS];
 static uint32_t iw[GRITSTRUT_WORDS];
 
-int main(void)
+/* The constraint that a place names: places count the equalities alone. */
+static size_t constraint(const uint8_t *kinds, size_t m, uint32_t place)
 {
+    size_t j = 0;
+    while (j < m && (kinds[j] != 0 || place-- != 0))
+        j++;
+    return j;
+}
+
+int main(int argc, char **argv)
+{
+    (void)argv;
     const char *names[METERS] = {"generator A", "generator B", "vessel 1", "vessel 2"};
     const double measured[METERS] = {120.4, 79.1, 131.9, 70.2};
     const double spread[METERS] = {1.0, 1.0, 2.0, 0.5};
-    const double header[METERS] = {1.0, 1.0, -1.0, -1.0};
-    const uint8_t kinds[BALANCES] = {0};
+
+    /* The header; and beside it, where it is to be entered twice, a floor of 50 on vessel 2 and the
+     * header again. A row's value is what it comes to as measured. */
+    const char *rows[ROWS] = {"header", "floor of vessel 2", "header, second entry"};
+    const double coefficients[ROWS * METERS] = {
+        1.0, 1.0, -1.0, -1.0,
+        0.0, 0.0, 0.0, 1.0,
+        1.0, 1.0, -1.0, -1.0,
+    };
+    const double offsets[ROWS] = {0.0, -50.0, 0.0};
+    const uint8_t kinds[ROWS] = {0, 1, 0};
+    const size_t m = argc > 1 ? ROWS : 1;
 
     double factor[METERS * METERS] = {0};
     double gradient[METERS] = {0};
-    double lower[METERS], upper[METERS], balance[BALANCES] = {0};
-    double d[METERS], multipliers[BALANCES], relaxation;
+    double lower[METERS], upper[METERS], values[ROWS];
+    double d[METERS], multipliers[ROWS], relaxation;
+    uint32_t report[GRITSTRUT_REPORT];
 
     for (int i = 0; i < METERS; i++) {
         factor[i * METERS + i] = 1.0 / spread[i];
         lower[i] = -measured[i];
         upper[i] = 1.0 / 0.0;
-        balance[0] += header[i] * measured[i];
     }
-    uint32_t number = gritstrut_step(METERS, BALANCES, factor, METERS * METERS, gradient, METERS, kinds, BALANCES,
-                                     balance, BALANCES, header, METERS, lower, METERS, upper, METERS,
-                                     d, METERS, multipliers, BALANCES, &relaxation,
+    for (size_t j = 0; j < m; j++) {
+        values[j] = offsets[j];
+        for (int i = 0; i < METERS; i++)
+            values[j] += coefficients[j * METERS + i] * measured[i];
+    }
+    uint32_t number = gritstrut_step(METERS, m, factor, METERS * METERS, gradient, METERS, kinds, m,
+                                     values, m, coefficients, m * METERS, lower, METERS, upper, METERS,
+                                     d, METERS, multipliers, m, &relaxation, report, GRITSTRUT_REPORT,
                                      w, GRITSTRUT_FLOATS, iw, GRITSTRUT_WORDS);
-    if (number != 0) {
+    /* The report is written with 0, 5, 6 and 7: a step can come out although a balance stands twice. */
+    int reported = number == GRITSTRUT_DONE || number >= GRITSTRUT_DEFICIENT;
+    if (reported && report[GRITSTRUT_EXACT_NUMBER] == GRITSTRUT_DEPENDENT) {
+        size_t j = constraint(kinds, m, report[GRITSTRUT_EXACT_PLACE]);
+        printf("\"%s\" (row %zu, balance %u) follows from the other balances: was one entered twice?\n",
+               rows[j], j, (unsigned)report[GRITSTRUT_EXACT_PLACE]);
+        printf("The balances were loosened to get any answer: take one of them out and run again.\n");
+    }
+    if (number != GRITSTRUT_DONE) {
         printf("refused %u\n", (unsigned)number);
         return 1;
     }
@@ -45,8 +80,8 @@ int main(void)
     double left = 0.0;
     for (int i = 0; i < METERS; i++) {
         printf("%-12s %10.3f %10.3f\n", names[i], measured[i], measured[i] + d[i]);
-        left += header[i] * (measured[i] + d[i]);
+        left += coefficients[i] * (measured[i] + d[i]);
     }
-    printf("header: %.3f before, %.3f after; multiplier %.6f, relaxation %.3f\n", balance[0], left, multipliers[0], relaxation);
+    printf("header: %.3f before, %.3f after; multiplier %.6f, relaxation %.3f\n", values[0], left, multipliers[0], relaxation);
     return 0;
 }

@@ -15,6 +15,7 @@ extern "C" {
         jacobian: *const f64, jacobian_len: usize, lower: *const f64, lower_len: usize,
         upper: *const f64, upper_len: usize, d: *mut f64, d_len: usize,
         multipliers: *mut f64, multipliers_len: usize, relaxation: *mut f64,
+        report: *mut u32, report_len: usize,
         w: *mut f64, w_len: usize, iw: *mut u32, iw_len: usize,
     ) -> u32;
 }
@@ -30,16 +31,26 @@ struct Problem<'a> {
     upper: &'a [f64],
 }
 
+/// How a stage ended: 0, or its refusal, and the place where rank was lost (5 and 11).
+#[derive(Debug, Clone, Copy, PartialEq)]
+struct Stage {
+    number: u32,
+    place: Option<u32>,
+}
+
 struct Step {
     d: Vec<f64>,
     multipliers: Vec<f64>,
     relaxation: f64,
+    exact: Stage,
 }
 
 /// The step, or the number of the refusal.
 fn solve(p: &Problem) -> Result<Step, u32> {
     let (n, m) = (p.gradient.len(), p.values.len());
-    let mut step = Step { d: vec![0.0; n], multipliers: vec![0.0; m], relaxation: 0.0 };
+    let exact = Stage { number: 0, place: None };
+    let mut step = Step { d: vec![0.0; n], multipliers: vec![0.0; m], relaxation: 0.0, exact };
+    let mut report = [0u32; 6];
     let (mut w, mut iw) = (vec![0.0f64; 8192], vec![0u32; 512]);
     // Every length is passed as it is, so a wrong one is refused by number; no two slices overlap.
     #[rustfmt::skip]
@@ -51,9 +62,11 @@ fn solve(p: &Problem) -> Result<Step, u32> {
             p.jacobian.as_ptr(), p.jacobian.len(), p.lower.as_ptr(), p.lower.len(),
             p.upper.as_ptr(), p.upper.len(), step.d.as_mut_ptr(), n,
             step.multipliers.as_mut_ptr(), m, &mut step.relaxation,
+            report.as_mut_ptr(), report.len(),
             w.as_mut_ptr(), w.len(), iw.as_mut_ptr(), iw.len(),
         )
     };
+    step.exact = Stage { number: report[0], place: Some(report[1]).filter(|&at| at != u32::MAX) };
     if number == 0 { Ok(step) } else { Err(number) }
 }
 
@@ -84,6 +97,10 @@ fn main() {
             std::process::exit(1);
         }
     };
+    // A step can come out although a balance stands twice; the place counts the equalities alone.
+    if let Stage { number: 11, place: Some(place) } = step.exact {
+        println!("balance {place} follows from the other balances: was one entered twice?");
+    }
     println!("{:<12} {:>10} {:>10}", "meter", "measured", "corrected");
     for i in 0..4 {
         println!("{:<12} {:>10.3} {:>10.3}", names[i], measured[i], measured[i] + step.d[i]);

@@ -12,8 +12,8 @@
  * - What the caller must see to, since no function can test it: every pointer is not null, aligned
  *   for its type and valid for the length passed with it (a length of 0 goes with any pointer that
  *   is not null and is aligned); a slice that is written overlaps no other slice of the call; and
- *   the pointers of single results (rank, rounds, factorings, relaxation) are distinct and overlap
- *   nothing. The processor rounds to nearest and keeps subnormal numbers, as a C program begins
+ *   the pointers of single results (rank, rounds, factorings, place, relaxation) are distinct and
+ *   overlap nothing. The processor rounds to nearest and keeps subnormal numbers, as a C program begins
  *   (some that are linked with -ffast-math do not). Everything else is taken: any size and length,
  *   and any bit pattern as a double, NaN and infinities too.
  * - w is a workspace of at least GRITSTRUT_FLOATS doubles (64 KiB) and iw one of at least
@@ -30,18 +30,26 @@
  *        is too short
  *     4  GRITSTRUT_KIND: a kind other than   untouched    untouched
  *        0 and 1
- *     5  GRITSTRUT_DEFICIENT: rank too low   untouched    first 8192 and 512 entries zero
+ *     5  GRITSTRUT_DEFICIENT: the rank of    untouched    first 8192 and 512 entries zero
+ *        E too low
  *     6  GRITSTRUT_INFEASIBLE                untouched    first 8192 and 512 entries zero
  *     7  GRITSTRUT_CAPPED: NNLS reached its  untouched    first 8192 and 512 entries zero
  *        limit of rounds
  *     8  GRITSTRUT_PIVOT: a Cholesky pivot   untouched    first 8192 and 512 entries zero
  *        that is not positive and finite
+ *     11 GRITSTRUT_DEPENDENT: the rank of    untouched    first 8192 and 512 entries zero
+ *        the equalities too low
  *
  *   Zero is +0. Untouched means the same bits. (Of an entry that is a NaN it is proved that it
  *   stays a NaN; that its bits stay is compared, not proved: docs/TRUST.md.) Entries of a
  *   workspace past the first 8192 and 512 never change. Inputs never change, except b under
  *   gritstrut_update.
- * - Single results are stored through their pointers only where the number is 0.
+ * - Single results are stored through their pointers only where the number is 0; but a place only
+ *   where it is 5 or 11, and a step's report where it is 0, 5, 6 or 7. Else they are untouched.
+ * - A place says where rank was lost: the index, from 0, of the column of the factored matrix that
+ *   stands next after those that could be taken. With 11 the columns are the equalities: if one was
+ *   entered twice, and the others are independent and in like units, the place is one of the two
+ *   (docs/DIFFERENCES.md, "What a place names", says how far that can be relied on).
  * - Units: the rank is told at any scale, but an answer is right only where the largest entry of
  *   each matrix that is factored is between 1e-137 and 1e153 in magnitude. Outside it may be done,
  *   finite and of the wrong sign (docs/DIFFERENCES.md, "A norm for rank only").
@@ -72,6 +80,10 @@ extern "C" {
 #define GRITSTRUT_INFEASIBLE 6
 #define GRITSTRUT_CAPPED 7
 #define GRITSTRUT_PIVOT 8
+#define GRITSTRUT_DEPENDENT 11
+
+/* The place of a stage that has none. */
+#define GRITSTRUT_NOWHERE UINT32_MAX
 
 /* The GRITSTRUT_VERSION_NUMBER of the library that was linked: it must be this header's. */
 uint32_t gritstrut_version(void);
@@ -110,21 +122,25 @@ uint32_t gritstrut_ldp(size_t m, size_t n, const double *g, size_t g_len,
 
 /* LSI, min ||E x - f|| with G x >= h: n columns, from 0 to 17, me rows of E, from 0 to 17, and mg
  * inequalities, from 0 to 66. In: e (me * n), f (me), g (mg * n), h (mg).
- * Out: x (n), multipliers (mg). */
+ * Out: x (n), multipliers (mg). place: with 5 the column of E, which is the variable; stored with 5
+ * alone. */
 uint32_t gritstrut_lsi(size_t n, size_t me, size_t mg, const double *e, size_t e_len,
                        const double *f, size_t f_len, const double *g, size_t g_len,
                        const double *h, size_t h_len, double *x, size_t x_len,
-                       double *multipliers, size_t multipliers_len,
+                       double *multipliers, size_t multipliers_len, uint32_t *place,
                        double *w, size_t w_len, uint32_t *iw, size_t iw_len);
 
 /* LSEI, min ||E x - f|| with C x = d and G x >= h: as LSI, with mc equalities, from 0 to 16.
  * In: c (mc * n), d (mc), and as LSI. Out: x (n), multipliers (mc + mg): those of the equalities
- * first. */
+ * first. place: with 11 the equality, which is the row of c, from 0; with 5 the column of E in the
+ * space that the equalities leave, n - mc columns, which is no variable unless mc is 0; stored with
+ * these two alone. More equalities than variables is always 11. */
 uint32_t gritstrut_lsei(size_t n, size_t mc, size_t me, size_t mg,
                         const double *c, size_t c_len, const double *d, size_t d_len,
                         const double *e, size_t e_len, const double *f, size_t f_len,
                         const double *g, size_t g_len, const double *h, size_t h_len,
                         double *x, size_t x_len, double *multipliers, size_t multipliers_len,
+                        uint32_t *place,
                         double *w, size_t w_len, uint32_t *iw, size_t iw_len);
 
 /* The approximation B of the Hessian, of dimension n from 1 to 16, square and row-major (n * n).
@@ -143,13 +159,30 @@ uint32_t gritstrut_update(size_t n, double *b, size_t b_len, const double *s, si
                           const double *y, size_t y_len,
                           double *w, size_t w_len, uint32_t *iw, size_t iw_len);
 
+/* The entries of a step's report. A step has two stages: the exact problem, and where that is
+ * refused the relaxed one. */
+enum {
+    GRITSTRUT_EXACT_NUMBER,   /* 0 where the exact problem was solved, else 5, 6, 7 or 11 */
+    GRITSTRUT_EXACT_PLACE,    /* with 5 and 11, as LSEI's; else GRITSTRUT_NOWHERE */
+    GRITSTRUT_RELAXED_NUMBER, /* 0 where the relaxed one was solved or not tried, else 5, 6 or 7 */
+    GRITSTRUT_RELAXED_PLACE,  /* with 5 the variable, n being the relaxation; else NOWHERE */
+    GRITSTRUT_ROUNDS,         /* rounds of NNLS in both stages, one refused by 7 not counted */
+    GRITSTRUT_FACTORINGS,     /* QR factorings in both stages, those of no columns too */
+    GRITSTRUT_REPORT          /* how many entries a report has */
+};
+
 /* The step d that minimizes d'Bd / 2 + g'd, where B = L L', under m constraints and under bounds:
  * a_j'd + c_j = 0 where kinds[j] is 0, a_j'd + c_j >= 0 where it is 1, lower <= d <= upper, where
  * a bound that is not finite is open. n variables, from 1 to 16; m constraints, from 0 to 16.
  * In: factor L (n * n), gradient g (n), kinds (m), values c (m), jacobian (m * n, a row for each
  * constraint), lower (n), upper (n). Out: d (n), multipliers (m, in constraint order), and the
  * relaxation: 0 where the problem was solved as stated, else the share, up to 1, by which its
- * constraints were relaxed: then they need not hold at d.
+ * constraints were relaxed: then they need not hold at d. The number is 0, or that of the relaxed
+ * stage: 5, 6 or 7.
+ * report (GRITSTRUT_REPORT entries, as above) is written with 0, 5, 6 and 7. Look at it even where
+ * the number is 0: an exact number of 11 beside a relaxed one of 0 says that a step came out
+ * although an equality depends on others, and the exact place which one it is. That place counts
+ * the equalities alone: with kinds 1, 0, 0 the place 1 is constraint 2.
  * The exact problem reads the whole square of factor, the entries ABOVE the diagonal too: set
  * them to +0, as gritstrut_cholesky does. */
 uint32_t gritstrut_step(size_t n, size_t m, const double *factor, size_t factor_len,
@@ -160,7 +193,8 @@ uint32_t gritstrut_step(size_t n, size_t m, const double *factor, size_t factor_
                         const double *lower, size_t lower_len,
                         const double *upper, size_t upper_len,
                         double *d, size_t d_len, double *multipliers, size_t multipliers_len,
-                        double *relaxation, double *w, size_t w_len, uint32_t *iw, size_t iw_len);
+                        double *relaxation, uint32_t *report, size_t report_len,
+                        double *w, size_t w_len, uint32_t *iw, size_t iw_len);
 
 #ifdef __cplusplus
 }

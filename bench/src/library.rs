@@ -22,7 +22,8 @@ unsafe extern "C" {
         values: *const f64, values_len: usize, jacobian: *const f64, jacobian_len: usize,
         lower: *const f64, lower_len: usize, upper: *const f64, upper_len: usize,
         d: *mut f64, d_len: usize, multipliers: *mut f64, multipliers_len: usize,
-        relaxation: *mut f64, w: *mut f64, w_len: usize, iw: *mut u32, iw_len: usize,
+        relaxation: *mut f64, report: *mut u32, report_len: usize,
+        w: *mut f64, w_len: usize, iw: *mut u32, iw_len: usize,
     ) -> u32;
 }
 
@@ -58,7 +59,7 @@ impl Lent {
     }
 
     pub fn step(&mut self, p: &Step) -> u32 {
-        let mut relaxation = 0.0;
+        let (mut relaxation, mut report) = (0.0, [0; 6]);
         #[rustfmt::skip]
         let number = unsafe {
             gritstrut_step(
@@ -67,7 +68,8 @@ impl Lent {
                 p.values.as_ptr(), p.values.len(), p.jacobian.as_ptr(), p.jacobian.len(),
                 p.lower.as_ptr(), p.lower.len(), p.upper.as_ptr(), p.upper.len(),
                 self.first.as_mut_ptr(), p.gradient.len(), self.second.as_mut_ptr(), p.values.len(),
-                &mut relaxation, self.w.as_mut_ptr(), 8192, self.iw.as_mut_ptr(), 512,
+                &mut relaxation, report.as_mut_ptr(), report.len(),
+                self.w.as_mut_ptr(), 8192, self.iw.as_mut_ptr(), 512,
             )
         };
         number

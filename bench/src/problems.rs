@@ -106,7 +106,7 @@ pub fn steps(count: usize, n: usize, m: usize, of: Bounds) -> Vec<Step> {
 }
 
 /// The steps of 16 variables, 16 constraints and crossed bounds that take the Rust the most
-/// factorings, among the first 3,000 drawn: from 1,536 to 2,020 in one step.
+/// factorings, among the first 3,000 drawn: from 1,539 to 2,023 in one step.
 pub fn hard() -> Vec<Step> {
     let drawn = steps(2490, 16, 16, Bounds::Crossed);
     [955, 1309, 2489, 2316, 394, 427, 1360, 736].map(|index: usize| drawn[index].clone()).to_vec()

@@ -45,12 +45,12 @@ pub fn factorings_of_step(p: &Step) -> u32 {
     let inputs = [&p.factor, &p.gradient, &p.values, &p.jacobian, &p.lower, &p.upper];
     reference::tally::take();
     let _ = reference::Rust::step(&p.kinds, &inputs.map(Vec::clone));
-    reference::tally::take().factorings
+    reference::tally::take().total().factorings
 }
 
 /// How many factorings nonnegative least squares takes.
 pub fn factorings_of_nnls(p: &Matrix) -> u32 {
     reference::tally::take();
     let _ = reference::Rust::nnls(p.m, p.n, &p.a, &p.b);
-    reference::tally::take().factorings
+    reference::tally::take().total().factorings
 }

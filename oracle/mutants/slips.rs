@@ -72,6 +72,27 @@ pub const SLIPS: &[Slip] = &[
         "the sum's sign shows only where it is zero, and then the reflector leaves its vector"),
     told(QR, "triangle's sum from +0", &[(".sum()", 2, FROM_ZERO)]),
     told(QR, "transposed triangle's sum from +0", &[(".sum()", 3, FROM_ZERO)]),
+    told(QR, "the column after the swap named", &[(
+        "self.perm[self.rank()]",
+        1,
+        "{ let (k, n) = (self.rank(), self.cols); let m = self.r.len() / n; \
+         let left = (k..n).map(|j| (j, norm((k..m).map(|i| self.r[i * n + j])))); \
+         let best = left.fold((k, -1.0), |best, next| if next.1 > best.1 { next } else { best }); \
+         self.perm[best.0] }",
+    )]),
+    told(QR, "the rank itself named", &[("self.perm[self.rank()]", 1, "self.rank()")]),
+    told(QR, "the last column standing named", &[
+        ("self.perm[self.rank()]", 1, "self.perm[self.cols - 1]"),
+    ]),
+    told(QR, "the last column taken named", &[
+        ("self.perm[self.rank()]", 1, "self.perm[self.rank().saturating_sub(1)]"),
+    ]),
+    told(QR, "a factoring of no columns not counted", &[
+        ("reference::tally::factoring()", 1, "if a.cols > 0 { reference::tally::factoring() }"),
+    ]),
+    told(NNLS, "a refused round counted", &[
+        ("reference::tally::refused(7)", 1, "reference::tally::round(); reference::tally::refused(7)"),
+    ]),
     told(NNLS, "first of equal duals", &[(".max_by(", 1, ".rev().max_by(")]),
     told(NNLS, "marks cleared inside a pass", &[(
         "rejected[t] = true",
@@ -92,8 +113,7 @@ pub const SLIPS: &[Slip] = &[
     told(NNLS, "a NaN ratio before every number", &[
         ("reference::tally::ratio", 1, "reference::tally::ratio).map(|p| (p.0, if p.1.is_nan() { -p.1 } else { p.1 })"),
     ]),
-    unseen(NNLS, "last of 3n rounds refused", &[("iterations > 3", 1, "iterations >= 3")],
-        "no drawn problem ends in exactly 3n rounds, the most are about 1.3n; the limit itself is tried with k below"),
+    told(NNLS, "last of 3n rounds refused", &[("iterations > 3", 1, "iterations >= 3")]),
     told(NNLS, "residual summed right to left", &[("(0..a.cols).map(", 1, "(0..a.cols).rev().map(")]),
     unseen(NNLS, "ratio at no gap", &[("gap > 0.0", 1, "gap >= 0.0")],
         "a passive value is above zero or NaN whenever it can block, so no gap is zero"),
@@ -121,6 +141,8 @@ pub const SLIPS: &[Slip] = &[
     told(LSEI, "solution not put back", &[("x[j] = z[k]", 1, "x[k] = z[k]")]),
     told(LSEI, "E's rank not tested", &[("qr.rank() < n", 1, "false")]),
     told(LSEI, "C's rank not tested", &[("qr.rank() < mc", 1, "n < mc")]),
+    told(LSEI, "5 for equalities", &[("Matrix::Equalities", 1, "Matrix::E")]),
+    told(LSEI, "11 for E", &[("Matrix::E,", 1, "Matrix::Equalities,")]),
     told(HESSIAN, "r taken as y when theta is 1", &[(
         "theta * y +",
         1,

@@ -12,9 +12,11 @@ pub struct NnlsAnswer {
     pub factorings: u32,
 }
 
-// What the step answers.
+// What the step answers, with the number and the place of its exact stage.
 pub struct StepAnswer {
     pub number: u32,
+    pub exact: u32,
+    pub place: u32,
     pub relaxation: f64,
     pub d: f64,
 }
@@ -96,6 +98,7 @@ pub fn step(
     let upper = [1.0 / 0.0];
     let mut d = [0.0];
     let mut relaxation = 0.0;
+    let mut report = [0u32; 6];
     let mut iw = word_room();
     let number = gritstrut::gritstrut_step(
         1,
@@ -110,11 +113,14 @@ pub fn step(
         &mut d,
         multipliers,
         &mut relaxation,
+        &mut report,
         w,
         &mut iw,
     );
     StepAnswer {
         number: number,
+        exact: report[0],
+        place: report[1],
         relaxation: relaxation,
         d: d[0],
     }

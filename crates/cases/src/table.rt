@@ -150,6 +150,10 @@ fn tell_updates() {
 // What the step left.
 fn tell_stepped(name: &[u8], stepped: StepAnswer, multipliers: &[f64]) {
     tell_number(name, stepped.number);
+    if stepped.exact != 0 {
+        tell_count(b"exact", stepped.exact as u64);
+        tell_count(b"place", stepped.place as u64);
+    }
     if stepped.number == 0 {
         tell_floats(b"relaxation", &[stepped.relaxation]);
         tell_floats(b"d", &[stepped.d]);
@@ -158,7 +162,7 @@ fn tell_stepped(name: &[u8], stepped: StepAnswer, multipliers: &[f64]) {
     end_line();
 }
 
-// Two equalities: the exact problem refuses 5, so the relaxed one answers.
+// Two equalities: the exact problem refuses 11 at the first, so the relaxed one answers.
 fn tell_relaxed() {
     let kinds = [0u8, 0];
     let values = [1.0, 1.0];

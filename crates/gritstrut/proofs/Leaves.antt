@@ -1,16 +1,19 @@
 -- From an operation's promise to that of its C function.
-use mathlib.Core.Path.{_≡_, refl, ap, _∙_}
+use mathlib.Core.Path.{_≡_, refl, sym, ap, _∙_, subst}
 use mathlib.Core.Bool.{Bool, true, false, _&&_}
-use mathlib.Core.List.{List}
+use mathlib.Core.List.{List, [], _∷_}
 use Prim.Native.Nat.{ℕ, _+_, _*_, _^_, _≤_, _<_, min}
 use native.Mathlib.Nat.{mul-le-mul-right}
 use native.Mathlib.Omega.{arith}
-use lib.Dec.{leb}
+use lib.Dec.{leb, eqb}
+use lib.ListN.{length, set}
 use lib.Ieee.{Float}
-use borrow.Author.Tests.{leb-true}
-use Rattle.workspace.specs.Tables.{Answer, done, refused, call, number, numberOf, outcomeOf, outcomeNumber, output, isMatrix, isRoom, has}
+use borrow.Author.Tests.{leb-true, eq-eqb}
+use Rattle.workspace.specs.Tables.{Answer, done, refused, isLate, call, number, numberOf, placeOf, nowhere, outcomeOf, outcomeNumber, output, isMatrix, isDimension, isConstraints, isRoom, has}
+use Rattle.workspace.specs.declared.Refusal.the-variants.{Length}
 use Rattle.workspace.specs.declared.Refusal.{Refusal}
 use Rattle.workspace.specs.declared.Outcome.{Outcome}
+use Rattle.workspace.specs.declared.Outcome.the-variants.{Refused}
 use Rattle.workspace.proofs.Tests.{and-true, matrix-le}
 use Rattle.householder.specs.Qr.{Factors, factor}
 use Rattle.householder.proofs.Rank.{factor-rank}
@@ -24,10 +27,14 @@ use Rattle.nnls_call.proofs.Calls.{call-sound}
 use Rattle.lsei.specs.Lsei.{Solution}
 use Rattle.lsei_call.specs.Promise.{Solves}
 use Rattle.hessian_call.specs.Promise.{Writes}
-use Rattle.step.specs.Step.{Step}
+use Rattle.step_rows.specs.Problem.{Problem}
+use Rattle.nnls.specs.Counted.{Counted}
+use Rattle.step.specs.Step.{Step, step, reportOf, stageNumber, stagePlace}
+use Rattle.step.specs.declared.Report.{Report}
+use Rattle.step_call.specs.declared.Outcome as StepTold
 use Rattle.step_call.specs.Promise as Step
 use Rattle.step_call.specs.declared.Outcome.the-variants as step-told
-use Rattle.gritstrut.specs.Interface.{QrLeaves, NnlsLeaves, SolveLeaves, WriteLeaves, StepLeaves}
+use Rattle.gritstrut.specs.Interface.{QrLeaves, NnlsLeaves, SolveLeaves, placed, PlaceLeaves, WriteLeaves, entriesOf, reportLeft, stepReportCall, StepLeaves}
 
 -- ---- operations that tell nothing beside their outputs
 
@@ -40,6 +47,14 @@ pub solve-leaves : (c : Answer Solution) (o : Outcome) (k : ℕ) (x x' l l' w w'
 solve-leaves c o k x x' l l' w w' iw iw' p e = record {
   the-number = e ∙ ap outcomeNumber (p .the-outcome) ∙ number-told c;
   the-call = record { the-outcome = refl; the-x = p .the-x; the-multipliers = p .the-multipliers; the-floats = p .the-floats; the-words = p .the-words };
+}
+
+pub place-leaves : (c : Answer Solution) (o : Outcome) (k place place' : ℕ) (x x' l l' w w' : List Float) (iw iw' : List ℕ)
+    → Solves c o x x' l l' w w' iw iw' → (k ≡ outcomeNumber o) × (place' ≡ placed o place) → PlaceLeaves c k place place' x x' l l' w w' iw iw'
+place-leaves c o k place place' x x' l l' w w' iw iw' p e = record {
+  the-number = e .0 ∙ ap outcomeNumber (p .the-outcome) ∙ number-told c;
+  the-call = record { the-outcome = refl; the-x = p .the-x; the-multipliers = p .the-multipliers; the-floats = p .the-floats; the-words = p .the-words };
+  the-place = e .1 ∙ ap (λ (q : Outcome). placed q place) (p .the-outcome);
 }
 
 pub write-leaves : (c : Answer (List Float)) (o : Outcome) (k : ℕ) (out out' w w' : List Float) (iw iw' : List ℕ)
@@ -141,27 +156,114 @@ counts-fit m n k a b x x' w w' iw iw' r f p =
     let hf : f ≤ 13332 = few n k f hn hk (s .factorings-most) in
     (omega arith, omega arith)
 
+-- ---- a place, and a report
+
+pub some-place : (why : Refusal) (o : Outcome) (at old : ℕ) → o ≡ Refused why → at ≡ placeOf why → eqb at nowhere ≡ false → at ≡ placed o old
+some-place why o at old q e h = rw (q, ← e, h)
+
+pub no-place : (why : Refusal) (o : Outcome) (at old : ℕ) → o ≡ Refused why → at ≡ placeOf why → eqb at nowhere ≡ true → old ≡ placed o old
+no-place why o at old q e h = rw (q, ← e, h)
+
+six : (l : List ℕ) (a b c d e f : ℕ) → length l ≡ 6 → set (set (set (set (set (set l 0 a) 1 b) 2 c) 3 d) 4 e) 5 f ≡ a ∷ b ∷ c ∷ d ∷ e ∷ f ∷ []
+six [] a b c d e f h = absurd (omega arith)
+six (x ∷ []) a b c d e f h = absurd (omega arith)
+six (x ∷ y ∷ []) a b c d e f h = absurd (omega arith)
+six (x ∷ y ∷ z ∷ []) a b c d e f h = absurd (omega arith)
+six (x ∷ y ∷ z ∷ u ∷ []) a b c d e f h = absurd (omega arith)
+six (x ∷ y ∷ z ∷ u ∷ v ∷ []) a b c d e f h = absurd (omega arith)
+six (x ∷ y ∷ z ∷ u ∷ v ∷ w ∷ []) a b c d e f h = refl
+six (x ∷ y ∷ z ∷ u ∷ v ∷ w ∷ s ∷ l) a b c d e f h = absurd (omega arith)
+
+pub report-written : (t : Report) (l : List ℕ) (a b c d : ℕ) → length l ≡ 6 → a ≡ stageNumber (t .exact) → b ≡ stagePlace (t .exact) → c ≡ stageNumber (t .relaxed) → d ≡ stagePlace (t .relaxed)
+    → set (set (set (set (set (set l 0 a) 1 b) 2 c) 3 d) 4 (t .rounds)) 5 (t .factorings) ≡ entriesOf t
+report-written t l a b c d h ea eb ec ed = six l a b c d (t .rounds) (t .factorings) h ∙ rw (ea, eb, ec, ed)
+
 -- ---- the step
 
-step-done : (c : Answer Step) (delta old : Float) → step-told.Done delta ≡ Step.outcomeOf c → (0 ≡ number c) × (delta ≡ output c (λ s. s .relaxation) old)
-step-done (done s) delta old e = (refl, cc)
-step-done (refused q) delta old e = let z : _≡_ {A = ℕ} 0 1 = cc in absurd (let y : ⊥ = omega arith in y)
+-- a test before the arithmetic tells its reason alone
+early : (b : Bool) (r q : Refusal) (t : Report) (old : List ℕ) → step-told.Refused r ≡ Step.refusedBy b q t → (numberOf r ≡ numberOf q) × (old ≡ reportLeft (Step.refusedBy b q t) old)
+early false r q t old e = (let z : r ≡ q = cc in ap (λ (s : Refusal). numberOf s) z, refl)
+early true r q t old e = let z : _≡_ {A = ℕ} 1 2 = cc in absurd (let y : ⊥ = omega arith in y)
 
-step-refused : (c : Answer Step) (r : Refusal) (old : Float) → step-told.Refused r ≡ Step.outcomeOf c → (numberOf r ≡ number c) × (old ≡ output c (λ s. s .relaxation) old)
-step-refused (done s) r old e = let z : _≡_ {A = ℕ} 0 1 = cc in absurd (let y : ⊥ = omega arith in y)
-step-refused (refused q) r old e = (let z : r ≡ q = cc in ap (λ (s : Refusal). numberOf s) z, refl)
+late : (b : Bool) (r q : Refusal) (u t : Report) (old : List ℕ) → step-told.Failed r u ≡ Step.refusedBy b q t → (numberOf r ≡ numberOf q) × (entriesOf u ≡ reportLeft (Step.refusedBy b q t) old)
+late true r q u t old e = (let z : r ≡ q = cc in ap (λ (s : Refusal). numberOf s) z, let z : u ≡ t = cc in ap entriesOf z)
+late false r q u t old e = let z : _≡_ {A = ℕ} 1 2 = cc in absurd (let y : ⊥ = omega arith in y)
 
-module _ (c : Answer Step) (d d' l l' w w' : List Float) (iw iw' : List ℕ) (old : Float) where
-  pub step-leaves : (delta : Float) → Step.Steps c (step-told.Done delta) d d' l l' w w' iw iw' → StepLeaves c 0 old delta d d' l l' w w' iw iw'
-  step-leaves delta p = record {
-    the-number = step-done c delta old (p .the-outcome) .0;
-    the-call = record { the-outcome = refl; the-d = p .the-d; the-multipliers = p .the-multipliers; the-floats = p .the-floats; the-words = p .the-words };
-    the-relaxation = step-done c delta old (p .the-outcome) .1;
-  }
+undone : {A : Type 0} (b : Bool) (delta : Float) (u : Report) (q : Refusal) (t : Report) → step-told.Done delta u ≡ Step.refusedBy b q t → A
+undone true delta u q t e = let z : _≡_ {A = ℕ} 0 1 = cc in absurd (let y : ⊥ = omega arith in y)
+undone false delta u q t e = let z : _≡_ {A = ℕ} 0 2 = cc in absurd (let y : ⊥ = omega arith in y)
 
-  pub step-keeps : (q : Refusal) (k : ℕ) → Step.Steps c (step-told.Refused q) d d' l l' w w' iw iw' → k ≡ numberOf q → StepLeaves c k old old d d' l l' w w' iw iw'
-  step-keeps q k p e = record {
-    the-number = e ∙ step-refused c q old (p .the-outcome) .0;
-    the-call = record { the-outcome = refl; the-d = p .the-d; the-multipliers = p .the-multipliers; the-floats = p .the-floats; the-words = p .the-words };
-    the-relaxation = step-refused c q old (p .the-outcome) .1;
-  }
+-- what is told of an answer, and what single results and the report then hold
+pub record Told (c : Answer Step) (t : Report) (k : ℕ) (relaxation relaxation' : Float) (r r' : List ℕ) : Type 0 where
+  pub the-number : k ≡ number c
+  pub the-relaxation : relaxation' ≡ output c (λ s. s .relaxation) relaxation
+  pub the-report : r' ≡ reportLeft (Step.outcomeOf c t) r
+
+done-told : (c : Answer Step) (t u : Report) (delta old : Float) (r : List ℕ) → step-told.Done delta u ≡ Step.outcomeOf c t → Told c t 0 old delta r (entriesOf u)
+done-told (done s) t u delta old r e = record { the-number = refl; the-relaxation = cc; the-report = let z : u ≡ t = cc in ap entriesOf z }
+done-told (refused q) t u delta old r e = undone (isLate q) delta u q t e
+
+failed-told : (c : Answer Step) (t u : Report) (why : Refusal) (old : Float) (r : List ℕ) → step-told.Failed why u ≡ Step.outcomeOf c t → Told c t (numberOf why) old old r (entriesOf u)
+failed-told (done s) t u why old r e = let z : _≡_ {A = ℕ} 0 1 = cc in absurd (let y : ⊥ = omega arith in y)
+failed-told (refused q) t u why old r e = let l = late (isLate q) why q u t r e in record { the-number = l .0; the-relaxation = refl; the-report = l .1 }
+
+refused-told : (c : Answer Step) (t : Report) (why : Refusal) (old : Float) (r : List ℕ) → step-told.Refused why ≡ Step.outcomeOf c t → Told c t (numberOf why) old old r r
+refused-told (done s) t why old r e = let z : _≡_ {A = ℕ} 0 2 = cc in absurd (let y : ⊥ = omega arith in y)
+refused-told (refused q) t why old r e = let l = early (isLate q) why q t r e in record { the-number = l .0; the-relaxation = refl; the-report = l .1 }
+
+-- the call with the report's length among its tests
+reported : (s l r k : Bool) (a : Answer Step) → call s (l && true) r k a ≡ call s l r k a
+reported s true r k a = refl
+reported true false r k a = refl
+reported false false r k a = refl
+
+module _ (p : Problem) (d d' l l' : List Float) (r : List ℕ) (w w' : List Float) (iw iw' : List ℕ) (old : Float) where
+  module _ (six : length r ≡ 6) where
+    abbrev c : Answer Step
+    c = stepReportCall p d l r w iw
+
+    same : Step.stepCall p d l w iw ≡ c
+    same =
+        sym (reported (isDimension (p .n) && isConstraints (p .m)) (Step.areLengths p d l) (isRoom w iw) (Step.areKinds (p .kinds)) (step p .answer))
+        ∙ ap (λ (b : Bool). call (isDimension (p .n) && isConstraints (p .m)) (Step.areLengths p d l && b) (isRoom w iw) (Step.areKinds (p .kinds)) (step p .answer))
+        (sym (eq-eqb (length r) 6 six))
+
+    leaves : (o : StepTold.Outcome) (k : ℕ) (x : Float) (r' : List ℕ) → Step.Steps (Step.stepCall p d l w iw) (reportOf p) o d d' l l' w w' iw iw'
+        → (Step.Steps c (reportOf p) o d d' l l' w w' iw iw' → Told c (reportOf p) k old x r r') → StepLeaves c (reportOf p) k old x r r' d d' l l' w w' iw iw'
+    leaves o k x r' q f =
+        let v = subst (λ (a : Answer Step). Step.Steps a (reportOf p) o d d' l l' w w' iw iw') same q in
+        let t = f v in
+        record {
+          the-number = t .the-number;
+          the-call = record { the-outcome = refl; the-d = v .the-d; the-multipliers = v .the-multipliers; the-floats = v .the-floats; the-words = v .the-words };
+          the-relaxation = t .the-relaxation;
+          the-report = t .the-report;
+        }
+
+    pub step-leaves : (delta : Float) (u : Report) (r' : List ℕ) → Step.Steps (Step.stepCall p d l w iw) (reportOf p) (step-told.Done delta u) d d' l l' w w' iw iw'
+        → r' ≡ entriesOf u → StepLeaves c (reportOf p) 0 old delta r r' d d' l l' w w' iw iw'
+    step-leaves delta u r' q e = rw e (leaves (step-told.Done delta u) 0 delta (entriesOf u) q (λ v. done-told c (reportOf p) u delta old r (v .the-outcome)))
+
+    pub step-fails : (why : Refusal) (u : Report) (r' : List ℕ) (k : ℕ) → Step.Steps (Step.stepCall p d l w iw) (reportOf p) (step-told.Failed why u) d d' l l' w w' iw iw'
+        → r' ≡ entriesOf u → k ≡ numberOf why → StepLeaves c (reportOf p) k old old r r' d d' l l' w w' iw iw'
+    step-fails why u r' k q e h = rw (e, h) (leaves (step-told.Failed why u) (numberOf why) old (entriesOf u) q (λ v. failed-told c (reportOf p) u why old r (v .the-outcome)))
+
+    pub step-keeps : (why : Refusal) (k : ℕ) → Step.Steps (Step.stepCall p d l w iw) (reportOf p) (step-told.Refused why) d d' l l' w w' iw iw'
+        → k ≡ numberOf why → StepLeaves c (reportOf p) k old old r r d d' l l' w w' iw iw'
+    step-keeps why k q h = rw h (leaves (step-told.Refused why) (numberOf why) old r q (λ v. refused-told c (reportOf p) why old r (v .the-outcome)))
+
+-- a report of another length
+module _ (p : Problem) (d l : List Float) (r : List ℕ) (w : List Float) (iw : List ℕ) (old : Float) (other : eqb (length r) 6 ≡ false) where
+  shut : (s b : Bool) (k : Bool) → (a : Answer Step) (m : Bool) → s ≡ true → call s (b && false) m k a ≡ refused Length
+  shut s true k a m e = rw e
+  shut s false k a m e = rw e
+
+  pub no-report : isDimension (p .n) && isConstraints (p .m) ≡ true → (k : ℕ) → k ≡ 2 → StepLeaves (stepReportCall p d l r w iw) (reportOf p) k old old r r d d l l w w iw iw
+  no-report s k h =
+      rw (other, h, shut (isDimension (p .n) && isConstraints (p .m)) (Step.areLengths p d l) (Step.areKinds (p .kinds)) (step p .answer) (isRoom w iw) s)
+      (record { the-number = refl; the-call = record { the-outcome = refl; the-d = refl; the-multipliers = refl; the-floats = refl; the-words = refl }; the-relaxation = refl; the-report = refl })
+
+  pub no-size : isDimension (p .n) && isConstraints (p .m) ≡ false → (k : ℕ) → k ≡ 1 → StepLeaves (stepReportCall p d l r w iw) (reportOf p) k old old r r d d l l w w iw iw
+  no-size s k h =
+      rw (s, h)
+      (record { the-number = refl; the-call = record { the-outcome = refl; the-d = refl; the-multipliers = refl; the-floats = refl; the-words = refl }; the-relaxation = refl; the-report = refl })

@@ -5,8 +5,8 @@ use Rattle.nnls_call.specs.Promise.{Nnls}
 use Rattle.lsei_call.specs.Promise.{Solves}
 use Rattle.hessian_call.specs.Promise.{Writes}
 use Rattle.step_call.specs.Promise.{Steps}
-use Rattle.gritstrut.specs.Interface.{QrLeaves, NnlsLeaves, SolveLeaves, WriteLeaves, StepLeaves}
-use Rattle.gritstrut.specs.Claims.{OneQr, OneNnls, OneSolve, OneWrite, OneStep}
+use Rattle.gritstrut.specs.Interface.{QrLeaves, NnlsLeaves, SolveLeaves, PlaceLeaves, WriteLeaves, StepLeaves}
+use Rattle.gritstrut.specs.Claims.{OneQr, OneNnls, OneSolve, OnePlace, OneWrite, OneStep}
 
 pub one-qr : OneQr
 one-qr c k l rank rank' rank'' r r' r'' perm perm' perm'' u u' u'' b b' b'' w w' w'' iw iw' iw'' s t =
@@ -45,6 +45,18 @@ one-solve c k m x x' x'' l l' l'' w w' w'' iw iw' iw'' s t =
       p .the-words ∙ sym (q .the-words),
     )
 
+pub one-place : OnePlace
+one-place c k m place place' place'' x x' x'' l l' l'' w w' w'' iw iw' iw'' s t =
+    let p = s .the-call in
+    let q = t .the-call in (
+      s .the-number ∙ sym (t .the-number),
+      s .the-place ∙ sym (t .the-place),
+      p .the-x ∙ sym (q .the-x),
+      p .the-multipliers ∙ sym (q .the-multipliers),
+      p .the-floats ∙ sym (q .the-floats),
+      p .the-words ∙ sym (q .the-words),
+    )
+
 pub one-write : OneWrite
 one-write c k m out out' out'' w w' w'' iw iw' iw'' s t =
     let p = s .the-call in
@@ -52,11 +64,12 @@ one-write c k m out out' out'' w w' w'' iw iw' iw'' s t =
     (s .the-number ∙ sym (t .the-number), p .the-output ∙ sym (q .the-output), p .the-floats ∙ sym (q .the-floats), p .the-words ∙ sym (q .the-words))
 
 pub one-step : OneStep
-one-step c k m relaxation relaxation' relaxation'' d d' d'' l l' l'' w w' w'' iw iw' iw'' s t =
+one-step c v k m relaxation relaxation' relaxation'' r r' r'' d d' d'' l l' l'' w w' w'' iw iw' iw'' s t =
     let p = s .the-call in
     let q = t .the-call in (
       s .the-number ∙ sym (t .the-number),
       s .the-relaxation ∙ sym (t .the-relaxation),
+      s .the-report ∙ sym (t .the-report),
       p .the-d ∙ sym (q .the-d),
       p .the-multipliers ∙ sym (q .the-multipliers),
       p .the-floats ∙ sym (q .the-floats),

@@ -8,7 +8,8 @@ use Rattle.householder.specs.Qr.{Factors}
 use Rattle.nnls_call.specs.Promise.{Told}
 use Rattle.lsei.specs.Lsei.{Solution}
 use Rattle.step.specs.Step.{Step}
-use Rattle.gritstrut.specs.Interface.{QrLeaves, NnlsLeaves, SolveLeaves, WriteLeaves, StepLeaves}
+use Rattle.step.specs.declared.Report.{Report}
+use Rattle.gritstrut.specs.Interface.{QrLeaves, NnlsLeaves, SolveLeaves, PlaceLeaves, WriteLeaves, StepLeaves}
 
 abbrev pub OneQr : Type 0
 OneQr = (c : Answer Factors) (k l rank rank' rank'' : ℕ) (r r' r'' : List Float) (perm perm' perm'' : List ℕ) (u u' u'' b b' b'' w w' w'' : List Float) (iw iw' iw'' : List ℕ)
@@ -24,11 +25,16 @@ abbrev pub OneSolve : Type 0
 OneSolve = (c : Answer Solution) (k m : ℕ) (x x' x'' l l' l'' w w' w'' : List Float) (iw iw' iw'' : List ℕ)
     → SolveLeaves c k x x' l l' w w' iw iw' → SolveLeaves c m x x'' l l'' w w'' iw iw'' → (k ≡ m) × (x' ≡ x'') × (l' ≡ l'') × (w' ≡ w'') × (iw' ≡ iw'')
 
+abbrev pub OnePlace : Type 0
+OnePlace = (c : Answer Solution) (k m place place' place'' : ℕ) (x x' x'' l l' l'' w w' w'' : List Float) (iw iw' iw'' : List ℕ)
+    → PlaceLeaves c k place place' x x' l l' w w' iw iw' → PlaceLeaves c m place place'' x x'' l l'' w w'' iw iw''
+    → (k ≡ m) × (place' ≡ place'') × (x' ≡ x'') × (l' ≡ l'') × (w' ≡ w'') × (iw' ≡ iw'')
+
 abbrev pub OneWrite : Type 0
 OneWrite = (c : Answer (List Float)) (k m : ℕ) (out out' out'' w w' w'' : List Float) (iw iw' iw'' : List ℕ)
     → WriteLeaves c k out out' w w' iw iw' → WriteLeaves c m out out'' w w'' iw iw'' → (k ≡ m) × (out' ≡ out'') × (w' ≡ w'') × (iw' ≡ iw'')
 
 abbrev pub OneStep : Type 0
-OneStep = (c : Answer Step) (k m : ℕ) (relaxation relaxation' relaxation'' : Float) (d d' d'' l l' l'' w w' w'' : List Float) (iw iw' iw'' : List ℕ)
-    → StepLeaves c k relaxation relaxation' d d' l l' w w' iw iw' → StepLeaves c m relaxation relaxation'' d d'' l l'' w w'' iw iw''
-    → (k ≡ m) × (relaxation' ≡ relaxation'') × (d' ≡ d'') × (l' ≡ l'') × (w' ≡ w'') × (iw' ≡ iw'')
+OneStep = (c : Answer Step) (t : Report) (k m : ℕ) (relaxation relaxation' relaxation'' : Float) (r r' r'' : List ℕ) (d d' d'' l l' l'' w w' w'' : List Float) (iw iw' iw'' : List ℕ)
+    → StepLeaves c t k relaxation relaxation' r r' d d' l l' w w' iw iw' → StepLeaves c t m relaxation relaxation'' r r'' d d'' l l'' w w'' iw iw''
+    → (k ≡ m) × (relaxation' ≡ relaxation'') × (r' ≡ r'') × (d' ≡ d'') × (l' ≡ l'') × (w' ≡ w'') × (iw' ≡ iw'')

@@ -1,10 +1,14 @@
 -- The C interface's promises: the number, and what the operation's own promise says of all that it leaves. Definitions only.
 -- A single result is written through a pointer where the number is 0, and nothing is stored there else: from the answer c of a call, what stands behind each such pointer before and, primed, afterwards.
 use mathlib.Core.Path.{_≡_}
-use mathlib.Core.List.{List}
+use mathlib.Core.Bool.{cond, _&&_}
+use mathlib.Core.List.{List, [], _∷_}
+use lib.Dec.{eqb}
 use Prim.Native.Nat.{ℕ}
 use lib.Ieee.{Float}
-use Rattle.workspace.specs.Tables.{Answer, number, output}
+use Rattle.workspace.specs.Tables.{Answer, number, output, placeOf, nowhere, call, isDimension, isConstraints, isRoom, has}
+use Rattle.workspace.specs.declared.Outcome.{Outcome}
+use Rattle.workspace.specs.declared.Outcome.the-variants.{Done, Refused}
 use Rattle.workspace.specs.Tables as Tables
 use Rattle.householder.specs.Qr.{Factors}
 use Rattle.householder_call.specs.Promise as Qr
@@ -12,7 +16,12 @@ use Rattle.nnls_call.specs.Promise as Nnls
 use Rattle.lsei.specs.Lsei.{Solution}
 use Rattle.lsei_call.specs.Promise.{Solves}
 use Rattle.hessian_call.specs.Promise.{Writes}
-use Rattle.step.specs.Step.{Step}
+use Rattle.nnls.specs.Counted.{Counted}
+use Rattle.step_rows.specs.Problem.{Problem}
+use Rattle.step.specs.Step.{Step, step, reportOf, stageNumber, stagePlace}
+use Rattle.step.specs.declared.Report.{Report}
+use Rattle.step_call.specs.declared.Outcome as Told
+use Rattle.step_call.specs.declared.Outcome.the-variants as told
 use Rattle.step_call.specs.Promise as Step
 
 pub record QrLeaves (c : Answer Factors) (k rank rank' : ℕ) (r r' : List Float) (perm perm' : List ℕ) (u u' b b' w w' : List Float) (iw iw' : List ℕ) : Type 0 where
@@ -30,11 +39,39 @@ pub record SolveLeaves (c : Answer Solution) (k : ℕ) (x x' l l' w w' : List Fl
   pub the-number : k ≡ number c
   pub the-call : Solves c (Tables.outcomeOf c) x x' l l' w w' iw iw'
 
+-- the place that comes with a refusal is stored where there is one
+abbrev pub placed : Outcome → ℕ → ℕ
+placed Done old = old
+placed (Refused r) old = cond (eqb (placeOf r) nowhere) old (placeOf r)
+
+pub record PlaceLeaves (c : Answer Solution) (k place place' : ℕ) (x x' l l' w w' : List Float) (iw iw' : List ℕ) : Type 0 where
+  pub the-number : k ≡ number c
+  pub the-call : Solves c (Tables.outcomeOf c) x x' l l' w w' iw iw'
+  pub the-place : place' ≡ placed (Tables.outcomeOf c) place
+
 pub record WriteLeaves (c : Answer (List Float)) (k : ℕ) (out out' w w' : List Float) (iw iw' : List ℕ) : Type 0 where
   pub the-number : k ≡ number c
   pub the-call : Writes c (Tables.outcomeOf c) out out' w w' iw iw'
 
-pub record StepLeaves (c : Answer Step) (k : ℕ) (relaxation relaxation' : Float) (d d' l l' w w' : List Float) (iw iw' : List ℕ) : Type 0 where
+-- ---- the step, with its report in six entries
+
+-- number and place of the exact stage, then of the relaxed one, rounds and factorings
+abbrev pub entriesOf : Report → List ℕ
+entriesOf t = stageNumber (t .exact) ∷ stagePlace (t .exact) ∷ stageNumber (t .relaxed) ∷ stagePlace (t .relaxed) ∷ t .rounds ∷ t .factorings ∷ []
+
+-- the whole call: the report's length is one of those that number 2 tests
+abbrev pub stepReportCall : Problem → (d multipliers : List Float) (report : List ℕ) (w : List Float) (iw : List ℕ) → Answer Step
+stepReportCall p d l r w iw =
+    call (isDimension (p .n) && isConstraints (p .m)) (Step.areLengths p d l && has r 6) (isRoom w iw) (Step.areKinds (p .kinds)) (step p .answer)
+
+-- the report is written unless a test before the arithmetic refuses
+abbrev pub reportLeft : Told.Outcome → List ℕ → List ℕ
+reportLeft (told.Done relaxation t) old = entriesOf t
+reportLeft (told.Failed r t) old = entriesOf t
+reportLeft (told.Refused r) old = old
+
+pub record StepLeaves (c : Answer Step) (t : Report) (k : ℕ) (relaxation relaxation' : Float) (r r' : List ℕ) (d d' l l' w w' : List Float) (iw iw' : List ℕ) : Type 0 where
   pub the-number : k ≡ number c
-  pub the-call : Step.Steps c (Step.outcomeOf c) d d' l l' w w' iw iw'
+  pub the-call : Step.Steps c t (Step.outcomeOf c t) d d' l l' w w' iw iw'
   pub the-relaxation : relaxation' ≡ output c (λ s. s .relaxation) relaxation
+  pub the-report : r' ≡ reportLeft (Step.outcomeOf c t) r

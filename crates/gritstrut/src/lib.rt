@@ -7,8 +7,10 @@ ghost use Rattle.nnls_call.specs.Promise.{nnlsCall};
 ghost use Rattle.lsei_call.specs.Promise.{ldpCall, lsiCall, lseiCall};
 ghost use Rattle.hessian_call.specs.Promise.{identityCall, timesCall, choleskyCall, updateCall};
 ghost use Rattle.step_rows.specs.Problem.{problemOf};
-ghost use Rattle.step_call.specs.Promise.{stepCall};
-ghost use Rattle.gritstrut.specs.Interface.{QrLeaves, NnlsLeaves, SolveLeaves, WriteLeaves, StepLeaves};
+ghost use lib.ListN.{length};
+ghost use Rattle.workspace.specs.Tables.{outcomeNumber};
+ghost use Rattle.gritstrut.specs.Interface.{QrLeaves, NnlsLeaves, SolveLeaves, placed, PlaceLeaves, WriteLeaves, entriesOf, stepReportCall, StepLeaves};
+ghost use Rattle.step.specs.Step.{reportOf};
 use hessian_call::Hessian;
 use householder_call::Qr;
 use lsei_call::Ldp;
@@ -16,6 +18,7 @@ use lsei_call::Lsei;
 use lsei_call::Lsi;
 use nnls_call::Nnls;
 use step_call::Step;
+use workspace::Refusal;
 
 // The version that include/gritstrut.h names: major, minor and patch, two digits each.
 #[no_mangle]
@@ -124,6 +127,23 @@ pub extern "C" fn gritstrut_ldp(
     answer.number()
 }
 
+// The number of an outcome; the place that comes with it is stored.
+fn number_with_place(o: workspace::Outcome, place: &mut u32) -> u32
+    ensures { λ k. ⌜ (k ≡ outcomeNumber o) × (now (place .exit) ≡ placed o (now (place .entry))) ⌝ }
+{
+    match o {
+        workspace::Outcome::Done => 0,
+        workspace::Outcome::Refused(why) => {
+            let number = why.number();
+            let at = why.place();
+            if at != workspace::NOWHERE {
+                *place = at;
+            }
+            number
+        }
+    }
+}
+
 // Least squares with inequalities.
 #[no_mangle]
 pub extern "C" fn gritstrut_lsi(
@@ -136,13 +156,14 @@ pub extern "C" fn gritstrut_lsi(
     h: &[f64],
     x: &mut [f64],
     multipliers: &mut [f64],
+    place: &mut u32,
     w: &mut [f64],
     iw: &mut [u32],
 ) -> u32
-    ensures { λ k. ⌜ SolveLeaves (lsiCall n me mg (now (e .entry)) (now (f .entry)) (now (g .entry)) (now (h .entry)) (now (x .entry)) (now (multipliers .entry)) (now (w .entry)) (now (iw .entry))) k (now (x .entry)) (now (x .exit)) (now (multipliers .entry)) (now (multipliers .exit)) (now (w .entry)) (now (w .exit)) (now (iw .entry)) (now (iw .exit)) ⌝ }
+    ensures { λ k. ⌜ PlaceLeaves (lsiCall n me mg (now (e .entry)) (now (f .entry)) (now (g .entry)) (now (h .entry)) (now (x .entry)) (now (multipliers .entry)) (now (w .entry)) (now (iw .entry))) k (now (place .entry)) (now (place .exit)) (now (x .entry)) (now (x .exit)) (now (multipliers .entry)) (now (multipliers .exit)) (now (w .entry)) (now (w .exit)) (now (iw .entry)) (now (iw .exit)) ⌝ }
 {
     let answer = Lsi::solve(n, me, mg, e, f, g, h, x, multipliers, w, iw);
-    answer.number()
+    number_with_place(answer, place)
 }
 
 // Least squares with equalities and inequalities.
@@ -160,13 +181,14 @@ pub extern "C" fn gritstrut_lsei(
     h: &[f64],
     x: &mut [f64],
     multipliers: &mut [f64],
+    place: &mut u32,
     w: &mut [f64],
     iw: &mut [u32],
 ) -> u32
-    ensures { λ k. ⌜ SolveLeaves (lseiCall n mc me mg (now (c .entry)) (now (d .entry)) (now (e .entry)) (now (f .entry)) (now (g .entry)) (now (h .entry)) (now (x .entry)) (now (multipliers .entry)) (now (w .entry)) (now (iw .entry))) k (now (x .entry)) (now (x .exit)) (now (multipliers .entry)) (now (multipliers .exit)) (now (w .entry)) (now (w .exit)) (now (iw .entry)) (now (iw .exit)) ⌝ }
+    ensures { λ k. ⌜ PlaceLeaves (lseiCall n mc me mg (now (c .entry)) (now (d .entry)) (now (e .entry)) (now (f .entry)) (now (g .entry)) (now (h .entry)) (now (x .entry)) (now (multipliers .entry)) (now (w .entry)) (now (iw .entry))) k (now (place .entry)) (now (place .exit)) (now (x .entry)) (now (x .exit)) (now (multipliers .entry)) (now (multipliers .exit)) (now (w .entry)) (now (w .exit)) (now (iw .entry)) (now (iw .exit)) ⌝ }
 {
     let answer = Lsei::solve(n, mc, me, mg, c, d, e, f, g, h, x, multipliers, w, iw);
-    answer.number()
+    number_with_place(answer, place)
 }
 
 // ---- the approximation B
@@ -229,6 +251,24 @@ pub extern "C" fn gritstrut_update(
 
 // ---- the step
 
+// How many entries a report has.
+const REPORT: usize = 6;
+
+// A step's report: number and place of the exact stage, then of the relaxed one, rounds and factorings.
+fn write_report(t: step::Report, report: &mut [u32])
+    requires { ⌜ length (now report) ≡ 6 ⌝ }
+    ensures { λ _. ⌜ now (report .exit) ≡ entriesOf t ⌝ }
+{
+    let exact = t.exact;
+    let relaxed = t.relaxed;
+    report[0] = exact.number();
+    report[1] = exact.place();
+    report[2] = relaxed.number();
+    report[3] = relaxed.place();
+    report[4] = t.rounds;
+    report[5] = t.factorings;
+}
+
 // The step of one SQP iteration.
 #[no_mangle]
 pub extern "C" fn gritstrut_step(
@@ -244,12 +284,19 @@ pub extern "C" fn gritstrut_step(
     d: &mut [f64],
     multipliers: &mut [f64],
     relaxation: &mut f64,
+    report: &mut [u32],
     w: &mut [f64],
     iw: &mut [u32],
 ) -> u32
-    ensures { λ k. ⌜ StepLeaves (stepCall (problemOf n m (now (factor .entry)) (now (gradient .entry)) (now (kinds .entry)) (now (values .entry)) (now (jacobian .entry)) (now (lower .entry)) (now (upper .entry))) (now (d .entry)) (now (multipliers .entry)) (now (w .entry)) (now (iw .entry))) k (now (relaxation .entry)) (now (relaxation .exit))
-        (now (d .entry)) (now (d .exit)) (now (multipliers .entry)) (now (multipliers .exit)) (now (w .entry)) (now (w .exit)) (now (iw .entry)) (now (iw .exit)) ⌝ }
+    ensures { λ k. ⌜ StepLeaves (stepReportCall (problemOf n m (now (factor .entry)) (now (gradient .entry)) (now (kinds .entry)) (now (values .entry)) (now (jacobian .entry)) (now (lower .entry)) (now (upper .entry))) (now (d .entry)) (now (multipliers .entry)) (now (report .entry)) (now (w .entry)) (now (iw .entry))) (reportOf (problemOf n m (now (factor .entry)) (now (gradient .entry)) (now (kinds .entry)) (now (values .entry)) (now (jacobian .entry)) (now (lower .entry)) (now (upper .entry)))) k (now (relaxation .entry)) (now (relaxation .exit))
+        (now (report .entry)) (now (report .exit)) (now (d .entry)) (now (d .exit)) (now (multipliers .entry)) (now (multipliers .exit)) (now (w .entry)) (now (w .exit)) (now (iw .entry)) (now (iw .exit)) ⌝ }
 {
+    if report.len() != REPORT {
+        if step_call::are_sizes(n, m) {
+            return Refusal::Length.number();
+        }
+        return Refusal::Size.number();
+    }
     let answer = Step::solve(
         n,
         m,
@@ -266,9 +313,14 @@ pub extern "C" fn gritstrut_step(
         iw,
     );
     match answer {
-        step_call::Outcome::Done(delta) => {
+        step_call::Outcome::Done(delta, t) => {
             *relaxation = delta;
+            write_report(t, report);
             0
+        }
+        step_call::Outcome::Failed(why, t) => {
+            write_report(t, report);
+            why.number()
         }
         step_call::Outcome::Refused(why) => why.number(),
     }

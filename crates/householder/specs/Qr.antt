@@ -114,6 +114,10 @@ start m n a = record { rank = 0; r = a; perm = tab n (λ j. j); u = replicate (m
 unfoldable pub factor : ℕ → ℕ → List Float → Factors
 factor m n a = steps m n (min m n) 0 +0 (start m n a)
 
+-- The column standing next after those taken, before any swap for it, by its index in the matrix factored: where the rank falls short of the columns, this one could not be taken.
+abbrev pub standing : Factors → ℕ
+standing q = nth (q .perm) (q .rank)
+
 -- ---- Q and R of m by n factors applied
 
 -- v under reflector k

@@ -15,9 +15,9 @@ use Rattle.workspace.specs.Tables.{Answer, done, rankDeficient}
 use Rattle.workspace.specs.inner.Readings.{vec, nums, Block}
 use Rattle.workspace.proofs.Readings.{at-vec, vec-is, vec-same, nth-nums}
 use Rattle.workspace.proofs.Writes.{block-vec}
-use Rattle.householder.specs.Qr.{Factors, factor, applyQt, solveR}
+use Rattle.householder.specs.Qr.{Factors, factor, applyQt, solveR, standing}
 use Rattle.householder.specs.inner.Work.{held, SolvedR, Placed}
-use Rattle.nnls.specs.Counted.{Counted, andThen, factored, unless}
+use Rattle.nnls.specs.Counted.{Counted, andThen, factored, unless, atOnce}
 use Rattle.lsei.specs.Lsei.{Solution, ldp, reducedRows, reducedSides, restored, lsiFrom, lsi}
 use Rattle.lsei.specs.inner.Work.{endedSolution, Restored}
 use Rattle.lsei.specs.declared.Ended.{Ended}
@@ -54,14 +54,14 @@ restored-is n iw w w₁ w₂ w₃ w₄ n17 A S B P = record {
 -- ---- the whole, from the factors q of E
 
 module _ (n me mg : ℕ) (e f g h : List Float) (q : Factors) (fq : q ≡ factor me n e) where
-  tested : (b : Bool) → ltb (q .rank) n ≡ b → factored (unless b rankDeficient (lsiFrom n me mg q f g h)) ≡ lsi n me mg e f g h
+  tested : (b : Bool) → ltb (q .rank) n ≡ b → factored (unless b (rankDeficient (standing q)) (lsiFrom n me mg q f g h)) ≡ lsi n me mg e f g h
   unfolding lsi
   tested b t =
-      ap (λ (z : Bool). factored (unless z rankDeficient (lsiFrom n me mg q f g h))) (sym t)
-      ∙ ap (λ (p : Factors). factored (unless (ltb (p .rank) n) rankDeficient (lsiFrom n me mg p f g h))) fq
+      ap (λ (z : Bool). factored (unless z (rankDeficient (standing q)) (lsiFrom n me mg q f g h))) (sym t)
+      ∙ ap (λ (p : Factors). factored (unless (ltb (p .rank) n) (rankDeficient (standing p)) (lsiFrom n me mg p f g h))) fq
 
-  pub lsi-deficient : ltb (q .rank) n ≡ true → (s : Solution) → endedSolution (record { ending = Deficient; rounds = 0; factorings = 1 }) s ≡ lsi n me mg e f g h
-  lsi-deficient t s = tested true t
+  pub lsi-deficient : ltb (q .rank) n ≡ true → (place : ℕ) → place ≡ standing q → (s : Solution) → endedSolution (record { ending = Deficient place; rounds = 0; factorings = 1 }) s ≡ lsi n me mg e f g h
+  lsi-deficient t place h s = ap (λ (j : ℕ). factored (atOnce (rankDeficient j))) h ∙ tested true t
 
   module _ (full : ltb (q .rank) n ≡ false) (qf reduced bounds : List Float) (eqf : qf ≡ applyQt me q f) (er : reduced ≡ reducedRows n mg q g)
       (eb : bounds ≡ reducedSides n mg reduced qf h) (E : Ended) (s : Solution) (L : endedSolution E s ≡ ldp mg n reduced bounds) where
@@ -75,7 +75,7 @@ module _ (n me mg : ℕ) (e f g h : List Float) (q : Factors) (fq : q ≡ factor
         (L ∙ ap₂ (ldp mg n) er (eb ∙ ap₂ (λ (r : List Float) (a : List Float). reducedSides n mg r a h) er eqf))
         ∙ tested false full
 
-    pub lsi-refused : (t : Solution) → OneOf (1 ∷ 2 ∷ 3 ∷ []) (tagOf the-type (E .ending)) → endedSolution (further E) t ≡ lsi n me mg e f g h
+    pub lsi-refused : (t : Solution) → OneOf (1 ∷ 2 ∷ 3 ∷ 4 ∷ []) (tagOf the-type (E .ending)) → endedSolution (further E) t ≡ lsi n me mg e f g h
     lsi-refused t o = refused-on E s onward t o ∙ whole
 
     pub lsi-done : (x u : List Float) → E .ending ≡ Done → x ≡ restored n q qf (s .x) → u ≡ s .multipliers

@@ -15,7 +15,7 @@ use borrow.Author.Tests.{lt-ltb, le-ltb}
 use Rattle.numbers.specs.Numbers.{at, nth}
 use Rattle.numbers.proofs.Lists.{tab-same}
 use Rattle.workspace.specs.inner.Readings.{vec, mat, stack}
-use Rattle.workspace.proofs.Readings.{vec-same, vec-part, stack-same, stack-part}
+use Rattle.workspace.proofs.Readings.{vec-same, vec-part, stack-same, stack-part, nth-front}
 use Rattle.workspace.proofs.Parts.{lent-is, back-part, back-get}
 use Rattle.householder.specs.Qr.{Factors, factor, applyQt}
 use Rattle.householder.specs.inner.Work.{held}
@@ -78,9 +78,9 @@ module _ (n me mg k : ℕ) (w w₁ : List Float) (l₁ : List ℕ) (n17 : n ≤ 
   abbrev goal : Counted Solution
   goal = lsi n me mg (mat 426 me n w) (vec 732 me w) (stack 750 mg n w) (sides 750 mg n w)
 
-  pub deficient-is : k < n → (s : Solution) → endedSolution (record { ending = Deficient; rounds = 0; factorings = 1 }) s ≡ goal
-  deficient-is h s =
-      lsi-deficient n me mg (mat 426 me n w) (vec 732 me w) (stack 750 mg n w) (sides 750 mg n w) (held me n k w₁ l₁) (F .factors) (lt-ltb k n h) s
+  pub deficient-is : k < n → (place : ℕ) → place ≡ nth l₁ k → (s : Solution) → endedSolution (record { ending = Deficient place; rounds = 0; factorings = 1 }) s ≡ goal
+  deficient-is h place e s =
+      lsi-deficient n me mg (mat 426 me n w) (vec 732 me w) (stack 750 mg n w) (sides 750 mg n w) (held me n k w₁ l₁) (F .factors) (lt-ltb k n h) place (e ∙ sym (nth-front n k l₁ h)) s
 
   pub columns-most : n ≤ k → n ≤ me
   columns-most h = omega (arith, rank-most me n 732 k w w₁ l₁ F)
@@ -100,7 +100,7 @@ module _ (n me mg k : ℕ) (w w₁ : List Float) (l₁ : List ℕ) (n17 : n ≤ 
     bounds-are =
         R .bounds ∙ ap (reducedSides n mg (stack 750 mg n w₂) (vec 732 me w₂)) (sides-same 750 mg n w w₁ (λ i h. F .after (750 + i * 18 + n) (omega arith)))
 
-    pub refused-is : (t : Solution) → OneOf (1 ∷ 2 ∷ 3 ∷ []) (tagOf the-type (E .ending)) → endedSolution (further E) t ≡ goal
+    pub refused-is : (t : Solution) → OneOf (1 ∷ 2 ∷ 3 ∷ 4 ∷ []) (tagOf the-type (E .ending)) → endedSolution (further E) t ≡ goal
     refused-is t o =
         lsi-refused n me mg (mat 426 me n w) (vec 732 me w) (stack 750 mg n w) (sides 750 mg n w) q (full-factors me n 732 k w w₁ l₁ F full) (le-ltb n n (omega arith))
         (vec 732 me w₂) (stack 750 mg n w₂) (sides 750 mg n w₂) turned-is rows-are bounds-are E (left n mg w₂ v E len S) (ldp-told n mg w₂ v E len S) t o

@@ -58,19 +58,23 @@ pub const LSI_WORDS: usize = LSI_LDP_WORDS + LDP_WORDS;
 // How a solve ends.
 pub enum Ending {
     Done,
-    Deficient,
+    // E is short of rank: the column that could not be taken.
+    Deficient(u32),
+    // The equality matrix is: the equality that could not be taken.
+    Dependent(u32),
     Infeasible,
     Capped,
 }
 
 impl Ending {
-    // What a caller is endedSolution of it.
+    // What a caller is told of it.
     pub fn outcome(self) -> Outcome
         ensures { λ r. ⌜ ((s : Solution) → r ≡ outcomeOf (endingAnswer self s)) ⌝ }
     {
         match self {
             Ending::Done => Outcome::Done,
-            Ending::Deficient => Outcome::Refused(Refusal::Deficient),
+            Ending::Deficient(place) => Outcome::Refused(Refusal::Deficient(place)),
+            Ending::Dependent(place) => Outcome::Refused(Refusal::Dependent(place)),
             Ending::Infeasible => Outcome::Refused(Refusal::Infeasible),
             Ending::Capped => Outcome::Refused(Refusal::Capped),
         }
@@ -234,8 +238,9 @@ pub fn solve_lsi(w: &mut [f64], iw: &mut [u32], n: usize, me: usize, mg: usize) 
 {
     let rank = factor_front(w, iw, me, n, LSI_F);
     if rank < n {
+        let place = iw[rank];
         return Ended {
-            ending: Ending::Deficient,
+            ending: Ending::Deficient(place),
             rounds: 0,
             factorings: 1,
         };

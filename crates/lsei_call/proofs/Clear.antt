@@ -14,8 +14,10 @@ use lib.Ieee.{Float, nan, inf, fin, neg, up, down, lt, le, eq, round, units, siz
 use lib.Ieee.Fits.{down-pos}
 use Rattle.numbers.specs.Numbers.{+0, at, tab, transposed, _⊘_}
 use Rattle.numbers.proofs.Lists.{getD-tab, length-scatter}
-use Rattle.workspace.specs.Tables.{Answer, done, refused, rankDeficient}
-use Rattle.householder.specs.Qr.{Factors, factor, applyQt, applyQ, solveR}
+use Rattle.workspace.specs.Tables.{Answer, done, refused}
+use Rattle.workspace.specs.declared.Refusal.{Refusal}
+use Rattle.workspace.specs.declared.Refusal.the-variants.{Deficient, Dependent}
+use Rattle.householder.specs.Qr.{Factors, factor, applyQt, applyQ, solveR, standing}
 use Rattle.nnls.specs.Counted.{Counted, then, unless}
 use Rattle.nnls_passive.specs.Passive.{solveOf}
 use Rattle.nnls.specs.Nnls.{Accepted, dualOf, nnls}
@@ -73,9 +75,9 @@ ldp-clear m n g h =
 -- ---- LSI and LSEI
 
 -- a refusal of the rank
-unless-clear : (o m : ℕ) (b : Bool) (c : Counted Solution) → ClearFrom o m (c .answer) → ClearFrom o m (unless b rankDeficient c .answer)
-unless-clear o m true c h = tt
-unless-clear o m false c h = h
+unless-clear : (o m : ℕ) (b : Bool) (r : Refusal) (c : Counted Solution) → ClearFrom o m (c .answer) → ClearFrom o m (unless b (refused r) c .answer)
+unless-clear o m true r c h = tt
+unless-clear o m false r c h = h
 
 -- multipliers that carry over, behind mc others
 carried : (mc m : ℕ) (a : Answer Solution) (f : Solution → Solution) → ((s : Solution) (i : ℕ) → at (f s .multipliers) (mc + i) ≡ at (s .multipliers) (0 + i))
@@ -95,7 +97,7 @@ pub lsi-clear : LsiClear
 unfolding lsi
 lsi-clear n me mg e f g h =
     let q = factor me n e in
-    unless-clear 0 mg (ltb (q .rank) n) (lsiFrom n me mg q f g h) (lsi-from-clear n me mg q f g h)
+    unless-clear 0 mg (ltb (q .rank) n) (Deficient (standing q)) (lsiFrom n me mg q f g h) (lsi-from-clear n me mg q f g h)
 
 length-mu : (n mc : ℕ) (q : Factors) (v : List Float) → length (equalityMultipliers n mc q v) ≡ mc
 unfolding equalityMultipliers
@@ -120,4 +122,4 @@ pub lsei-clear : LseiClear
 unfolding lsei
 lsei-clear n mc me mg c d e f g h =
     let q = factor n mc (transposed mc n c) in
-    unless-clear mc mg (ltb (q .rank) mc) (lseiFrom n mc me mg q d e f g h) (lsei-from-clear n mc me mg q d e f g h)
+    unless-clear mc mg (ltb (q .rank) mc) (Dependent (standing q)) (lseiFrom n mc me mg q d e f g h) (lsei-from-clear n mc me mg q d e f g h)

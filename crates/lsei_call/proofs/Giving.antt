@@ -60,9 +60,10 @@ no-first q w v = refl
 
 -- ---- what is given by an ending
 
-pub given-none : (o : Ending) (s : Solution) (k : Outcome) (x l : List Float) → OneOf (1 ∷ 2 ∷ 3 ∷ []) (tagOf the-type o) → k ≡ outcomeOf (endingAnswer o s) → SolutionGiven (endingAnswer o s) k x x l l
-given-none E.Done s k x l h e = absurd (⊎-elim (λ e. omega arith) (λ g. ⊎-elim (λ e. omega arith) (λ e. omega arith) g) h)
-given-none E.Deficient s k x l h e = record { the-outcome = e; the-x = refl; the-multipliers = refl }
+pub given-none : (o : Ending) (s : Solution) (k : Outcome) (x l : List Float) → OneOf (1 ∷ 2 ∷ 3 ∷ 4 ∷ []) (tagOf the-type o) → k ≡ outcomeOf (endingAnswer o s) → SolutionGiven (endingAnswer o s) k x x l l
+given-none E.Done s k x l h e = absurd (⊎-elim (λ e. omega arith) (λ g. ⊎-elim (λ e. omega arith) (λ k. ⊎-elim (λ e. omega arith) (λ e. omega arith) k) g) h)
+given-none (E.Deficient place) s k x l h e = record { the-outcome = e; the-x = refl; the-multipliers = refl }
+given-none (E.Dependent place) s k x l h e = record { the-outcome = e; the-x = refl; the-multipliers = refl }
 given-none E.Infeasible s k x l h e = record { the-outcome = e; the-x = refl; the-multipliers = refl }
 given-none E.Capped s k x l h e = record { the-outcome = e; the-x = refl; the-multipliers = refl }
 
@@ -73,13 +74,15 @@ given-all o s x x′ l l′ d ex el = rw d (record { the-outcome = refl; the-x =
 
 floats-of : (o : Ending) (s : Solution) (w : List Float) → floats (endingAnswer o s) w ≡ cleared +0 8192 w
 floats-of E.Done s w = refl
-floats-of E.Deficient s w = refl
+floats-of (E.Deficient place) s w = refl
+floats-of (E.Dependent place) s w = refl
 floats-of E.Infeasible s w = refl
 floats-of E.Capped s w = refl
 
 words-of : (o : Ending) (s : Solution) (iw : List ℕ) → words (endingAnswer o s) iw ≡ cleared 0 512 iw
 words-of E.Done s iw = refl
-words-of E.Deficient s iw = refl
+words-of (E.Deficient place) s iw = refl
+words-of (E.Dependent place) s iw = refl
 words-of E.Infeasible s iw = refl
 words-of E.Capped s iw = refl
 

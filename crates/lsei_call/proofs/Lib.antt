@@ -6,3 +6,4 @@ pub mod One
 pub mod Passing
 pub mod TooMany
 pub mod Called
+pub mod Places

@@ -2,10 +2,11 @@
 use mathlib.Core.Path.{_≡_}
 use mathlib.Core.List.{List, []}
 use Prim.Native.Nat.{ℕ, _+_, _*_, _<_}
-use lib.ListN.{replicate}
+use lib.ListN.{length, replicate}
 use lib.Ieee.{Float, nan}
-use Rattle.numbers.specs.Numbers.{at, -0}
-use Rattle.workspace.specs.Tables.{Answer, done, refused, rankDeficient}
+use Rattle.numbers.specs.Numbers.{at, nth, transposed, -0}
+use Rattle.workspace.specs.Tables.{Answer, done, refused, rankDeficient, dependent}
+use Rattle.householder.specs.Qr.{Factors, factor, standing}
 use Rattle.workspace.specs.declared.Outcome.{Outcome}
 use Rattle.workspace.specs.declared.Outcome.the-variants.{Done}
 use Rattle.nnls.specs.Counted.{Counted, atOnce}
@@ -29,9 +30,26 @@ LsiClear = (n me mg : ℕ) (e f g h : List Float) → ClearFrom 0 mg (lsi n me m
 abbrev pub LseiClear : Type 0
 LseiClear = (n mc me mg : ℕ) (c d e f g h : List Float) → ClearFrom mc mg (lsei n mc me mg c d e f g h .answer)
 
--- LSEI with more equalities than variables is always rank deficient
+-- ---- where rank was lost
+
+-- a place is a column of the matrix factored, and none of those taken
+pub record IsNext (n : ℕ) (q : Factors) (place : ℕ) : Type 0 where
+  pub below : place < n
+  pub not-taken : (t : ℕ) → t < q .rank → nth (q .perm) t ≡ place → ⊥
+
+-- LSI names a column of E
+abbrev pub LsiPlaced : Type 0
+LsiPlaced = (n me mg : ℕ) (e f g h : List Float) → length e ≡ me * n → let q = factor me n e in
+    q .rank < n → (lsi n me mg e f g h .answer ≡ rankDeficient (standing q)) × IsNext n q (standing q)
+
+-- LSEI names an equality, a column of C'; what it refuses of E is LSI's of E Q, of which the first mc columns are left out
+abbrev pub LseiPlaced : Type 0
+LseiPlaced = (n mc me mg : ℕ) (c d e f g h : List Float) → let q = factor n mc (transposed mc n c) in
+    q .rank < mc → (lsei n mc me mg c d e f g h .answer ≡ dependent (standing q)) × IsNext mc q (standing q)
+
+-- LSEI with more equalities than variables is always refused for its equality matrix
 abbrev pub TooManyEqualities : Type 0
-TooManyEqualities = (n mc me mg : ℕ) (c d e f g h : List Float) → n < mc → lsei n mc me mg c d e f g h .answer ≡ rankDeficient
+TooManyEqualities = (n mc me mg : ℕ) (c d e f g h : List Float) → n < mc → lsei n mc me mg c d e f g h .answer ≡ dependent (standing (factor n mc (transposed mc n c)))
 
 -- a NaN denominator passes on: where the dual is solved and 1 - h'u is a NaN, LDP is done
 abbrev pub NanPasses : Type 0

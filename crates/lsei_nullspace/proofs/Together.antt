@@ -11,7 +11,7 @@ use borrow.Rule.Slice.PartMut.{midOf, putMid}
 use borrow.Author.Tests.{lt-ltb, le-ltb}
 use Rattle.numbers.specs.Numbers.{at, nth, transposed}
 use Rattle.workspace.specs.inner.Readings.{vec, mat, stack}
-use Rattle.workspace.proofs.Readings.{vec-same, vec-part, mat-same, mat-part, mat-stack, stack-same, stack-part}
+use Rattle.workspace.proofs.Readings.{vec-same, vec-part, mat-same, mat-part, mat-stack, stack-same, stack-part, nth-front}
 use Rattle.workspace.proofs.Parts.{lent-is, back-part, back-get}
 use Rattle.householder.specs.Qr.{Factors, factor, applyQ}
 use Rattle.householder.specs.inner.Work.{held}
@@ -20,14 +20,14 @@ use Rattle.nnls.specs.Counted.{Counted}
 use Rattle.lsei.specs.Lsei.{Solution, lsi, fixed, turned, tailOf, shifted, gradient, equalityMultipliers, lsei}
 use Rattle.lsei.specs.inner.Work.{endedSolution, sides, squaresIn, FactoredFront}
 use Rattle.lsei.specs.declared.Ended.{Ended}
-use Rattle.lsei.specs.declared.Ending.the-variants.{Done, Deficient}
+use Rattle.lsei.specs.declared.Ending.the-variants.{Done, Dependent}
 use Rattle.lsei.proofs.Ending.{the-type}
 use Rattle.lsei.proofs.Answers.{further}
 use Rattle.lsei.proofs.Costs.{lsi-most, few}
 use Rattle.lsei.proofs.Kept.{rank-most, full-factors}
 use Rattle.lsei.proofs.Together.{sides-same, sides-part}
 use Rattle.lsei_nullspace.specs.inner.Work.{Fixed, TailOfE, TailOfG, LseiReduced, Rejoined, Priced, Completed, solutionIn}
-use Rattle.lsei_nullspace.proofs.Whole.{lsei-deficient, lsei-refused, lsei-done}
+use Rattle.lsei_nullspace.proofs.Whole.{lsei-dependent, lsei-refused, lsei-done}
 
 -- ---- the reduced problem
 
@@ -125,10 +125,10 @@ module _ (n mc me mg k : ℕ) (w w₁ : List Float) (l₁ : List ℕ) (n17 : n �
   transposed-is : factor n mc (mat 426 n mc w) ≡ factor n mc (transposed mc n (stack 426 mc n w))
   transposed-is = ap (factor n mc) (mat-stack 426 n mc w)
 
-  pub deficient-is : k < mc → (s : Solution) → endedSolution (record { ending = Deficient; rounds = 0; factorings = 1 }) s ≡ goal
-  deficient-is h s =
-      lsei-deficient n mc me mg (stack 426 mc n w) (vec 714 mc w) (stack 732 me n w) (vec 1038 me w) (stack 1056 mg n w) (sides 1056 mg n w) (held n mc k w₁ l₁)
-      (F .factors ∙ transposed-is) (lt-ltb k mc h) s
+  pub dependent-is : k < mc → (place : ℕ) → place ≡ nth l₁ k → (s : Solution) → endedSolution (record { ending = Dependent place; rounds = 0; factorings = 1 }) s ≡ goal
+  dependent-is h place e s =
+      lsei-dependent n mc me mg (stack 426 mc n w) (vec 714 mc w) (stack 732 me n w) (vec 1038 me w) (stack 1056 mg n w) (sides 1056 mg n w) (held n mc k w₁ l₁)
+      (F .factors ∙ transposed-is) (lt-ltb k mc h) place (e ∙ sym (nth-front mc k l₁ h)) s
 
   pub equalities-most : mc ≤ k → mc ≤ n
   equalities-most h = omega (arith, rank-most n mc 714 k w w₁ l₁ F)
@@ -173,7 +173,7 @@ module _ (n mc me mg k : ℕ) (w w₁ : List Float) (l₁ : List ℕ) (n17 : n �
     h-is : sides 2994 mg (n - mc) w₂ ≡ shifted n mc mg (turned n mg q (stack 1056 mg n w)) y (sides 1056 mg n w)
     h-is = R .shift-of-h ∙ ap₂ (λ (a : List Float) (b : List Float). shifted n mc mg (turned n mg q a) y b) g₁ h₁
 
-    pub refused-is : (t : Solution) → OneOf (1 ∷ 2 ∷ 3 ∷ []) (tagOf the-type (E .ending)) → endedSolution (further E) t ≡ goal
+    pub refused-is : (t : Solution) → OneOf (1 ∷ 2 ∷ 3 ∷ 4 ∷ []) (tagOf the-type (E .ending)) → endedSolution (further E) t ≡ goal
     refused-is t o =
         lsei-refused n mc me mg (stack 426 mc n w) (vec 714 mc w) (stack 732 me n w) (vec 1038 me w) (stack 1056 mg n w) (sides 1056 mg n w) q
         (full-factors n mc 714 k w w₁ l₁ F full ∙ transposed-is) (le-ltb mc mc (omega arith)) y (mat 2670 me (n - mc) w₂) (vec 2976 me w₂) (stack 2994 mg (n - mc) w₂)

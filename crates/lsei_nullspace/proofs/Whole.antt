@@ -8,25 +8,25 @@ use denote.Enum.Declared.{tagOf}
 use lib.Dec.{ltb}
 use lib.Ieee.{Float}
 use Rattle.numbers.specs.Numbers.{transposed}
-use Rattle.workspace.specs.Tables.{Answer, done, rankDeficient}
-use Rattle.householder.specs.Qr.{Factors, factor, applyQ}
-use Rattle.nnls.specs.Counted.{Counted, andThen, factored, unless}
+use Rattle.workspace.specs.Tables.{Answer, done, dependent}
+use Rattle.householder.specs.Qr.{Factors, factor, applyQ, standing}
+use Rattle.nnls.specs.Counted.{Counted, andThen, factored, unless, atOnce}
 use Rattle.lsei.specs.Lsei.{Solution, lsi, fixed, turned, tailOf, shifted, gradient, equalityMultipliers, rejoined, lseiFrom, lsei}
 use Rattle.lsei.specs.inner.Work.{endedSolution}
 use Rattle.lsei.specs.declared.Ended.{Ended}
-use Rattle.lsei.specs.declared.Ending.the-variants.{Done, Deficient}
+use Rattle.lsei.specs.declared.Ending.the-variants.{Done, Dependent}
 use Rattle.lsei.proofs.Ending.{the-type}
 use Rattle.lsei.proofs.Answers.{further, refused-on, done-on}
 
 module _ (n mc me mg : ℕ) (c d e f g h : List Float) (q : Factors) (fq : q ≡ factor n mc (transposed mc n c)) where
-  tested : (b : Bool) → ltb (q .rank) mc ≡ b → factored (unless b rankDeficient (lseiFrom n mc me mg q d e f g h)) ≡ lsei n mc me mg c d e f g h
+  tested : (b : Bool) → ltb (q .rank) mc ≡ b → factored (unless b (dependent (standing q)) (lseiFrom n mc me mg q d e f g h)) ≡ lsei n mc me mg c d e f g h
   unfolding lsei
   tested b t =
-      ap (λ (z : Bool). factored (unless z rankDeficient (lseiFrom n mc me mg q d e f g h))) (sym t)
-      ∙ ap (λ (p : Factors). factored (unless (ltb (p .rank) mc) rankDeficient (lseiFrom n mc me mg p d e f g h))) fq
+      ap (λ (z : Bool). factored (unless z (dependent (standing q)) (lseiFrom n mc me mg q d e f g h))) (sym t)
+      ∙ ap (λ (p : Factors). factored (unless (ltb (p .rank) mc) (dependent (standing p)) (lseiFrom n mc me mg p d e f g h))) fq
 
-  pub lsei-deficient : ltb (q .rank) mc ≡ true → (s : Solution) → endedSolution (record { ending = Deficient; rounds = 0; factorings = 1 }) s ≡ lsei n mc me mg c d e f g h
-  lsei-deficient t s = tested true t
+  pub lsei-dependent : ltb (q .rank) mc ≡ true → (place : ℕ) → place ≡ standing q → (s : Solution) → endedSolution (record { ending = Dependent place; rounds = 0; factorings = 1 }) s ≡ lsei n mc me mg c d e f g h
+  lsei-dependent t place h s = ap (λ (j : ℕ). factored (atOnce (dependent j))) h ∙ tested true t
 
   module _ (full : ltb (q .rank) mc ≡ false) (y eq fs gq hs : List Float) (ey : y ≡ fixed mc q d) (ee : eq ≡ tailOf n mc me (turned n me q e))
       (ef : fs ≡ shifted n mc me (turned n me q e) y f) (eg : gq ≡ tailOf n mc mg (turned n mg q g)) (eh : hs ≡ shifted n mc mg (turned n mg q g) y h) (E : Ended)
@@ -42,7 +42,7 @@ module _ (n mc me mg : ℕ) (c d e f g h : List Float) (q : Factors) (fq : q ≡
     unfolding lseiFrom
     whole = ap (λ (c : Counted Solution). factored (andThen c onward)) (L ∙ reduced) ∙ tested false full
 
-    pub lsei-refused : (t : Solution) → OneOf (1 ∷ 2 ∷ 3 ∷ []) (tagOf the-type (E .ending)) → endedSolution (further E) t ≡ lsei n mc me mg c d e f g h
+    pub lsei-refused : (t : Solution) → OneOf (1 ∷ 2 ∷ 3 ∷ 4 ∷ []) (tagOf the-type (E .ending)) → endedSolution (further E) t ≡ lsei n mc me mg c d e f g h
     lsei-refused t o = refused-on E s onward t o ∙ whole
 
     pub lsei-done : (x mu u : List Float) → E .ending ≡ Done → x ≡ applyQ n q (y ++ s .x) → u ≡ s .multipliers

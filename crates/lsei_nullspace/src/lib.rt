@@ -208,8 +208,9 @@ pub fn solve_lsei(
 {
     let rank = lsei::factor_front(w, iw, n, mc, LSEI_X);
     if rank < mc {
+        let place = iw[rank];
         return lsei::Ended {
-            ending: lsei::Ending::Deficient,
+            ending: lsei::Ending::Dependent(place),
             rounds: 0,
             factorings: 1,
         };

@@ -1,36 +1,36 @@
 -- The step's answer, from its promise, and the problem, from the parts of the tables.
 use mathlib.Core.Path.{_≡_, sym, ap, _∙_}
+use mathlib.Core.Bool.{Bool, true, false}
 use mathlib.Core.List.{List, _++_}
 use Prim.Native.Nat.{ℕ}
 use native.Mathlib.Omega.{arith}
 use lib.ListN.{drop}
 use lib.Ieee.{Float}
-use Rattle.workspace.specs.Tables.{Answer, done, refused, numberOf}
+use Rattle.workspace.specs.Tables.{Answer, done, refused, isLate, numberOf}
 use Rattle.workspace.specs.declared.Refusal.{Refusal}
 use Rattle.step.specs.Step.{Step}
-use Rattle.step_call.specs.Promise.{Steps}
+use Rattle.step.specs.declared.Report.{Report}
+use Rattle.step_call.specs.Promise.{refusedBy, Steps}
 use Rattle.record_read.specs.inner.Tables.{factorIn, gradientIn, kindsIn, valuesIn, jacobianIn, lowerIn, upperIn, problemIn, decodedIn}
 use Rattle.record_read.specs.declared.Input.{Input}
 use Rattle.record_read.specs.Input.{decode}
 use Rattle.step_call.specs.declared.Outcome.{Outcome}
-use Rattle.step_call.specs.declared.Outcome.the-variants.{Done, Refused}
+use Rattle.step_call.specs.declared.Outcome.the-variants.{Done, Failed, Refused}
 use Rattle.step_rows.specs.Problem.{problemOf}
 use Rattle.record_answer.specs.Program.{refusedText, doneText, stepText, decodedText, programText}
 use Rattle.record_answer.specs.Claims.{OneResponse}
 use Rattle.record_answer.specs.inner.Work.{stepAnswerOf, stepFrom}
 
-never : {A : Type 0} {v : Float} {r : Refusal} → Done v ≡ Refused r → A
-never e = let z : _≡_ {A = ℕ} 0 1 = cc in absurd (omega arith)
+-- either way to refuse tells the same reason
+refusal-is : (b : Bool) (r : Refusal) (t : Report) (e : Outcome) (d l : List Float) → e ≡ refusedBy b r t → stepAnswerOf e d l ≡ refused r
+refusal-is false r t e d l h = rw h
+refusal-is true r t e d l h = rw h
 
 -- what a call of the step promises tells its whole answer
-pub answer-is : (c : Answer Step) (e : Outcome) (d d' l l' w w' : List Float) (iw iw' : List ℕ)
-    → Steps c e d d' l l' w w' iw iw' → stepAnswerOf e d' l' ≡ c
-answer-is (done s) (Done r) d d' l l' w w' iw iw' h =
-    let q : r ≡ s .relaxation = cc (h .the-outcome) in
-    ap done (rw (q, h .the-d, h .the-multipliers))
-answer-is (done s) (Refused k) d d' l l' w w' iw iw' h = never (sym (h .the-outcome))
-answer-is (refused k) (Done r) d d' l l' w w' iw iw' h = never (h .the-outcome)
-answer-is (refused k) (Refused j) d d' l l' w w' iw iw' h = let q : j ≡ k = cc (h .the-outcome) in ap refused q
+pub answer-is : (c : Answer Step) (t : Report) (e : Outcome) (d d' l l' w w' : List Float) (iw iw' : List ℕ)
+    → Steps c t e d d' l l' w w' iw iw' → stepAnswerOf e d' l' ≡ c
+answer-is (done s) t e d d' l l' w w' iw iw' h = rw (h .the-outcome) (ap done (rw (h .the-d, h .the-multipliers)))
+answer-is (refused k) t e d d' l l' w w' iw iw' h = refusal-is (isLate k) k t e d' l' (h .the-outcome)
 
 -- the parts that the step is lent
 pub parts-are : (m n k : ℕ) (marks : List ℕ) (vals factor gradient : List Float) (kinds : List ℕ) (values jacobian lower upper : List Float)
@@ -41,8 +41,11 @@ parts-are m n k marks vals factor gradient kinds values jacobian lower upper f g
 
 -- ---- its text
 
-pub done-text : (e : Outcome) (r : Float) (d l : List Float) → e ≡ Done r → doneText (stepFrom r d l) ≡ stepText (stepAnswerOf e d l)
-done-text e r d l q = ap (λ (x : Outcome). stepText (stepAnswerOf x d l)) (sym q)
+pub done-text : (e : Outcome) (r : Float) (t : Report) (d l : List Float) → e ≡ Done r t → doneText (stepFrom r d l) ≡ stepText (stepAnswerOf e d l)
+done-text e r t d l q = ap (λ (x : Outcome). stepText (stepAnswerOf x d l)) (sym q)
+
+pub failed-text : (e : Outcome) (k : Refusal) (t : Report) (d l : List Float) → e ≡ Failed k t → refusedText (numberOf k) ≡ stepText (stepAnswerOf e d l)
+failed-text e k t d l q = ap (λ (x : Outcome). stepText (stepAnswerOf x d l)) (sym q)
 
 pub refused-text : (e : Outcome) (k : Refusal) (d l : List Float) → e ≡ Refused k → refusedText (numberOf k) ≡ stepText (stepAnswerOf e d l)
 refused-text e k d l q = ap (λ (x : Outcome). stepText (stepAnswerOf x d l)) (sym q)

@@ -76,7 +76,8 @@ fn put_answer(out: &mut [u8], answer: step_call::Outcome, d: &[f64], multipliers
 {
     match answer {
         step_call::Outcome::Refused(k) => put_refusal(out, k),
-        step_call::Outcome::Done(relaxation) => put_done(out, relaxation, d, multipliers),
+        step_call::Outcome::Failed(k, _) => put_refusal(out, k),
+        step_call::Outcome::Done(relaxation, _) => put_done(out, relaxation, d, multipliers),
     }
 }
 

@@ -81,9 +81,42 @@ fn told_counts(number: u32, rounds: u32, factorings: u32) -> u64 {
     mix_mark(mix_mark(told(number), rounds), factorings)
 }
 
-// The number of a step, its relaxation and the kinds, which it has read.
-fn told_step(number: u32, relaxation: f64, kinds: &[u8]) -> u64 {
-    mix_kinds(mix_float(told(number), relaxation), kinds)
+// The number of LSI or LSEI, and the place.
+fn told_place(number: u32, place: u32) -> u64 {
+    mix_mark(told(number), place)
+}
+
+// The step: its number, the relaxation, the report's whole memory and the kinds, which it has read.
+fn run_step(
+    call: &Call,
+    values: &Values,
+    d: &mut [f64],
+    multipliers: &mut [f64],
+    w: &mut [f64],
+    iw: &mut [u32],
+) -> u64 {
+    let reports = length_at(call, 5, 551);
+    let g = kinds(call);
+    let mut relaxation = junk(call);
+    let mut report = places(call);
+    let number = gritstrut::gritstrut_step(
+        size(call, 0),
+        size(call, 1),
+        part(call, values, 0),
+        part(call, values, 1),
+        g,
+        part(call, values, 2),
+        part(call, values, 3),
+        part(call, values, 4),
+        part(call, values, 5),
+        d,
+        multipliers,
+        &mut relaxation,
+        &mut report[..reports],
+        w,
+        iw,
+    );
+    mix_kinds(mix_places(mix_float(told(number), relaxation), &report), g)
 }
 
 // The approximation B: the identity, a product, the factor, or the update of the matrix in x.
@@ -136,14 +169,33 @@ fn run_any(
             told_counts(number, p, q)
         }
         5 => told(gritstrut::gritstrut_ldp(i, j, a, b, x, y, w, iw)),
-        6 => told(gritstrut::gritstrut_lsi(i, j, k, a, b, c, d, x, y, w, iw)),
-        7 => told(gritstrut::gritstrut_lsei(i, j, k, l, a, b, c, d, e, f, x, y, w, iw)),
-        12 => {
-            let g = kinds(call);
-            let mut p = junk(call);
-            let number = gritstrut::gritstrut_step(i, j, a, b, g, c, d, e, f, x, y, &mut p, w, iw);
-            told_step(number, p, g)
+        6 => {
+            let mut p = mark(call);
+            let number = gritstrut::gritstrut_lsi(i, j, k, a, b, c, d, x, y, &mut p, w, iw);
+            told_place(number, p)
         }
+        7 => {
+            let mut p = mark(call);
+            let number = gritstrut::gritstrut_lsei(
+                i,
+                j,
+                k,
+                l,
+                a,
+                b,
+                c,
+                d,
+                e,
+                f,
+                x,
+                y,
+                &mut p,
+                w,
+                iw,
+            );
+            told_place(number, p)
+        }
+        12 => run_step(call, values, x, y, w, iw),
         _ => run_hessian(operation, call, values, x, w, iw),
     }
 }

@@ -7,7 +7,7 @@ use native.Mathlib.Omega.{arith}
 use lib.Ieee.{Float}
 use Rattle.workspace.specs.Tables.{Answer, done, refused, outcomeOf, isLate, isCleared}
 use Rattle.workspace.specs.declared.Refusal.{Refusal}
-use Rattle.workspace.specs.declared.Refusal.the-variants.{Deficient, Infeasible, Capped}
+use Rattle.workspace.specs.declared.Refusal.the-variants.{Deficient, Dependent, Infeasible, Capped}
 use Rattle.workspace.specs.declared.Outcome.the-variants as Outcome
 use Rattle.nnls.specs.Counted.{Counted, then, andThen}
 use Rattle.lsei.specs.Lsei.{Solution}
@@ -23,19 +23,22 @@ use Rattle.step.specs.declared.Tried.the-variants.{Done, Refused}
 -- what a caller is told of an ending says what it answers
 answered-refused : (o : Ending) (s : Solution) (r : Refusal) → Outcome.Refused r ≡ outcomeOf (endingAnswer o s) → endingAnswer o s ≡ refused r
 answered-refused Ending.Done s r e = let z : _≡_ {A = ℕ} 0 1 = cc in absurd (let y : ⊥ = omega arith in y)
-answered-refused Ending.Deficient s r e = let z : r ≡ Deficient = cc in rw z
+answered-refused (Ending.Deficient place) s r e = let z : r ≡ Deficient place = cc in rw z
+answered-refused (Ending.Dependent place) s r e = let z : r ≡ Dependent place = cc in rw z
 answered-refused Ending.Infeasible s r e = let z : r ≡ Infeasible = cc in rw z
 answered-refused Ending.Capped s r e = let z : r ≡ Capped = cc in rw z
 
 answered-done : (o : Ending) (s : Solution) → Outcome.Done ≡ outcomeOf (endingAnswer o s) → o ≡ Ending.Done
 answered-done Ending.Done s e = refl
-answered-done Ending.Deficient s e = let z : _≡_ {A = ℕ} 0 1 = cc in absurd (let y : ⊥ = omega arith in y)
+answered-done (Ending.Deficient place) s e = let z : _≡_ {A = ℕ} 0 1 = cc in absurd (let y : ⊥ = omega arith in y)
+answered-done (Ending.Dependent place) s e = let z : _≡_ {A = ℕ} 0 1 = cc in absurd (let y : ⊥ = omega arith in y)
 answered-done Ending.Infeasible s e = let z : _≡_ {A = ℕ} 0 1 = cc in absurd (let y : ⊥ = omega arith in y)
 answered-done Ending.Capped s e = let z : _≡_ {A = ℕ} 0 1 = cc in absurd (let y : ⊥ = omega arith in y)
 
 answered-late : (o : Ending) (s : Solution) → isCleared (endingAnswer o s) ≡ true
 answered-late Ending.Done s = refl
-answered-late Ending.Deficient s = refl
+answered-late (Ending.Deficient place) s = refl
+answered-late (Ending.Dependent place) s = refl
 answered-late Ending.Infeasible s = refl
 answered-late Ending.Capped s = refl
 

@@ -5,15 +5,38 @@ use Prim.Native.Nat.{ℕ, _+_, _≤_}
 use native.Mathlib.Omega.{arith}
 use lib.Ieee.{Float, neg}
 use Rattle.numbers.specs.Numbers.{transposed}
+use Rattle.workspace.specs.Tables.{refused}
 use Rattle.workspace.specs.declared.Refusal.{Refusal}
 use Rattle.workspace.specs.inner.Readings.{vec}
 use Rattle.householder.specs.Qr.{downward}
 use Rattle.nnls.specs.Counted.{Counted, after}
 use Rattle.step_rows.specs.Problem.{problemOf, Problem, boundRows, equalityRows, inequalityRows, relaxedRows}
-use Rattle.step.specs.Step.{Step, target, exactStep, exact, relaxedStep, relaxed, orRelaxed, step}
+use Rattle.step.specs.Step.{Step, target, exactStep, exact, relaxedStep, relaxed, orRelaxed, step, reported, reportOf}
 use Rattle.step.specs.declared.Tried.{Tried}
 use Rattle.step.specs.declared.Tried.the-variants.{Done, Refused}
-use Rattle.step.specs.inner.Work.{triedStep, later, IsLate, Tries}
+use Rattle.step.specs.declared.Stage.the-variants.{Passed, Failed}
+use Rattle.step.specs.declared.Stepped.the-variants as Stepped
+use Rattle.step.specs.inner.Work.{triedStep, later, IsLate, Tries, steppedAnswer, steppedReport, IsLateStep, EndsStep}
+
+-- ---- the relaxed problem's answer after counts a and b of the exact one
+
+answer-later : (k : Refusal) (a b : ℕ) (r : Tried) (d l : List Float) → steppedAnswer (later k a b r) d l ≡ triedStep r d l .answer
+unfolding later
+answer-later k a b (Done x c f) d l = refl
+answer-later k a b (Refused i c f) d l = refl
+
+report-later : (k : Refusal) (a b : ℕ) (r : Tried) (d l d′ l′ : List Float)
+    → steppedReport (later k a b r) ≡ reported (refused k) (triedStep (Refused k a b) d l) (triedStep r d′ l′)
+unfolding later
+report-later k a b (Done x c f) d l d′ l′ = refl
+report-later k a b (Refused i c f) d l d′ l′ = refl
+
+late-later : (k : Refusal) (a b : ℕ) (r : Tried) → IsLate r → IsLateStep (later k a b r)
+unfolding later
+late-later k a b (Done x c f) h = tt
+late-later k a b (Refused i c f) h = h
+
+-- ---- the step
 
 -- neither problem reads the gradient
 module _ (n m : ℕ) (factor gradient : List Float) (kinds : List ℕ) (values jacobian lower upper : List Float) where
@@ -29,36 +52,41 @@ module _ (n m : ℕ) (factor gradient : List Float) (kinds : List ℕ) (values j
   unfolding target
   target-is = refl
 
+  abbrev p : Problem
+  p = problemOf n m factor gradient kinds values jacobian lower upper
+
   -- the exact problem is done
   pub step-first : (x : Float) (a b : ℕ) (w w′ : List Float) → vec 0 n w ≡ map neg (downward n (transposed n n factor) n gradient)
       → Tries (exact (problemOf n m factor [] kinds values jacobian lower upper) (vec 0 n w)) n m (Done x a b) w w′
-      → triedStep (Done x a b) (vec 18 n w′) (vec 36 m w′) ≡ step (problemOf n m factor gradient kinds values jacobian lower upper)
-  unfolding step
+      → EndsStep n m (Stepped.Done x (record { exact = Passed; relaxed = Passed; rounds = a; factorings = b })) w′ p
+  unfolding step reportOf
   step-first x a b w w′ e t =
-      let p = problemOf n m factor gradient kinds values jacobian lower upper in
-      let q : triedStep (Done x a b) (vec 18 n w′) (vec 36 m w′) ≡ exact p (target p) = t .answer ∙ exact-bare (vec 0 n w) ∙ ap (exact p) (e ∙ target-is) in
-      q ∙ ap (λ (c : Counted Step). orRelaxed (c .answer) (exact p (target p)) (relaxed p (target p))) q
+      let first = triedStep (Done x a b) (vec 18 n w′) (vec 36 m w′) in
+      let q : first ≡ exact p (target p) = t .answer ∙ exact-bare (vec 0 n w) ∙ ap (exact p) (e ∙ target-is) in
+      record {
+        the-answer = ap (λ (c : Counted Step). orRelaxed (c .answer) c (relaxed p (target p)) .answer) q;
+        the-report = ap (λ (c : Counted Step). reported (c .answer) c (relaxed p (target p))) q;
+        late = tt;
+      }
 
   -- it is refused, and the relaxed one answers
   pub step-second : (k : Refusal) (a b : ℕ) (r : Tried) (w w′ w″ : List Float) → vec 0 n w ≡ map neg (downward n (transposed n n factor) n gradient)
       → Tries (exact (problemOf n m factor [] kinds values jacobian lower upper) (vec 0 n w)) n m (Refused k a b) w w′
       → Tries (relaxed (problemOf n m factor [] kinds values jacobian lower upper) (vec 0 n w′)) n m r w′ w″
-      → triedStep (later r a b) (vec 18 n w″) (vec 36 m w″) ≡ step (problemOf n m factor gradient kinds values jacobian lower upper)
-  unfolding step later
+      → EndsStep n m (later k a b r) w″ p
+  unfolding step reportOf
   step-second k a b r w w′ w″ e t u =
-      let p = problemOf n m factor gradient kinds values jacobian lower upper in
-      let q : triedStep (Refused k a b) (vec 18 n w′) (vec 36 m w′) ≡ exact p (target p) = t .answer ∙ exact-bare (vec 0 n w) ∙ ap (exact p) (e ∙ target-is) in
+      let first = triedStep (Refused k a b) (vec 18 n w′) (vec 36 m w′) in
+      let q : first ≡ exact p (target p) = t .answer ∙ exact-bare (vec 0 n w) ∙ ap (exact p) (e ∙ target-is) in
       let s : triedStep r (vec 18 n w″) (vec 36 m w″) ≡ relaxed p (target p) = u .answer ∙ relaxed-bare (vec 0 n w′) ∙ ap (relaxed p) (t .front ∙ e ∙ target-is) in
-      added r (vec 18 n w″) (vec 36 m w″)
-      ∙ ap (after (triedStep (Refused k a b) (vec 18 n w′) (vec 36 m w′))) s
-      ∙ ap (λ (c : Counted Step). after c (relaxed p (target p))) q
-      ∙ ap (λ (c : Counted Step). orRelaxed (c .answer) (exact p (target p)) (relaxed p (target p))) q
-    where
-      added : (r : Tried) (d l : List Float) → triedStep (later r a b) d l ≡ after (triedStep (Refused k a b) (vec 18 n w′) (vec 36 m w′)) (triedStep r d l)
-      added (Done x c f) d l = refl
-      added (Refused i c f) d l = refl
-
-pub late-later : (r : Tried) (a b : ℕ) → IsLate r → IsLate (later r a b)
-unfolding later
-late-later (Done x c f) a b h = tt
-late-later (Refused k c f) a b h = h
+      record {
+        the-answer =
+            answer-later k a b r (vec 18 n w″) (vec 36 m w″)
+            ∙ ap (λ (c : Counted Step). after first c .answer) s
+            ∙ ap (λ (c : Counted Step). orRelaxed (c .answer) c (relaxed p (target p)) .answer) q;
+        the-report =
+            report-later k a b r (vec 18 n w′) (vec 36 m w′) (vec 18 n w″) (vec 36 m w″)
+            ∙ ap (λ (c : Counted Step). reported (first .answer) first c) s
+            ∙ ap (λ (c : Counted Step). reported (c .answer) c (relaxed p (target p))) q;
+        late = late-later k a b r (u .late);
+      }

@@ -6,11 +6,14 @@ use lib.Dec.{leb, ltb, eqb}
 use lib.ListN.{length, take}
 use lib.Ieee.{Float, lt, neg}
 use Rattle.numbers.specs.Numbers.{+0, near, one, _⊖_, at, entry, grid, transposed}
-use Rattle.workspace.specs.Tables.{Answer, done, refused}
+use Rattle.workspace.specs.Tables.{Answer, done, refused, numberOf, placeOf, nowhere}
 use Rattle.householder.specs.Qr.{downward}
 use Rattle.nnls.specs.Counted.{Counted, andThen, after}
 use Rattle.lsei.specs.Lsei.{Solution, lsi, lsei}
 use Rattle.step_rows.specs.Problem.{Problem, matrixOf, sidesOf, equalityRows, inequalityRows, relaxedRows}
+use Rattle.step.specs.declared.Stage.{Stage}
+use Rattle.step.specs.declared.Stage.the-variants.{Passed, Failed}
+use Rattle.step.specs.declared.Report.{Report}
 
 -- d, one multiplier per constraint in constraint order, and the relaxation delta
 pub record Step : Type 0 where
@@ -84,3 +87,34 @@ step p =
     let f = target p in
     let first = exact p f in
     orRelaxed (first .answer) first (relaxed p f)
+
+-- ---- what it says of itself: how its two stages ended, and what both took
+
+-- a stage that answered passed, and one that was not tried
+abbrev pub stageOf : Answer Step → Stage
+stageOf (done s) = Passed
+stageOf (refused r) = Failed r
+
+-- its number, 0 where it passed, and the place that comes with it
+abbrev pub stageNumber : Stage → ℕ
+stageNumber Passed = 0
+stageNumber (Failed r) = numberOf r
+
+abbrev pub stagePlace : Stage → ℕ
+stagePlace Passed = nowhere
+stagePlace (Failed r) = placeOf r
+
+abbrev pub reported : Answer Step → (first second : Counted Step) → Report
+reported (done s) first second = record { exact = Passed; relaxed = Passed; rounds = first .rounds; factorings = first .factorings }
+reported (refused r) first second = record {
+  exact = Failed r;
+  relaxed = stageOf (second .answer);
+  rounds = first .rounds + second .rounds;
+  factorings = first .factorings + second .factorings;
+}
+
+unfoldable pub reportOf : Problem → Report
+reportOf p =
+    let f = target p in
+    let first = exact p f in
+    reported (first .answer) first (relaxed p f)

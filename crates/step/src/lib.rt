@@ -10,10 +10,10 @@ ghost use lib.ListN.{length, take};
 ghost use Rattle.numbers.specs.Numbers.{at};
 ghost use Rattle.workspace.specs.inner.Readings.{vec};
 ghost use Rattle.nnls.specs.Counted.{Counted};
-ghost use Rattle.step.specs.Step.{inOrder, paired, clamped, exact, relaxed, step};
+ghost use Rattle.step.specs.Step.{inOrder, paired, clamped, exact, relaxed, stageNumber, stagePlace};
 ghost use Rattle.step_rows.specs.inner.Work.{equalitiesAmong, inequalitiesAmong, relaxedAmong};
 ghost use Rattle.step_rows.specs.Problem.{problemOf};
-ghost use Rattle.step.specs.inner.Work.{StepReady, ExactIn, RelaxedIn, Readable, Left, triedStepIn, Tries, roundsOf, factoringsOf, later, IsLate};
+ghost use Rattle.step.specs.inner.Work.{StepReady, ExactIn, RelaxedIn, Readable, Left, Tries, roundsOf, factoringsOf, later, EndsStep};
 ghost use Rattle.step.specs.inner.Places.{EXACT_EQUALITY_MULTIPLIERS, EXACT_MULTIPLIERS, EXACT_X, RELAXED_MULTIPLIERS, RELAXED_X, STEP_WORDS};
 use workspace::Outcome;
 use workspace::Refusal;
@@ -67,6 +67,48 @@ impl Step {
 pub enum Tried {
     Done(f64, usize, usize),
     Refused(Refusal, usize, usize),
+}
+
+// How a stage ended: it answered, or was not tried; or why it failed.
+pub enum Stage {
+    Passed,
+    Failed(Refusal),
+}
+
+impl Stage {
+    // 0, or the number of the refusal.
+    pub fn number(self) -> u32
+        ensures { λ k. ⌜ k ≡ stageNumber self ⌝ }
+    {
+        match self {
+            Stage::Passed => 0,
+            Stage::Failed(why) => why.number(),
+        }
+    }
+
+    // The place that comes with it, or NOWHERE.
+    pub fn place(self) -> u32
+        ensures { λ k. ⌜ k ≡ stagePlace self ⌝ }
+    {
+        match self {
+            Stage::Passed => workspace::NOWHERE,
+            Stage::Failed(why) => why.place(),
+        }
+    }
+}
+
+// What a step says of itself: how its two problems ended, and the rounds and factorings that both took.
+pub struct Report {
+    pub exact: Stage,
+    pub relaxed: Stage,
+    pub rounds: u32,
+    pub factorings: u32,
+}
+
+// How the step ended, done with its relaxation or refused, with its report.
+pub enum Stepped {
+    Done(f64, Report),
+    Refused(Refusal, Report),
 }
 
 // ---- the exact problem
@@ -208,14 +250,30 @@ fn try_relaxed(
 
 // ---- the step
 
-// What the second problem answered, with the rounds and factorings of the first.
-fn after(second: Tried, rounds: usize, factorings: usize) -> Tried
+// What the relaxed problem answered, after the exact one was refused, with the counts of both.
+fn after(why: Refusal, rounds: usize, factorings: usize, second: Tried) -> Stepped
     requires { ⌜ (rounds ≤ 198) × (factorings ≤ 13334) × (roundsOf second ≤ 198) × (factoringsOf second ≤ 13334) ⌝ }
-    ensures { λ r. ⌜ r ≡ later second rounds factorings ⌝ }
+    ensures { λ r. ⌜ r ≡ later why rounds factorings second ⌝ }
 {
     match second {
-        Tried::Done(delta, r, f) => Tried::Done(delta, rounds + r, factorings + f),
-        Tried::Refused(k, r, f) => Tried::Refused(k, rounds + r, factorings + f),
+        Tried::Done(delta, r, f) => Stepped::Done(
+            delta,
+            Report {
+                exact: Stage::Failed(why),
+                relaxed: Stage::Passed,
+                rounds: (rounds + r) as u32,
+                factorings: (factorings + f) as u32,
+            },
+        ),
+        Tried::Refused(k, r, f) => Stepped::Refused(
+            k,
+            Report {
+                exact: Stage::Failed(why),
+                relaxed: Stage::Failed(k),
+                rounds: (rounds + r) as u32,
+                factorings: (factorings + f) as u32,
+            },
+        ),
     }
 }
 
@@ -232,15 +290,25 @@ pub fn solve_step(
     iw: &mut [u32],
     n: usize,
     m: usize,
-) -> Tried
+) -> Stepped
     requires { ⌜ StepReady n m (now factor) (now kinds) (now values) (now jacobian) (now lower) (now upper) (now w) × (length (now gradient) ≡ n) × (STEP_WORDS ≤ length (now iw)) ⌝ }
-    ensures { λ r. ⌜ (triedStepIn n m r (now (w .exit)) ≡ step (problemOf n m (now (factor .entry)) (now (gradient .entry)) (now (kinds .entry)) (now (values .entry)) (now (jacobian .entry)) (now (lower .entry)) (now (upper .entry)))) × IsLate r ⌝ }
+    ensures { λ r. ⌜ EndsStep n m r (now (w .exit)) (problemOf n m (now (factor .entry)) (now (gradient .entry)) (now (kinds .entry)) (now (values .entry)) (now (jacobian .entry)) (now (lower .entry)) (now (upper .entry))) ⌝ }
 {
     assembly::write_target(factor, gradient, w, n);
     let first = try_exact(factor, kinds, values, jacobian, lower, upper, w, iw, n, m);
-    let Tried::Refused(_, rounds, factorings) = first else {
-        return first;
-    };
-    let second = try_relaxed(factor, kinds, values, jacobian, lower, upper, w, iw, n, m);
-    after(second, rounds, factorings)
+    match first {
+        Tried::Done(relaxation, rounds, factorings) => Stepped::Done(
+            relaxation,
+            Report {
+                exact: Stage::Passed,
+                relaxed: Stage::Passed,
+                rounds: rounds as u32,
+                factorings: factorings as u32,
+            },
+        ),
+        Tried::Refused(why, rounds, factorings) => {
+            let second = try_relaxed(factor, kinds, values, jacobian, lower, upper, w, iw, n, m);
+            after(why, rounds, factorings, second)
+        }
+    }
 }

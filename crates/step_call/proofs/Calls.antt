@@ -11,20 +11,22 @@ use lib.Seq.{drop-cons}
 use lib.Ieee.{Float}
 use borrow.Author.Tests.{le-leb, lt-leb, eqb-true}
 use Rattle.numbers.specs.Numbers.{+0, nth}
-use Rattle.workspace.specs.Tables.{Answer, done, refused, call, cleared, isDimension, isConstraints}
+use Rattle.workspace.specs.Tables.{Answer, done, refused, isLate, call, cleared, isDimension, isConstraints}
 use Rattle.workspace.specs.declared.Refusal.the-variants.{Size, Length, Room, Kind}
 use Rattle.workspace.specs.inner.Readings.{vec}
 use Rattle.workspace.proofs.Parts.{vec-front, front-cleared}
 use Rattle.workspace.proofs.Tests.{and-true, dimension-le, constraints-le}
 use Rattle.nnls.specs.Counted.{Counted}
-use Rattle.step.specs.Step.{Step}
-use Rattle.step_call.specs.Promise.{areKinds, Steps}
-use Rattle.step.specs.inner.Work.{triedStepIn, IsLate}
+use Rattle.step_rows.specs.Problem.{Problem}
+use Rattle.step.specs.Step.{Step, step, reportOf}
+use Rattle.step_call.specs.Promise.{areKinds, refusedBy, Steps}
+use Rattle.step.specs.inner.Work.{EndsStep}
+use Rattle.step.specs.declared.Report.{Report}
 use Rattle.step_call.specs.inner.Work.{StepGiven}
 use Rattle.step_call.specs.declared.Outcome.{Outcome}
 use Rattle.step_call.specs.declared.Outcome.the-variants.{Done, Refused}
-use Rattle.step.specs.declared.Tried.{Tried}
-use Rattle.step.specs.declared.Tried.the-variants as Tried
+use Rattle.step.specs.declared.Stepped.{Stepped}
+use Rattle.step.specs.declared.Stepped.the-variants as Stepped
 
 -- ---- the tests
 
@@ -64,22 +66,22 @@ kinds-all ks j h e = sym (e ∙ ap areKinds (drop-of-length-le ks {i = j} h))
 
 -- ---- the call, by what its tests found
 
-module _ (a : Answer Step) (s l r k : Bool) (d x w : List Float) (iw : List ℕ) where
-  pub size-refused : s ≡ false → Steps (call s l r k a) (Refused Size) d d x x w w iw iw
+module _ (a : Answer Step) (t : Report) (s l r k : Bool) (d x w : List Float) (iw : List ℕ) where
+  pub size-refused : s ≡ false → Steps (call s l r k a) t (Refused Size) d d x x w w iw iw
   size-refused e = rw e (record { the-outcome = refl; the-d = refl; the-multipliers = refl; the-floats = refl; the-words = refl })
 
-  pub length-refused : s ≡ true → l ≡ false → Steps (call s l r k a) (Refused Length) d d x x w w iw iw
+  pub length-refused : s ≡ true → l ≡ false → Steps (call s l r k a) t (Refused Length) d d x x w w iw iw
   length-refused e f = rw (e, f) (record { the-outcome = refl; the-d = refl; the-multipliers = refl; the-floats = refl; the-words = refl })
 
-  pub room-refused : s ≡ true → l ≡ true → r ≡ false → Steps (call s l r k a) (Refused Room) d d x x w w iw iw
+  pub room-refused : s ≡ true → l ≡ true → r ≡ false → Steps (call s l r k a) t (Refused Room) d d x x w w iw iw
   room-refused e f g = rw (e, f, g) (record { the-outcome = refl; the-d = refl; the-multipliers = refl; the-floats = refl; the-words = refl })
 
-  pub kind-refused : s ≡ true → l ≡ true → r ≡ true → k ≡ false → Steps (call s l r k a) (Refused Kind) d d x x w w iw iw
+  pub kind-refused : s ≡ true → l ≡ true → r ≡ true → k ≡ false → Steps (call s l r k a) t (Refused Kind) d d x x w w iw iw
   kind-refused e f g h = rw (e, f, g, h) (record { the-outcome = refl; the-d = refl; the-multipliers = refl; the-floats = refl; the-words = refl })
 
-pub call-answered : (a : Answer Step) (s l r k : Bool) (o : Outcome) (d d' x x' w w' : List Float) (iw iw' : List ℕ)
-    → s ≡ true → l ≡ true → r ≡ true → k ≡ true → Steps a o d d' x x' w w' iw iw' → Steps (call s l r k a) o d d' x x' w w' iw iw'
-call-answered a s l r k o d d' x x' w w' iw iw' e f g h t = rw (e, f, g, h) t
+pub call-answered : (a : Answer Step) (y : Report) (s l r k : Bool) (o : Outcome) (d d' x x' w w' : List Float) (iw iw' : List ℕ)
+    → s ≡ true → l ≡ true → r ≡ true → k ≡ true → Steps a y o d d' x x' w w' iw iw' → Steps (call s l r k a) y o d d' x x' w w' iw iw'
+call-answered a y s l r k o d d' x x' w w' iw iw' e f g h t = rw (e, f, g, h) t
 
 -- the nine lengths in two tests
 pub lengths-bad : (a b c d e : Bool) → a ≡ false → (a && b && c && d && e) ≡ false
@@ -93,11 +95,10 @@ lengths-rest a b c d e h k = rw h k
 
 -- ---- the answer: v and u are what the step left of the workspaces' parts
 
-pub step-given : (n m : ℕ) (c : Counted Step) (t : Tried) (r : Outcome) (d d' x x' v w w' : List Float) (u iw iw' : List ℕ) → n ≤ 16 → m ≤ 16 → length v ≡ 8192 → length u ≡ 512
-    → triedStepIn n m t v ≡ c → IsLate t → StepGiven n m t r d d' x x' (v ++ drop 8192 w) w' (u ++ drop 512 iw) iw' → Steps (c .answer) r d d' x x' w w' iw iw'
-step-given n m c (Tried.Done delta a b) r d d' x x' v w w' u iw iw' hn hm lv lu e l g =
-    let q : done (record { d = vec 18 n v; multipliers = vec 36 m v; relaxation = delta }) ≡ c .answer = ap (λ (t : Counted Step). t .answer) e in
-    rw (← q, g .outcome)
+pub step-given : (n m : ℕ) (p : Problem) (t : Stepped) (r : Outcome) (d d' x x' v w w' : List Float) (u iw iw' : List ℕ) → n ≤ 16 → m ≤ 16 → length v ≡ 8192 → length u ≡ 512
+    → EndsStep n m t v p → StepGiven n m t r d d' x x' (v ++ drop 8192 w) w' (u ++ drop 512 iw) iw' → Steps (step p .answer) (reportOf p) r d d' x x' w w' iw iw'
+step-given n m p (Stepped.Done delta t) r d d' x x' v w w' u iw iw' hn hm lv lu e g =
+    rw (← (e .the-answer), ← (e .the-report), g .outcome)
     (record {
       the-outcome = refl;
       the-d = g .the-d ∙ vec-front v (drop 8192 w) 18 n (omega arith);
@@ -105,11 +106,11 @@ step-given n m c (Tried.Done delta a b) r d d' x x' v w w' u iw iw' hn hm lv lu 
       the-floats = g .both .floats ∙ front-cleared +0 8192 v w lv;
       the-words = g .both .words ∙ front-cleared 0 512 u iw lu;
     })
-step-given n m c (Tried.Refused k a b) r d d' x x' v w w' u iw iw' hn hm lv lu e l g =
-    let q : refused k ≡ c .answer = ap (λ (t : Counted Step). t .answer) e in
-    rw (← q, g .outcome)
+step-given n m p (Stepped.Refused k t) r d d' x x' v w w' u iw iw' hn hm lv lu e g =
+    let l : isLate k ≡ true = e .late in
+    rw (← (e .the-answer), ← (e .the-report), g .outcome)
     (record {
-      the-outcome = refl;
+      the-outcome = sym (ap (λ (b : Bool). refusedBy b k t) l);
       the-d = g .the-d;
       the-multipliers = g .the-multipliers;
       the-floats = rw l (g .both .floats ∙ front-cleared +0 8192 v w lv);

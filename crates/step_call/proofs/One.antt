@@ -4,7 +4,7 @@ use Rattle.step_call.specs.Promise.{Steps}
 use Rattle.step_call.specs.Claims.{OneAnswer}
 
 pub one-answer : OneAnswer
-one-answer c o p d d' d'' l l' l'' w w' w'' iw iw' iw'' s t = (
+one-answer c r o p d d' d'' l l' l'' w w' w'' iw iw' iw'' s t = (
   s .the-outcome ∙ sym (t .the-outcome),
   s .the-d ∙ sym (t .the-d),
   s .the-multipliers ∙ sym (t .the-multipliers),

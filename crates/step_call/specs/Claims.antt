@@ -10,7 +10,8 @@ use Rattle.workspace.specs.Tables.{Answer, done, refused}
 use Rattle.nnls.specs.Counted.{Counted}
 use Rattle.nnls.specs.Claims.{NotNegative}
 use Rattle.step_rows.specs.Problem.{Problem, problemOf, isEquality}
-use Rattle.step.specs.Step.{Step, target, relaxed, step}
+use Rattle.step.specs.Step.{Step, target, relaxed, step, reportOf}
+use Rattle.step.specs.declared.Report.{Report}
 use Rattle.step_call.specs.Promise.{stepCall, Steps}
 use Rattle.step_call.specs.declared.Outcome.{Outcome}
 use Rattle.step_call.specs.declared.Outcome.the-variants.{Done}
@@ -36,10 +37,10 @@ ReadLower = (p : Problem) (l f : List Float) → SameLower (p .n) (p .factor) l 
 
 -- where a call is done, no multiplier of an inequality that it leaves is negative or -0
 abbrev pub StepCallClear : Type 0
-StepCallClear = (p : Problem) (relaxation : Float) (d d' l l' w w' : List Float) (iw iw' : List ℕ) → Steps (stepCall p d l w iw) (Done relaxation) d d' l l' w w' iw iw'
+StepCallClear = (p : Problem) (relaxation : Float) (t : Report) (d d' l l' w w' : List Float) (iw iw' : List ℕ) → Steps (stepCall p d l w iw) (reportOf p) (Done relaxation t) d d' l l' w w' iw iw'
     → (j : ℕ) → j < p .m → isEquality p j ≡ false → NotNegative (at l' j)
 
 -- whatever the answer c, the outcome and all that is left are fixed by what was there before
 abbrev pub OneAnswer : Type 0
-OneAnswer = (c : Answer Step) (o p : Outcome) (d d' d'' l l' l'' w w' w'' : List Float) (iw iw' iw'' : List ℕ)
-    → Steps c o d d' l l' w w' iw iw' → Steps c p d d'' l l'' w w'' iw iw'' → (o ≡ p) × (d' ≡ d'') × (l' ≡ l'') × (w' ≡ w'') × (iw' ≡ iw'')
+OneAnswer = (c : Answer Step) (t : Report) (o p : Outcome) (d d' d'' l l' l'' w w' w'' : List Float) (iw iw' iw'' : List ℕ)
+    → Steps c t o d d' l l' w w' iw iw' → Steps c t p d d'' l l'' w w'' iw iw'' → (o ≡ p) × (d' ≡ d'') × (l' ≡ l'') × (w' ≡ w'') × (iw' ≡ iw'')

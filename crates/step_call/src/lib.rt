@@ -7,7 +7,7 @@ ghost use lib.ListN.{length};
 ghost use Rattle.workspace.specs.Tables.{isDimension, isConstraints, has};
 ghost use Rattle.nnls.specs.Counted.{Counted};
 ghost use Rattle.step_rows.specs.Problem.{problemOf};
-ghost use Rattle.step.specs.Step.{step};
+ghost use Rattle.step.specs.Step.{step, reportOf};
 ghost use Rattle.step_call.specs.Promise.{areKinds, stepCall, Steps};
 ghost use Rattle.step_call.specs.inner.Work.{Lent, StepGiven};
 use workspace::Refusal;
@@ -15,16 +15,18 @@ use workspace::Refusal;
 // The solver of the step.
 pub struct Step {}
 
-// What a call answers: the relaxation, or why it is refused.
+// What a call answers: the relaxation with the step's report; why the step failed, with its report; or
+// why a test before it refuses.
 pub enum Outcome {
-    Done(f64),
+    Done(f64, step::Report),
+    Failed(Refusal, step::Report),
     Refused(Refusal),
 }
 
 // ---- tests
 
 // The numbers of variables and constraints.
-fn are_sizes(n: usize, m: usize) -> bool
+pub fn are_sizes(n: usize, m: usize) -> bool
     ensures { λ r. ⌜ r ≡ (isDimension n && isConstraints m) ⌝ }
 {
     if !workspace::is_dimension(n) {
@@ -100,7 +102,7 @@ fn are_kinds(kinds: &[u8]) -> bool
 
 // Both outputs, where the step is done, and the clearing of the workspaces.
 fn give(
-    t: step::Tried,
+    t: step::Stepped,
     d: &mut [f64],
     multipliers: &mut [f64],
     w: &mut [f64],
@@ -112,15 +114,15 @@ fn give(
     ensures { λ r. ⌜ StepGiven n m t r (now (d .entry)) (now (d .exit)) (now (multipliers .entry)) (now (multipliers .exit)) (now (w .entry)) (now (w .exit)) (now (iw .entry)) (now (iw .exit)) ⌝ }
 {
     match t {
-        step::Tried::Done(relaxation, _, _) => {
+        step::Stepped::Done(relaxation, report) => {
             workspace::unload(w, d, step::STEP_D, n);
             workspace::unload(w, multipliers, step::STEP_MULTIPLIERS, m);
             workspace::clear(w, iw);
-            Outcome::Done(relaxation)
+            Outcome::Done(relaxation, report)
         }
-        step::Tried::Refused(r, _, _) => {
+        step::Stepped::Refused(r, report) => {
             workspace::clear(w, iw);
-            Outcome::Refused(r)
+            Outcome::Failed(r, report)
         }
     }
 }
@@ -142,7 +144,7 @@ fn step_all(
     m: usize,
 ) -> Outcome
     requires { ⌜ Lent n m (now factor) (now gradient) (now kinds) (now values) (now jacobian) (now lower) (now upper) (now d) (now multipliers) (now w) (now iw) ⌝ }
-    ensures { λ r. ⌜ Steps (step (problemOf n m (now (factor .entry)) (now (gradient .entry)) (now (kinds .entry)) (now (values .entry)) (now (jacobian .entry)) (now (lower .entry)) (now (upper .entry))) .answer) r (now (d .entry)) (now (d .exit)) (now (multipliers .entry)) (now (multipliers .exit)) (now (w .entry)) (now (w .exit)) (now (iw .entry)) (now (iw .exit)) ⌝ }
+    ensures { λ r. ⌜ Steps (step (problemOf n m (now (factor .entry)) (now (gradient .entry)) (now (kinds .entry)) (now (values .entry)) (now (jacobian .entry)) (now (lower .entry)) (now (upper .entry))) .answer) (reportOf (problemOf n m (now (factor .entry)) (now (gradient .entry)) (now (kinds .entry)) (now (values .entry)) (now (jacobian .entry)) (now (lower .entry)) (now (upper .entry)))) r (now (d .entry)) (now (d .exit)) (now (multipliers .entry)) (now (multipliers .exit)) (now (w .entry)) (now (w .exit)) (now (iw .entry)) (now (iw .exit)) ⌝ }
 {
     let v = &mut w[..8192];
     let u = &mut iw[..512];
@@ -163,7 +165,7 @@ fn step_all(
 }
 
 impl Step {
-    // The step d of n variables and m constraints, with a multiplier for each constraint and the relaxation.
+    // The step d of n variables and m constraints, with a multiplier for each constraint, the relaxation and the report.
     pub fn solve(
         n: usize,
         m: usize,
@@ -179,7 +181,7 @@ impl Step {
         w: &mut [f64],
         iw: &mut [u32],
     ) -> Outcome
-        ensures { λ r. ⌜ Steps (stepCall (problemOf n m (now (factor .entry)) (now (gradient .entry)) (now (kinds .entry)) (now (values .entry)) (now (jacobian .entry)) (now (lower .entry)) (now (upper .entry))) (now (d .entry)) (now (multipliers .entry)) (now (w .entry)) (now (iw .entry))) r (now (d .entry)) (now (d .exit)) (now (multipliers .entry)) (now (multipliers .exit)) (now (w .entry)) (now (w .exit)) (now (iw .entry)) (now (iw .exit)) ⌝ }
+        ensures { λ r. ⌜ Steps (stepCall (problemOf n m (now (factor .entry)) (now (gradient .entry)) (now (kinds .entry)) (now (values .entry)) (now (jacobian .entry)) (now (lower .entry)) (now (upper .entry))) (now (d .entry)) (now (multipliers .entry)) (now (w .entry)) (now (iw .entry))) (reportOf (problemOf n m (now (factor .entry)) (now (gradient .entry)) (now (kinds .entry)) (now (values .entry)) (now (jacobian .entry)) (now (lower .entry)) (now (upper .entry)))) r (now (d .entry)) (now (d .exit)) (now (multipliers .entry)) (now (multipliers .exit)) (now (w .entry)) (now (w .exit)) (now (iw .entry)) (now (iw .exit)) ⌝ }
     {
         if !are_sizes(n, m) {
             return Outcome::Refused(Refusal::Size);

@@ -5,27 +5,30 @@ ghost use Prim.Native.Nat.{ℕ, _+_, _*_, _≤_, _<_};
 ghost use lib.Dec.{leb};
 ghost use lib.ListN.{length};
 ghost use Rattle.numbers.specs.Numbers.{+0, at};
-ghost use Rattle.workspace.specs.Tables.{numberOf, outcomeNumber, cleared, isDimension, isMatrix, isWidth, isConstraints, isEqualities, isInequalities};
+ghost use Rattle.workspace.specs.Tables.{numberOf, placeOf, outcomeNumber, cleared, isDimension, isMatrix, isWidth, isConstraints, isEqualities, isInequalities};
 ghost use Rattle.workspace.specs.inner.Readings.{vec, mat, stack, nums, Block, Span, Loaded, Stacked, Cleared};
 
 // ---- answers
 
-// Why a call is refused.
+// The place of a refusal that has none.
+pub const NOWHERE: u32 = 4294967295;
+
+// Why a call is refused, some with a place: a column, an equality, a meter or a variable.
 pub enum Refusal {
     Size,
     Length,
     Room,
     Kind,
-    Deficient,
+    Deficient(u32),
     Infeasible,
     Capped,
     Pivot,
     Tolerance,
-    Dependent,
-    Reading,
-    Spread,
+    Dependent(u32),
+    Reading(u32),
+    Spread(u32),
     Width,
-    Bound,
+    Bound(u32),
     Crossed,
     Nonfinite,
     Unasked,
@@ -43,21 +46,48 @@ impl Refusal {
             Refusal::Length => 2,
             Refusal::Room => 3,
             Refusal::Kind => 4,
-            Refusal::Deficient => 5,
+            Refusal::Deficient(_) => 5,
             Refusal::Infeasible => 6,
             Refusal::Capped => 7,
             Refusal::Pivot => 8,
             Refusal::Tolerance => 10,
-            Refusal::Dependent => 11,
-            Refusal::Reading => 12,
-            Refusal::Spread => 13,
+            Refusal::Dependent(_) => 11,
+            Refusal::Reading(_) => 12,
+            Refusal::Spread(_) => 13,
             Refusal::Width => 14,
-            Refusal::Bound => 15,
+            Refusal::Bound(_) => 15,
             Refusal::Crossed => 16,
             Refusal::Nonfinite => 17,
             Refusal::Unasked => 18,
             Refusal::Output => 19,
             Refusal::Triangle => 20,
+        }
+    }
+
+    // The place that comes with it, or NOWHERE.
+    pub fn place(self) -> u32
+        ensures { λ k. ⌜ k ≡ placeOf self ⌝ }
+    {
+        match self {
+            Refusal::Size => NOWHERE,
+            Refusal::Length => NOWHERE,
+            Refusal::Room => NOWHERE,
+            Refusal::Kind => NOWHERE,
+            Refusal::Deficient(place) => place,
+            Refusal::Infeasible => NOWHERE,
+            Refusal::Capped => NOWHERE,
+            Refusal::Pivot => NOWHERE,
+            Refusal::Tolerance => NOWHERE,
+            Refusal::Dependent(place) => place,
+            Refusal::Reading(meter) => meter,
+            Refusal::Spread(meter) => meter,
+            Refusal::Width => NOWHERE,
+            Refusal::Bound(variable) => variable,
+            Refusal::Crossed => NOWHERE,
+            Refusal::Nonfinite => NOWHERE,
+            Refusal::Unasked => NOWHERE,
+            Refusal::Output => NOWHERE,
+            Refusal::Triangle => NOWHERE,
         }
     }
 }

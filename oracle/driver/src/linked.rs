@@ -10,7 +10,8 @@ pub const LIBRARY: &str = env!("LIBRARY");
 
 macro_rules! declare {
     ($($op:ident $name:ident $symbol:tt [$($size:ident)*]
-        $(($data:ident $len:ident $role:ident))* $({$place:ident $what:ident})*;)*) => {
+        $(($data:ident $len:ident $role:ident))* $({$place:ident $what:ident})*
+        $([$last:ident $last_len:ident $last_role:ident])?;)*) => {
         #[allow(dead_code)]
         mod symbols {
             unsafe extern "C" {
@@ -25,6 +26,7 @@ macro_rules! declare {
                 pub fn $name(
                     $($size: usize,)* $($data: peer::pointer!($role), $len: usize,)*
                     $($place: peer::pointer!($what),)*
+                    $($last: peer::pointer!($last_role), $last_len: usize,)?
                     w: *mut f64, w_len: usize, iw: *mut u32, iw_len: usize,
                 ) -> u32;)*
             }

@@ -1,5 +1,5 @@
 //! Reads the Rust files out of the folder that is given and adds the lines by which a run is
-//! counted and private fields are read. The arithmetic stays the text as published.
+//! counted, refusals are told apart and private fields are read. The arithmetic stays the text as published.
 
 use std::env;
 use std::fs;
@@ -63,23 +63,41 @@ fn root(given: &Path) -> PathBuf {
 /// The text with one line beside each place that is counted, and readers of private fields.
 fn counted(name: &str, text: &str) -> String {
     match name {
+        "householder" => {
+            let mark = "pub(crate) fn factor(a: MatRef";
+            after(text, mark, "        reference::tally::factoring();") + READ_QR
+        }
         "nnls" => {
-            let text = after(text, "fn solve_passive(", "    reference::tally::factoring();");
             let text =
-                before(&text, ".min_by(|p, q|", "                .map(reference::tally::ratio)");
+                before(text, ".min_by(|p, q|", "                .map(reference::tally::ratio)");
             let block = "            reference::tally::block();";
-            before(&text, "z = solve_passive(a, b, &passive).0;", block)
+            let text = before(&text, "z = solve_passive(a, b, &passive).0;", block);
+            let text = before(&text, "x = z;", "                reference::tally::round();");
+            before(&text, "Err(Failure::IterationCap)", "            reference::tally::refused(7);")
+        }
+        "lsei" => {
+            let text = after(text, "if qr.rank() < n {", LOST_E);
+            let text = after(&text, "if qr.rank() < mc {", LOST_EQUALITIES);
+            before(&text, "Err(Failure::Infeasible)", "        reference::tally::refused(6);")
         }
         "subproblem" => after(text, "fn relaxed(", "    reference::tally::relaxed();"),
-        "householder" => format!("{text}{READ_QR}"),
         "hessian" => format!("{text}{READ_HESSIAN}"),
         _ => text.to_string(),
     }
 }
 
-/// Reads the factorization: the triangle, and each reflector's vector and divisor.
+/// Say which matrix fell short, and where.
+const LOST_E: &str = "        reference::tally::lost(reference::tally::Matrix::E, qr.standing());";
+const LOST_EQUALITIES: &str =
+    "        reference::tally::lost(reference::tally::Matrix::Equalities, qr.standing());";
+
+/// Reads the factorization: the triangle, each reflector's vector and divisor, and, where the rank
+/// is below the columns, the column that stands next after those taken, as the matrix counts it.
 const READ_QR: &str = "
 impl Qr {
+    pub(crate) fn standing(&self) -> usize {
+        self.perm[self.rank()]
+    }
     pub(crate) fn triangle(&self) -> &[f64] {
         &self.r
     }

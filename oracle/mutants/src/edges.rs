@@ -1,9 +1,24 @@
-//! Slips around the Rust files: in part 1, in the tests, in the round limit, in what is cleared.
+//! Slips around the Rust files: in part 1, in the tests, in the round limit, in what is cleared, in
+//! places and reports.
 
 use peer::{Library, library};
 use reference::Rust;
-use reference::call::{Call, Edge, passes};
-use reference::shape::{Op, WORKSPACES};
+use reference::call::{Call, Edge, Sound, passes};
+use reference::shape::{Op, REPORT, WORKSPACES};
+use reference::tally::{NOWHERE, Tally};
+
+/// Whether a call passes a test with a report of the right length.
+fn passes_reported(call: &Call, test: u32) -> bool {
+    let words = if call.op == Op::Step { REPORT } else { call.words };
+    passes(&Call { words, ..call.clone() }, test)
+}
+
+/// The rules' report, with a change to it.
+fn changed(tally: &Tally, change: impl Fn(&mut Tally)) -> [u32; REPORT] {
+    let mut tally = *tally;
+    change(&mut tally);
+    Sound::report(&tally)
+}
 
 /// Declares edges, each with its slip, and lists them.
 macro_rules! edges {
@@ -84,4 +99,105 @@ edges! {
     ClearedLong "f64 cleared past 8,192" { const CLEARED: [usize; 2] = [8193, 512]; }
     IndicesLong "u32 cleared past 512" { const CLEARED: [usize; 2] = [8192, 513]; }
     NothingCleared "workspaces never cleared" { const CLEARED: [usize; 2] = [0, 0]; }
+    ElevenUncleared "not cleared after 11" {
+        fn clears(number: u32) -> bool { number != 11 && Sound::clears(number) }
+    }
+    PlaceAlways "nowhere stored with 6 and 7" {
+        fn places(number: u32) -> bool { number >= 5 }
+    }
+    PlaceDone "nowhere stored with 0" {
+        fn places(number: u32) -> bool { number == 0 || Sound::places(number) }
+    }
+    PlaceOfEqualities "no place stored with 5" {
+        fn places(number: u32) -> bool { number == 11 }
+    }
+    PlaceOfE "no place stored with 11" {
+        fn places(number: u32) -> bool { number == 5 }
+    }
+    RelaxedPlace "place of the relaxed stage told for the exact one" {
+        fn report(tally: &Tally) -> [u32; REPORT] {
+            changed(tally, |tally| tally.stages[0].place = tally.stages[1].place)
+        }
+    }
+    ExactPlace "place of the exact stage told for the relaxed one" {
+        fn report(tally: &Tally) -> [u32; REPORT] {
+            changed(tally, |tally| tally.stages[1].place = tally.stages[0].place)
+        }
+    }
+    StagesExchanged "stages exchanged" {
+        fn report(tally: &Tally) -> [u32; REPORT] { changed(tally, |tally| tally.stages.reverse()) }
+    }
+    OnlyFailed "stages told of a failed step alone" {
+        fn report(tally: &Tally) -> [u32; REPORT] {
+            changed(tally, |tally| {
+                if tally.stages[1].number == 0 {
+                    tally.stages = Default::default();
+                }
+            })
+        }
+    }
+    FiveInReport "5 for equalities in the report" {
+        fn report(tally: &Tally) -> [u32; REPORT] {
+            changed(tally, |tally| {
+                if tally.stages[0].number == 11 {
+                    tally.stages[0].number = 5;
+                }
+            })
+        }
+    }
+    ZeroForNowhere "0 for nowhere in the report" {
+        fn report(tally: &Tally) -> [u32; REPORT] {
+            Sound::report(tally).map(|word| if word == NOWHERE { 0 } else { word })
+        }
+    }
+    ExactCounts "counts of the exact stage only" {
+        fn report(tally: &Tally) -> [u32; REPORT] {
+            changed(tally, |tally| tally.spent[1] = Default::default())
+        }
+    }
+    RelaxedCounts "counts of the last stage only" {
+        fn report(tally: &Tally) -> [u32; REPORT] {
+            changed(tally, |tally| {
+                if tally.relaxed > 0 {
+                    tally.spent[0] = Default::default();
+                }
+            })
+        }
+    }
+    CountsExchanged "rounds and factorings exchanged" {
+        fn report(tally: &Tally) -> [u32; REPORT] {
+            let mut report = Sound::report(tally);
+            report.swap(4, 5);
+            report
+        }
+    }
+    ReportedEarly "report written on 4" {
+        fn reports(number: u32) -> bool { number == 0 || number >= 4 }
+    }
+    ReportedDone "report written on 0 alone" {
+        fn reports(number: u32) -> bool { number == 0 }
+    }
+    ReportedFailed "report not written on 0" {
+        fn reports(number: u32) -> bool { number >= 5 }
+    }
+    AnyReport "a report of any length taken" {
+        fn passes(call: &Call, test: u32) -> bool { passes_reported(call, test) }
+    }
+    LongReport "a longer report taken" {
+        fn passes(call: &Call, test: u32) -> bool {
+            if call.words > REPORT { passes_reported(call, test) } else { passes(call, test) }
+        }
+    }
+    ReportFirst "the report's length before the sizes" {
+        const TESTS: [u32; 4] = [2, 1, 3, 4];
+        fn passes(call: &Call, test: u32) -> bool {
+            let reported = call.op != Op::Step || call.words == REPORT;
+            if test == 2 && !passes(call, 1) { reported } else { passes(call, test) }
+        }
+    }
+    ReportLate "the report's length after the workspaces" {
+        fn passes(call: &Call, test: u32) -> bool {
+            if passes(call, 3) { passes(call, test) } else { passes_reported(call, test) }
+        }
+    }
 }

@@ -6,7 +6,8 @@ use reference::call::{Edge, Kernels};
 use reference::shape::Op;
 
 /// Hands the table of the lent operations to a macro. A row: the operation, its function, its
-/// symbol, its sizes, its slices (pointer, length, role) and its single results.
+/// symbol, its sizes, its slices (pointer, length, role), its single results, and the slice that
+/// comes after these.
 #[macro_export]
 macro_rules! interface {
     ($apply:ident) => {
@@ -20,10 +21,10 @@ macro_rules! interface {
                 (g g_len read) (h h_len read) (x x_len write) (multipliers l_len write);
             Lsi lsi "gritstrut_lsi" [n me mg]
                 (e e_len read) (f f_len read) (g g_len read) (h h_len read)
-                (x x_len write) (multipliers l_len write);
+                (x x_len write) (multipliers l_len write) {place count};
             Lsei lsei "gritstrut_lsei" [n mc me mg]
                 (c c_len read) (d d_len read) (e e_len read) (f f_len read) (g g_len read)
-                (h h_len read) (x x_len write) (multipliers l_len write);
+                (h h_len read) (x x_len write) (multipliers l_len write) {place count};
             Identity identity "gritstrut_identity" [n] (b b_len write);
             Times times "gritstrut_times" [n]
                 (b b_len read) (v v_len read) (out out_len write);
@@ -34,7 +35,7 @@ macro_rules! interface {
                 (factor factor_len read) (gradient gradient_len read) (kinds kinds_len kind)
                 (values values_len read) (jacobian jacobian_len read) (lower lower_len read)
                 (upper upper_len read) (d d_len write) (multipliers l_len write)
-                {relaxation real};
+                {relaxation real} [report report_len index];
         }
     };
 }
@@ -78,7 +79,7 @@ struct Arguments {
     inputs: Vec<Vec<f64>>,
     kinds: Vec<u8>,
     outputs: Vec<(*mut f64, usize)>,
-    perm: Option<(*mut u32, usize)>,
+    words: Option<(*mut u32, usize)>,
     counts: Vec<*mut u32>,
     value: Option<*mut f64>,
 }
@@ -98,7 +99,7 @@ impl Arguments {
         self.outputs.push((data, len));
     }
     unsafe fn index(&mut self, data: *mut u32, len: usize) {
-        self.perm = Some((data, len));
+        self.words = Some((data, len));
     }
     fn count(&mut self, place: *mut u32) {
         self.counts.push(place);
@@ -115,7 +116,7 @@ impl Arguments {
         iw: (*mut u32, usize),
     ) -> u32 {
         let mut lent = Lent::new(&self.outputs, w, iw);
-        lent.perm = self.perm.unwrap_or(lent.perm);
+        lent.words = self.words.unwrap_or(lent.words);
         (lent.counts, lent.value) = (self.counts, self.value);
         unsafe { serve::<K, E>(op, sizes, self.inputs, self.kinds, lent) }
     }
@@ -123,7 +124,8 @@ impl Arguments {
 
 macro_rules! define {
     ($($op:ident $name:ident $symbol:tt [$($size:ident)*]
-        $(($data:ident $len:ident $role:ident))* $({$place:ident $what:ident})*;)*) => {
+        $(($data:ident $len:ident $role:ident))* $({$place:ident $what:ident})*
+        $([$last:ident $last_len:ident $last_role:ident])?;)*) => {
         /// A library's functions, by operation.
         #[derive(Clone, Copy)]
         pub struct Library {
@@ -132,6 +134,7 @@ macro_rules! define {
             pub norm: unsafe extern "C" fn(*const f64, usize) -> f64,
             $(pub $name: unsafe extern "C" fn(
                 $(count_size!($size),)* $(pointer!($role), usize,)* $(pointer!($what),)*
+                $(pointer!($last_role), usize,)?
                 *mut f64, usize, *mut u32, usize,
             ) -> u32,)*
         }
@@ -150,11 +153,13 @@ macro_rules! define {
                         $(let $size = lender.size();)*
                         $(let ($data, $len) = lender.$role();)*
                         $(let $place = lender.$what();)*
+                        $(let ($last, $last_len) = lender.$last_role();)?
                         let ((w, w_len), (iw, iw_len)) =
                             (lender.workspace(), lender.index_workspace());
                         unsafe {
                             (self.$name)(
-                                $($size,)* $($data, $len,)* $($place,)* w, w_len, iw, iw_len,
+                                $($size,)* $($data, $len,)* $($place,)* $($last, $last_len,)?
+                                w, w_len, iw, iw_len,
                             )
                         }
                     })*
@@ -166,6 +171,7 @@ macro_rules! define {
         $(#[allow(clippy::too_many_arguments)]
         unsafe extern "C" fn $name<K: Kernels, E: Edge>(
             $($size: usize,)* $($data: pointer!($role), $len: usize,)* $($place: pointer!($what),)*
+            $($last: pointer!($last_role), $last_len: usize,)?
             w: *mut f64, w_len: usize, iw: *mut u32, iw_len: usize,
         ) -> u32 {
             #[allow(unused_mut)]
@@ -173,6 +179,7 @@ macro_rules! define {
             unsafe {
                 $(arguments.$role($data, $len);)*
                 $(arguments.$what($place);)*
+                $(arguments.$last_role($last, $last_len);)?
                 arguments.answer::<K, E>(Op::$op, &[$($size),*], (w, w_len), (iw, iw_len))
             }
         })*

@@ -11,7 +11,7 @@ const BROKEN: u32 = 99;
 /// Everything that a call may write.
 pub struct Lent {
     pub outputs: Vec<(*mut f64, usize)>,
-    pub perm: (*mut u32, usize),
+    pub words: (*mut u32, usize),
     pub counts: Vec<*mut u32>,
     pub value: Option<*mut f64>,
     pub w: (*mut f64, usize),
@@ -21,8 +21,8 @@ pub struct Lent {
 impl Lent {
     /// Outputs and workspaces alone.
     pub fn new(outputs: &[(*mut f64, usize)], w: (*mut f64, usize), iw: (*mut u32, usize)) -> Self {
-        let perm = (std::ptr::NonNull::dangling().as_ptr(), 0);
-        Self { outputs: outputs.to_vec(), perm, counts: vec![], value: None, w, iw }
+        let words = (std::ptr::NonNull::dangling().as_ptr(), 0);
+        Self { outputs: outputs.to_vec(), words, counts: vec![], value: None, w, iw }
     }
 }
 
@@ -34,8 +34,10 @@ pub unsafe fn read<T: Clone>(data: *const T, len: usize) -> Vec<T> {
     unsafe { slice::from_raw_parts(data, len) }.to_vec()
 }
 
+/// Writes values into a slice: all of them, but where a slip takes one that is too short.
 unsafe fn write<T: Copy>(lent: (*mut T, usize), values: &[T]) {
-    unsafe { slice::from_raw_parts_mut(lent.0, lent.1) }.copy_from_slice(values);
+    let entries = lent.1.min(values.len());
+    unsafe { slice::from_raw_parts_mut(lent.0, entries) }.copy_from_slice(&values[..entries]);
 }
 
 unsafe fn clear<T: Copy>(lent: (*mut T, usize), entries: usize, zero: T) {
@@ -63,7 +65,7 @@ pub unsafe fn serve<K: Kernels, E: Edge>(
             Op::Update => vec![],
             _ => lent.outputs.iter().map(|output| output.1).collect(),
         },
-        perm: lent.perm.1,
+        words: lent.words.1,
         work: [lent.w.1, lent.iw.1],
     };
     let run = panic::catch_unwind(|| answer::<K, E>(&call));
@@ -74,17 +76,15 @@ pub unsafe fn serve<K: Kernels, E: Edge>(
 
 unsafe fn settle<E: Edge>(answer: &Answer, lent: &Lent) {
     unsafe {
-        if answer.number == 0 {
-            for (output, values) in lent.outputs.iter().zip(&answer.outputs) {
-                write(*output, values);
-            }
-            write(lent.perm, &answer.perm);
-            for (place, count) in lent.counts.iter().zip(&answer.counts) {
-                place.write(*count);
-            }
-            if let (Some(place), Some(value)) = (lent.value, answer.value) {
-                place.write(value);
-            }
+        for (output, values) in lent.outputs.iter().zip(&answer.outputs) {
+            write(*output, values);
+        }
+        write(lent.words, &answer.words);
+        for (place, count) in lent.counts.iter().zip(&answer.counts) {
+            place.write(*count);
+        }
+        if let (Some(place), Some(value)) = (lent.value, answer.value) {
+            place.write(value);
         }
         if E::clears(answer.number) {
             clear(lent.w, E::CLEARED[0], 0.0);

@@ -1,6 +1,6 @@
 //! A call of a public operation and the full answer that it is owed.
 
-use crate::shape::{Lengths, Op, WORKSPACES};
+use crate::shape::{Lengths, Op, REPORT, WORKSPACES};
 use crate::stand_in::{self, Failure};
 use crate::tally::{self, Tally};
 
@@ -16,8 +16,8 @@ pub struct Call {
     pub kinds: Vec<u8>,
     /// The lengths of the slices of f64 that are written.
     pub outputs: Vec<usize>,
-    /// The length of the permutation.
-    pub perm: usize,
+    /// The length of the slice of u32 that is written: QR's permutation, a step's report.
+    pub words: usize,
     /// The lengths of the workspaces.
     pub work: [usize; 2],
 }
@@ -25,9 +25,9 @@ pub struct Call {
 impl Call {
     /// A call whose outputs and workspaces are as long as its sizes ask.
     pub fn new(op: Op, sizes: &[usize], inputs: Vec<Vec<f64>>) -> Self {
-        let Lengths { kinds, outputs, perm, .. } = op.lengths(sizes);
+        let Lengths { kinds, outputs, words, .. } = op.lengths(sizes);
         let (sizes, kinds) = (sizes.to_vec(), vec![0; kinds]);
-        Self { op, sizes, inputs, kinds, outputs, perm, work: WORKSPACES }
+        Self { op, sizes, inputs, kinds, outputs, words, work: WORKSPACES }
     }
 
     /// The lengths of the slices as they are.
@@ -36,19 +36,21 @@ impl Call {
             inputs: self.inputs.iter().map(Vec::len).collect(),
             kinds: self.kinds.len(),
             outputs: self.outputs.clone(),
-            perm: self.perm,
+            words: self.words,
         }
     }
 }
 
-/// What a call returns: its number, and with 0 all its values.
+/// What a call returns: its number, and all that it writes; what is missing here stays untouched.
 #[derive(Debug, Clone, Default)]
 pub struct Answer {
     pub number: u32,
     /// The slices of f64 that are written; for `update` the matrix afterwards.
     pub outputs: Vec<Vec<f64>>,
-    pub perm: Vec<u32>,
-    /// The rank; or the rounds and the factorings.
+    /// The permutation, or the report of a step: exact number and place, relaxed number and place,
+    /// rounds, factorings.
+    pub words: Vec<u32>,
+    /// The rank; the rounds and the factorings; or the place where rank was lost.
     pub counts: Vec<u32>,
     /// The relaxation, or the value of a root, sum or norm.
     pub value: Option<f64>,
@@ -77,25 +79,26 @@ impl Answer {
 
     /// Whether the other has the same number, counts and values, any NaN for any NaN.
     pub fn same(&self, other: &Answer) -> bool {
-        let words = |answer: &Answer| -> Vec<u64> {
+        let bits = |answer: &Answer| -> Vec<u64> {
             let values = answer.outputs.iter().flatten().chain(&answer.value);
             values.map(|x| if x.is_nan() { u64::MAX } else { x.to_bits() }).collect()
         };
-        let told = |answer: &Answer| (answer.number, answer.counts.clone(), answer.perm.clone());
-        told(self) == told(other) && words(self) == words(other)
+        let told = |answer: &Answer| (answer.number, answer.counts.clone(), answer.words.clone());
+        told(self) == told(other) && bits(self) == bits(other)
     }
 
-    /// Whether this is an answer and the other was kept from one by its rank: refused with 5, of
-    /// rank 0, or with no column of NNLS kept.
+    /// Whether this is an answer and the other was kept from one by its rank: refused with 5 or 11,
+    /// of rank 0, or with no column of NNLS kept.
     pub fn ranks_beside(&self, other: &Answer) -> bool {
-        let none = |answer: &Answer| answer.number == 5 || answer.counts.first() == Some(&0);
+        let none =
+            |answer: &Answer| matches!(answer.number, 5 | 11) || answer.counts.first() == Some(&0);
         self.number == 0 && !none(self) && none(other)
     }
 
     /// Columns that NNLS tried and put back.
     pub fn rejected(&self) -> u32 {
         let rounds = self.counts.first().copied().unwrap_or(0);
-        (self.tally.factorings - self.tally.blocks).saturating_sub(rounds)
+        (self.tally.total().factorings - self.tally.blocks).saturating_sub(rounds)
     }
 }
 
@@ -141,6 +144,19 @@ pub trait Edge: 'static {
     /// Whether a number leaves the workspaces cleared.
     fn clears(number: u32) -> bool {
         number == 0 || number >= 5
+    }
+    /// Whether LSI and LSEI store a place with a number.
+    fn places(number: u32) -> bool {
+        matches!(number, 5 | 11)
+    }
+    /// Whether a step writes its report with a number.
+    fn reports(number: u32) -> bool {
+        number == 0 || number >= 5
+    }
+    /// A step's report.
+    fn report(tally: &Tally) -> [u32; REPORT] {
+        let ([exact, relaxed], spent) = (tally.stages, tally.total());
+        [exact.number, exact.place, relaxed.number, relaxed.place, spent.rounds, spent.factorings]
     }
 }
 
@@ -202,14 +218,18 @@ fn fits(call: &Call) -> bool {
 
 /// The full answer to a call.
 pub fn answer<K: Kernels, E: Edge>(call: &Call) -> Answer {
-    if let Some(number) = refusal::<E>(call) {
-        return Answer::refused(number);
-    }
     tally::take();
-    let mut answer = arithmetic::<K, E>(call);
+    let mut answer = match refusal::<E>(call) {
+        Some(number) => Answer::refused(number),
+        None => arithmetic::<K, E>(call),
+    };
     answer.tally = tally::take();
-    if call.op == Op::Nnls && answer.number == 0 {
-        answer.counts.push(answer.tally.factorings);
+    let number = answer.number;
+    match call.op {
+        Op::Nnls if number == 0 => answer.counts.push(answer.tally.total().factorings),
+        Op::Lsi | Op::Lsei if E::places(number) => answer.counts.push(answer.tally.short().place),
+        Op::Step if E::reports(number) => answer.words = E::report(&answer.tally).to_vec(),
+        _ => {}
     }
     answer
 }
@@ -251,13 +271,13 @@ fn arithmetic<K: Kernels, E: Edge>(call: &Call) -> Answer {
 
 fn factored(factored: Factored) -> Answer {
     let Factored { rank, r, perm, u, b } = factored;
-    Answer { perm, counts: vec![rank as u32], ..Answer::written(vec![r, u, b]) }
+    Answer { words: perm, counts: vec![rank as u32], ..Answer::written(vec![r, u, b]) }
 }
 
 fn solved(result: Result<Solution, Failure>) -> Answer {
     match result {
         Ok(Solution { x, multipliers }) => Answer::written(vec![x, multipliers]),
-        Err(Failure::RankDeficient) => Answer::refused(5),
+        Err(Failure::RankDeficient) => Answer::refused(tally::so_far().short().number),
         Err(Failure::Infeasible) => Answer::refused(6),
         Err(Failure::IterationCap) => Answer::refused(7),
     }

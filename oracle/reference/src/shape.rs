@@ -38,6 +38,9 @@ pub const OPS: [Op; 13] = [
 /// How many f64 and u32 the workspaces hold at least.
 pub const WORKSPACES: [usize; 2] = [8192, 512];
 
+/// How many entries a step's report has.
+pub const REPORT: usize = 6;
+
 /// The lengths of an operation's slices, each group in the order of the C interface.
 #[derive(Debug, Clone, PartialEq, Eq, Default)]
 pub struct Lengths {
@@ -47,8 +50,8 @@ pub struct Lengths {
     pub kinds: usize,
     /// Slices of f64 that are written.
     pub outputs: Vec<usize>,
-    /// Entries of the permutation.
-    pub perm: usize,
+    /// The slice of u32 that is written: QR's permutation, a step's report.
+    pub words: usize,
 }
 
 impl Op {
@@ -138,7 +141,11 @@ impl Op {
             }
         };
         let kinds = if self == Op::Step { second } else { 0 };
-        let perm = if self == Op::Qr { second } else { 0 };
-        Lengths { inputs, kinds, outputs, perm }
+        let words = match self {
+            Op::Qr => second,
+            Op::Step => REPORT,
+            _ => 0,
+        };
+        Lengths { inputs, kinds, outputs, words }
     }
 }

@@ -5,11 +5,45 @@ use std::cell::Cell;
 /// More factorings than any call can need; a run that comes here does not end.
 const TOO_MANY: u32 = 100_000;
 
-/// The counts of one run.
+/// The place of a stage that has none.
+pub const NOWHERE: u32 = u32::MAX;
+
+/// How a stage ended: 0 where it answered or was not tried, else why it was refused, and the place
+/// where rank was lost.
+#[derive(Debug, Clone, Copy, PartialEq, Eq)]
+pub struct Stage {
+    pub number: u32,
+    pub place: u32,
+}
+
+/// A stage that was not refused.
+const PASSED: Stage = Stage { number: 0, place: NOWHERE };
+
+impl Default for Stage {
+    fn default() -> Self {
+        PASSED
+    }
+}
+
+/// What a stage took.
+#[derive(Debug, Clone, Copy, Default, PartialEq, Eq)]
+pub struct Spent {
+    /// Rounds of NNLS, a refused one not among them.
+    pub rounds: u32,
+    /// Calls of `factor`, those on no columns too.
+    pub factorings: u32,
+}
+
+const NOTHING: Spent = Spent { rounds: 0, factorings: 0 };
+
+/// The counts of one run. Of a step the first stage is the exact problem and the second the relaxed
+/// one; everything else has one stage.
 #[derive(Debug, Clone, Copy, Default)]
 pub struct Tally {
-    /// Solves on passive columns.
-    pub factorings: u32,
+    /// How the stages that were refused ended, in their order.
+    pub stages: [Stage; 2],
+    /// What the stages took.
+    pub spent: [Spent; 2],
     /// Solves repeated after a blocking column left.
     pub blocks: u32,
     /// Blocking ratios that were NaN.
@@ -18,9 +52,32 @@ pub struct Tally {
     pub relaxed: u32,
 }
 
+impl Tally {
+    /// What both stages took.
+    pub fn total(&self) -> Spent {
+        let [first, second] = self.spent;
+        Spent {
+            rounds: first.rounds + second.rounds,
+            factorings: first.factorings + second.factorings,
+        }
+    }
+
+    /// The last refusal by rank; none is a stage that passed.
+    pub fn short(&self) -> Stage {
+        let mut refused = self.stages.into_iter().rev();
+        refused.find(|stage| stage.place != NOWHERE).unwrap_or(PASSED)
+    }
+}
+
 thread_local! {
     static TALLY: Cell<Tally> = const {
-        Cell::new(Tally { factorings: 0, blocks: 0, nan_ratios: 0, relaxed: 0 })
+        Cell::new(Tally {
+            stages: [PASSED; 2],
+            spent: [NOTHING; 2],
+            blocks: 0,
+            nan_ratios: 0,
+            relaxed: 0,
+        })
     };
 }
 
@@ -43,15 +100,30 @@ fn raise(raised: impl Fn(&mut Tally)) -> Tally {
     })
 }
 
+/// The stage that is run: 1 in a relaxed problem, else 0.
+fn running(tally: &Tally) -> usize {
+    usize::from(tally.relaxed > 0)
+}
+
+/// The counts so far.
+pub fn so_far() -> Tally {
+    TALLY.with(Cell::get)
+}
+
 /// Answers the counts so far and starts again from none.
 pub fn take() -> Tally {
     TALLY.with(Cell::take)
 }
 
-/// Counts one solve on passive columns.
+/// Counts one call of `factor`.
 pub fn factoring() {
-    let tally = raise(|tally| tally.factorings += 1);
-    assert!(tally.factorings < TOO_MANY, "the run does not end");
+    let tally = raise(|tally| tally.spent[running(tally)].factorings += 1);
+    assert!(tally.total().factorings < TOO_MANY, "the run does not end");
+}
+
+/// Counts one round of NNLS, where it ends.
+pub fn round() {
+    raise(|tally| tally.spent[running(tally)].rounds += 1);
 }
 
 /// Counts one solve repeated after a blocking column left.
@@ -62,6 +134,29 @@ pub fn block() {
 /// Counts one relaxed problem.
 pub fn relaxed() {
     raise(|tally| tally.relaxed += 1);
+}
+
+/// Ends the stage that is run with a number that has no place.
+pub fn refused(number: u32) {
+    raise(|tally| tally.stages[running(tally)] = Stage { number, place: NOWHERE });
+}
+
+/// A matrix whose rank can fall short.
+#[derive(Debug, Clone, Copy, PartialEq, Eq)]
+pub enum Matrix {
+    E,
+    Equalities,
+}
+
+/// Ends the stage that is run where the rank of a matrix falls short. The Rust says `RankDeficient`
+/// of E and of the equality matrix alike; here, and nowhere else, the second is read as 11. What is
+/// factored there is C', so its columns are the equalities.
+pub fn lost(of: Matrix, standing: usize) {
+    let number = match of {
+        Matrix::E => 5,
+        Matrix::Equalities => 11,
+    };
+    raise(|tally| tally.stages[running(tally)] = Stage { number, place: standing as u32 });
 }
 
 /// Passes a blocking candidate on; a NaN ratio is counted and given the sign with which the

@@ -8,7 +8,8 @@ use reference::shape::{Op, WORKSPACES};
 const PRIME: u64 = 4_294_967_291;
 const FACTOR: u64 = 1_664_525;
 
-/// The memory of an output, of the two workspaces, and of the permutation.
+/// The memory of an output and of the two workspaces; that of the permutation, in which the report of
+/// a step stands too, is as long as the second.
 const OUTPUT: usize = 1_200;
 const ROOMS: [usize; 2] = [8_231, 551];
 
@@ -60,7 +61,16 @@ fn room(which: usize, number: u32, before: u64) -> Vec<u64> {
     words
 }
 
-/// The single results, the last output and the permutation of QR, the kinds of a step.
+/// The memory of the permutation, or of the report.
+fn places(owed: &Answer, mark: u32) -> Vec<u64> {
+    let mut words = vec![u64::from(mark); ROOMS[1]];
+    for (to, &word) in words.iter_mut().zip(&owed.words) {
+        *to = u64::from(word);
+    }
+    words
+}
+
+/// The single results, the last output and the permutation of QR, the report and kinds of a step.
 fn mix_own(digest: &mut Digest, stored: &Stored, owed: &Answer) {
     let Stored { call, fill: Fill { output, mark, .. } } = stored;
     let counts = |i: usize| u64::from(owed.counts.get(i).copied().unwrap_or(*mark));
@@ -68,15 +78,13 @@ fn mix_own(digest: &mut Digest, stored: &Stored, owed: &Answer) {
         Op::Qr => {
             digest.mix(counts(0));
             digest.mix_all(memory(written(owed, 2), *output, OUTPUT));
-            let mut perm = vec![u64::from(*mark); ROOMS[1]];
-            for (to, &column) in perm.iter_mut().zip(&owed.perm) {
-                *to = u64::from(column);
-            }
-            digest.mix_all(perm);
+            digest.mix_all(places(owed, *mark));
         }
         Op::Nnls => digest.mix_all([counts(0), counts(1)]),
+        Op::Lsi | Op::Lsei => digest.mix(counts(0)),
         Op::Step => {
             digest.mix(owed.value.map_or(*output, pattern));
+            digest.mix_all(places(owed, *mark));
             digest.mix(call.kinds.len() as u64);
             digest.mix_all(call.kinds.iter().map(|&kind| u64::from(kind)));
         }

@@ -115,7 +115,7 @@ struct Buffers {
     inputs: Vec<Held<f64>>,
     kinds: Held<u8>,
     outputs: Vec<Held<f64>>,
-    perm: Held<u32>,
+    words: Held<u32>,
     counts: Vec<Held<u32>>,
     value: Held<f64>,
     w: Held<f64>,
@@ -134,7 +134,7 @@ impl Buffers {
             inputs,
             kinds: Held::of(&call.kinds, junk, draw),
             outputs,
-            perm: Held::junk(call.perm, junk, draw),
+            words: Held::junk(call.words, junk, draw),
             counts,
             value: Held::junk(1, junk, draw),
             w: Held::junk(call.work[0], junk, draw),
@@ -171,7 +171,7 @@ impl Lender for Buffers {
         self.inputs[next].pointer()
     }
     fn index(&mut self) -> (*mut u32, usize) {
-        self.perm.pointer()
+        self.words.pointer()
     }
     fn count(&mut self) -> *mut u32 {
         let next = self.next(3);
@@ -214,14 +214,10 @@ pub fn compare(
     if number != owed.number {
         found.push(format!("number: owed {}, found {number}", owed.number));
     }
-    let done = owed.number == 0;
-    compare_inputs(&buffers, call.op == Op::Update && done, &mut found);
+    compare_inputs(&buffers, call.op == Op::Update && owed.number == 0, &mut found);
     compare_workspaces(&buffers, owed.number, &mut found);
-    if done {
-        compare_outputs(&buffers, call.op, owed, &mut found);
-    } else {
-        compare_untouched(&buffers, &mut found);
-    }
+    compare_outputs(&buffers, call.op, owed, &mut found);
+    compare_single(&buffers, owed, &mut found);
     found
 }
 
@@ -286,44 +282,49 @@ fn compare_workspaces(buffers: &Buffers, number: u32, found: &mut Vec<String>) {
     }
 }
 
+/// Outputs and the slice of u32: as owed where the answer has them, else untouched.
 fn compare_outputs(buffers: &Buffers, op: Op, owed: &Answer, found: &mut Vec<String>) {
-    let written = if op == Op::Update { &buffers.inputs[..1] } else { &buffers.outputs[..] };
-    for (i, (held, values)) in written.iter().zip(&owed.outputs).enumerate() {
-        for (j, (&value, &owed)) in held.body().iter().zip(values).enumerate() {
+    let (updated, done) = (op == Op::Update, owed.number == 0);
+    let written = if updated && done { &buffers.inputs[..1] } else { &buffers.outputs[..] };
+    for (i, held) in written.iter().enumerate() {
+        let values = owed.outputs.get(i).map(Vec::as_slice);
+        for (j, (&value, &owed)) in held.body().iter().zip(values.unwrap_or(&[])).enumerate() {
             if !same(owed, value) {
                 let (owed, value) = (shown(owed), shown(value));
                 found.push(format!("output {i} at {j}: owed {owed}, found {value}"));
             }
         }
-        if let Some(entry) = held.spilt() {
-            found.push(format!("output {i} spilt at {entry}"));
+        compare_rest(&format!("output {i}"), held, values.is_some(), found);
+    }
+    let reported = !owed.words.is_empty();
+    if reported && buffers.words.body() != owed.words {
+        let name = if op == Op::Step { "report" } else { "perm" };
+        found.push(format!("{name}: owed {:?}, found {:?}", owed.words, buffers.words.body()));
+    }
+    compare_rest("perm or report", &buffers.words, reported, found);
+}
+
+/// Rank, counts, place and relaxation: as owed where the answer has them, else untouched.
+fn compare_single(buffers: &Buffers, owed: &Answer, found: &mut Vec<String>) {
+    for (i, held) in buffers.counts.iter().enumerate() {
+        let count = owed.counts.get(i);
+        if count.is_some_and(|&count| held.body() != [count]) {
+            found.push(format!("count {i}: owed {}, found {:?}", owed.counts[i], held.body()));
         }
+        compare_rest(&format!("count {i}"), held, count.is_some(), found);
     }
-    if buffers.perm.body() != owed.perm {
-        found.push(format!("perm: owed {:?}, found {:?}", owed.perm, buffers.perm.body()));
-    }
-    for (i, (held, &count)) in buffers.counts.iter().zip(&owed.counts).enumerate() {
-        if held.body() != [count] {
-            found.push(format!("count {i}: owed {count}, found {:?}", held.body()));
-        }
-    }
-    let (value, spilt) = (buffers.value.body()[0], buffers.perm.spilt());
+    let value = buffers.value.body()[0];
     if owed.value.is_some_and(|owed| !same(owed, value)) {
         found.push(format!("relaxation: owed {:?}, found {}", owed.value, shown(value)));
     }
-    if spilt.is_some() {
-        found.push(format!("perm spilt at {spilt:?}"));
-    }
+    compare_rest("relaxation", &buffers.value, owed.value.is_some(), found);
 }
 
-fn compare_untouched(buffers: &Buffers, found: &mut Vec<String>) {
-    for (i, output) in buffers.outputs.iter().enumerate() {
-        if let Some(entry) = output.changed(0) {
-            found.push(format!("output {i} touched at {entry}"));
-        }
-    }
-    let counts = buffers.counts.iter().any(|held| held.changed(0).is_some());
-    if counts || buffers.perm.changed(0).is_some() || buffers.value.changed(0).is_some() {
-        found.push("perm, a count or the relaxation touched".to_string());
+/// What stays of a buffer: the margin where it is written, else all of it.
+fn compare_rest<T: Pattern>(name: &str, held: &Held<T>, written: bool, found: &mut Vec<String>) {
+    let (entry, what) =
+        if written { (held.spilt(), "spilt") } else { (held.changed(0), "touched") };
+    if let Some(entry) = entry {
+        found.push(format!("{name} {what} at {entry}"));
     }
 }

@@ -5,6 +5,7 @@ use crate::draw::Draw;
 use crate::held::{Junk, compare};
 use crate::kinds::{Kind, Share, all};
 use crate::stored::{self, BYTES, Fill, HEADER, Rest, Stored};
+use crate::table::NUMBERS;
 use peer::Library;
 use reference::Rust;
 use reference::call::{Answer, Call, Sound, answer};
@@ -16,7 +17,8 @@ type Chosen = (Call, Answer);
 /// The first word of a list.
 const MARK: u64 = u64::from_le_bytes(*b"GRITLIST");
 
-/// The longest slices of f64, kinds and permutations, and the longest call, that a list has.
+/// The longest slices of f64, kinds, permutations and reports, and the longest call, that a list
+/// has.
 const LONGEST: [usize; 3] = [1200, 80, 4096];
 
 /// How many words a call may take, by turns: mostly few, now and then any.
@@ -35,7 +37,7 @@ fn words(call: &Call, owed: &Answer) -> usize {
     let rooms = if call.op.is_lent() { 2 } else { 0 };
     let lengths = 1 + groups.iter().sum::<usize>() + single + rooms;
     let inputs = call.inputs.iter().map(Vec::len).sum::<usize>() + call.kinds.len();
-    let outputs = owed.outputs.iter().map(Vec::len).sum::<usize>() + owed.perm.len();
+    let outputs = owed.outputs.iter().map(Vec::len).sum::<usize>() + owed.words.len();
     lengths + inputs + outputs + owed.counts.len() + usize::from(owed.value.is_some())
 }
 
@@ -44,7 +46,7 @@ fn fits(call: &Call) -> bool {
     let reals = call.inputs.iter().map(Vec::len).chain(call.outputs.iter().copied());
     let bytes = HEADER + 8 * call.inputs.iter().map(Vec::len).sum::<usize>() + call.kinds.len();
     let longest = reals.max().unwrap_or(0);
-    longest <= LONGEST[0] && call.kinds.len().max(call.perm) <= LONGEST[1] && bytes <= BYTES
+    longest <= LONGEST[0] && call.kinds.len().max(call.words) <= LONGEST[1] && bytes <= BYTES
 }
 
 /// The next call of a kind from an index on that takes no more words than allowed.
@@ -82,7 +84,7 @@ fn sampled(place: usize, kind: &Kind, seed: u64, each: usize) -> Vec<Chosen> {
 }
 
 /// Calls of numbers that an operation's short calls seldom or never have.
-fn seldom(kind: &Kind, seed: u64, had: &mut [[u64; 9]; OPS.len()]) -> Vec<Chosen> {
+fn seldom(kind: &Kind, seed: u64, had: &mut [[u64; NUMBERS]; OPS.len()]) -> Vec<Chosen> {
     let mut taken = vec![];
     for index in 0..match kind.share {
         Share::All(_) => 0,
@@ -101,7 +103,7 @@ fn seldom(kind: &Kind, seed: u64, had: &mut [[u64; 9]; OPS.len()]) -> Vec<Chosen
 
 /// The calls of a list, so many of each kind, with their answers.
 fn chosen(seed: u64, each: usize) -> Vec<Chosen> {
-    let (kinds, mut had) = (all(), [[0; 9]; OPS.len()]);
+    let (kinds, mut had) = (all(), [[0; NUMBERS]; OPS.len()]);
     let mut calls: Vec<Chosen> = vec![];
     for (place, kind) in kinds.iter().enumerate() {
         calls.extend(sampled(place, kind, seed, each));
@@ -144,7 +146,7 @@ pub fn list(seed: u64, each: usize) -> List {
 pub struct Found {
     pub calls: u64,
     /// Calls by operation and by number.
-    pub numbers: [[u64; 9]; OPS.len()],
+    pub numbers: [[u64; NUMBERS]; OPS.len()],
     pub nan_ratios: u64,
     pub longest: usize,
     /// Lines that are not those of the Rust's answers.

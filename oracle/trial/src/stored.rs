@@ -3,6 +3,7 @@
 use crate::draw::{Draw, SPECIAL};
 use reference::call::{Answer, Call};
 use reference::shape::{OPS, Op};
+use reference::tally::NOWHERE;
 
 /// What stands for every NaN.
 pub const NAN: u64 = 0x7ff8_0000_0000_0000;
@@ -36,7 +37,7 @@ impl Fill {
         let taken: Vec<u64> = answers.map(|&value| pattern(value)).chain([0]).collect();
         let output = unlike(&mut draw, &taken);
         let room = unlike(&mut draw, &[0]);
-        let mark = draw.bits() as u32 | 1 << 31;
+        let mark = (draw.bits() as u32 | 1 << 31).min(NOWHERE - 1);
         Self { output, room, mark }
     }
 }
@@ -64,7 +65,7 @@ pub struct Stored {
 }
 
 impl Stored {
-    /// The lengths in the header's order: workspaces, outputs, permutation, kinds, inputs.
+    /// The lengths in the header's order: workspaces, outputs, permutation or report, kinds, inputs.
     fn lengths(&self) -> [usize; LENGTHS] {
         let call = &self.call;
         let mut lengths = [0; LENGTHS];
@@ -75,7 +76,7 @@ impl Stored {
         if call.op == Op::Update {
             lengths[2] = call.inputs[0].len();
         }
-        lengths[5] = call.perm;
+        lengths[5] = call.words;
         lengths[6] = call.kinds.len();
         for (to, values) in lengths[BEFORE_INPUTS..].iter_mut().zip(&call.inputs) {
             *to = values.len();
@@ -123,8 +124,8 @@ impl Stored {
         let kinds = rest.take(lengths[6])?.to_vec();
         let sizes = sizes[..op.sizes().len()].to_vec();
         let outputs = lengths[2..2 + like.outputs.len()].to_vec();
-        let (perm, work) = (lengths[5], [lengths[0], lengths[1]]);
-        let call = Call { op, sizes, inputs, kinds, outputs, perm, work };
+        let (words, work) = (lengths[5], [lengths[0], lengths[1]]);
+        let call = Call { op, sizes, inputs, kinds, outputs, words, work };
         if rest.0.is_empty() { Ok(Self { call, fill }) } else { Err("a call is too long".into()) }
     }
 }

@@ -2,6 +2,13 @@
 
 use reference::call::Answer;
 use reference::shape::Op;
+use reference::tally::{NOWHERE, Stage};
+
+/// Numbers that a call can be owed, from 0.
+pub const NUMBERS: usize = 12;
+
+/// The numbers that a stage of a step can end with.
+const ENDS: [u32; 5] = [0, 5, 6, 7, 11];
 
 /// What a kind of call is for: a kind that never comes there is a fault of the drawing.
 #[derive(Debug, Clone, Copy, PartialEq, Eq)]
@@ -22,13 +29,17 @@ pub enum Aim {
     Moved,
     /// An answer where the plain norm takes the rank away.
     Ranked,
+    /// Rank lost, with this number, at a place other than 0: of LSI, of LSEI, or of a stage.
+    Place(u32),
+    /// A step whose exact and relaxed stage end with these numbers.
+    Stages(u32, u32),
 }
 
 /// The counts of one kind.
 #[derive(Debug, Clone, Copy, Default)]
 pub struct Counts {
     pub calls: u64,
-    pub numbers: [u64; 9],
+    pub numbers: [u64; NUMBERS],
     pub relaxed: u64,
     pub nan: u64,
     pub blocked: u64,
@@ -36,7 +47,16 @@ pub struct Counts {
     pub not_comparable: u64,
     pub moved: u64,
     pub ranked: u64,
+    /// Rank lost at a place other than 0, by number.
+    pub placed: [u64; NUMBERS],
+    /// Steps by the ends of their stages, in the order of `ENDS`.
+    pub stages: [[u64; ENDS.len()]; ENDS.len()],
     pub different: u64,
+}
+
+/// The place of a stage's number in `ENDS`.
+fn end(number: u32) -> usize {
+    ENDS.iter().position(|&end| end == number).expect("a number that a stage can end with")
 }
 
 impl Counts {
@@ -51,6 +71,18 @@ impl Counts {
         self.rejected += u64::from(done && op == Op::Nnls && owed.rejected() > 0);
         self.not_comparable += u64::from(owed.tally.nan_ratios > 0);
         self.different += u64::from(different);
+        for Stage { number, place } in owed.tally.stages {
+            self.placed[number as usize] += u64::from(place != 0 && place != NOWHERE);
+        }
+        if op == Op::Step && !owed.words.is_empty() {
+            let [exact, relaxed] = owed.tally.stages;
+            self.stages[end(exact.number)][end(relaxed.number)] += 1;
+        }
+    }
+
+    /// Steps of which both stages were refused.
+    fn both(&self) -> u64 {
+        self.stages[1..].iter().map(|relaxed| relaxed[1..].iter().sum::<u64>()).sum()
     }
 
     /// Counts one call again, beside its answer over the plain norm.
@@ -73,6 +105,13 @@ impl Counts {
         self.moved += other.moved;
         self.ranked += other.ranked;
         self.different += other.different;
+        for (mine, theirs) in self.placed.iter_mut().zip(other.placed) {
+            *mine += theirs;
+        }
+        let stages = self.stages.iter_mut().flatten();
+        for (mine, theirs) in stages.zip(other.stages.iter().flatten()) {
+            *mine += theirs;
+        }
     }
 
     /// How often an aim was reached.
@@ -86,10 +125,12 @@ impl Counts {
             Aim::NanRatio => self.not_comparable,
             Aim::Moved => self.moved,
             Aim::Ranked => self.ranked,
+            Aim::Place(number) => self.placed[number as usize],
+            Aim::Stages(exact, relaxed) => self.stages[end(exact)][end(relaxed)],
         }
     }
 
-    fn columns(&self) -> [u64; 18] {
+    fn columns(&self) -> [u64; COLUMNS] {
         let n = self.numbers;
         [
             self.calls,
@@ -102,6 +143,7 @@ impl Counts {
             n[6],
             n[7],
             n[8],
+            n[11],
             self.relaxed,
             self.nan,
             self.blocked,
@@ -109,12 +151,17 @@ impl Counts {
             self.not_comparable,
             self.moved,
             self.ranked,
+            self.placed.iter().sum(),
+            self.both(),
             self.different,
         ]
     }
 }
 
-const HEADS: [&str; 18] = [
+/// Columns of the table.
+const COLUMNS: usize = 21;
+
+const HEADS: [&str; COLUMNS] = [
     "calls",
     "ok",
     "1",
@@ -125,6 +172,7 @@ const HEADS: [&str; 18] = [
     "6",
     "7",
     "8",
+    "11",
     "relaxed",
     "nan",
     "blocked",
@@ -132,11 +180,13 @@ const HEADS: [&str; 18] = [
     "nan ratio",
     "moved",
     "ranked",
+    "placed",
+    "both",
     "differ",
 ];
 
 /// Prints one line of the table.
-fn line(op: &str, kind: &str, columns: &[String; 18]) {
+fn line(op: &str, kind: &str, columns: &[String; COLUMNS]) {
     print!("{op:<9}{kind:<20}");
     for column in columns {
         print!("{column:>9}");

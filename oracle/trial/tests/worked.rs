@@ -3,6 +3,7 @@
 use reference::Rust;
 use reference::call::{Answer, Call, Sound, answer};
 use reference::shape::Op;
+use reference::tally::NOWHERE;
 use trial::records::{Slip, owed};
 
 fn call(op: Op, sizes: &[usize], inputs: &[&[f64]]) -> Call {
@@ -68,7 +69,74 @@ fn workspaces() {
 fn two_equalities_on_one_variable() {
     let inputs: [&[f64]; 6] =
         [&[1.0], &[1.0], &[0.0, 0.0], &[0.0, 0.0], &[f64::NEG_INFINITY], &[f64::INFINITY]];
-    assert_eq!(answered(Op::Step, &[1, 2], &inputs).tally.relaxed, 1);
+    let found = answered(Op::Step, &[1, 2], &inputs);
+    assert_eq!((found.number, found.tally.relaxed), (0, 1));
+    assert_eq!(found.words[..4], [11, 0, 0, NOWHERE]);
+}
+
+/// LSI on columns of which the first is twice the second, a third that is nothing, and too few rows.
+#[test]
+fn place_of_a_column() {
+    let place = |n, me, e: &[f64]| {
+        let f = vec![1.0; me];
+        let found = answered(Op::Lsi, &[n, me, 0], &[e, &f, &[], &[]]);
+        (found.number, found.counts)
+    };
+    assert_eq!(place(2, 2, &[2.0, 1.0, 2.0, 1.0]), (5, vec![1]));
+    assert_eq!(place(2, 2, &[1.0, 2.0, 1.0, 2.0]), (5, vec![0]));
+    assert_eq!(place(3, 3, &[1.0, 0.0, 0.0, 0.0, 0.0, 2.0, 0.0, 0.0, 0.0]), (5, vec![1]));
+    assert_eq!(place(2, 1, &[1.0, 2.0]), (5, vec![0]));
+    assert_eq!(place(2, 0, &[]), (5, vec![0]));
+    assert_eq!(place(1, 1, &[f64::NAN]), (5, vec![0]));
+    assert_eq!(place(2, 2, &[1.0, 0.0, 0.0, 1.0]), (0, vec![]));
+}
+
+/// LSEI on equalities that stand twice, or are more than the variables, and on E below them.
+#[test]
+fn place_of_an_equality() {
+    let place = |n, mc, c: &[f64], e: &[f64]| {
+        let (me, d) = (e.len().checked_div(n).unwrap_or(0), vec![1.0; mc]);
+        let f = vec![1.0; me];
+        let found = answered(Op::Lsei, &[n, mc, me, 0], &[c, &d, e, &f, &[], &[]]);
+        (found.number, found.counts)
+    };
+    let unit = [1.0, 0.0, 0.0, 1.0];
+    assert_eq!(place(2, 2, &[1.0, 1.0, 1.0, 1.0], &unit), (11, vec![1]));
+    assert_eq!(place(2, 2, &[1.0, 1.0, 2.0, 2.0], &unit), (11, vec![0]));
+    assert_eq!(place(1, 2, &[1.0, 1.0], &[1.0]), (11, vec![1]));
+    assert_eq!(place(0, 1, &[], &[]), (11, vec![0]));
+    assert_eq!(place(2, 1, &[1.0, 0.0], &[1.0, 0.0, 1.0, 0.0]), (5, vec![0]));
+    assert_eq!(place(2, 1, &[1.0, 0.0], &unit), (0, vec![]));
+}
+
+/// What a step says of itself: an unconstrained one factors C', of no columns, and E; a balance that
+/// stands twice after an inequality is counted among the equalities; and both stages can fail.
+#[test]
+fn reports() {
+    let open = [[f64::NEG_INFINITY; 2], [f64::INFINITY; 2]];
+    let report = |kinds: &[u8], values: &[f64], jacobian: &[f64], factor: &[f64]| {
+        let inputs: [&[f64]; 6] = [factor, &[1.0, 1.0], values, jacobian, &open[0], &open[1]];
+        let mut call = call(Op::Step, &[2, kinds.len()], &inputs);
+        call.kinds = kinds.to_vec();
+        let found = answer::<Rust, Sound>(&call);
+        (found.number, found.words)
+    };
+    let unit = [1.0, 0.0, 0.0, 1.0];
+    assert_eq!(report(&[], &[], &[], &unit), (0, vec![0, NOWHERE, 0, NOWHERE, 0, 2]));
+    let jacobian = [1.0, 0.0, 1.0, 1.0, 1.0, 1.0];
+    let (number, words) = report(&[1, 0, 0], &[1.0, 0.0, 0.0], &jacobian, &unit);
+    assert_eq!((number, &words[..4]), (0, &[11, 1, 0, NOWHERE][..]));
+    let (number, words) = report(&[1, 0, 0], &[1.0, 0.0, 0.0], &jacobian, &[1.0, 0.0, 0.0, 0.0]);
+    assert_eq!((number, words), (5, vec![11, 1, 5, 1, 0, 2]));
+    let mut call = call(Op::Step, &[1, 0], &[&[1.0], &[1.0], &[], &[], &[0.0], &[1.0]]);
+    for (words, number) in [(5, 2), (6, 0), (7, 2), (0, 2)] {
+        call.words = words;
+        assert_eq!(answer::<Rust, Sound>(&call).number, number);
+    }
+    (call.words, call.work[0]) = (5, 8191);
+    assert_eq!(answer::<Rust, Sound>(&call).number, 2);
+    call.sizes[0] = 17;
+    assert_eq!(answer::<Rust, Sound>(&call).number, 1);
 }
 
 #[test]

@@ -1,16 +1,14 @@
--- `gritstrut_lsi`: the number of what the operation tells.
-use mathlib.Core.Path.{_≡_, sym, _∙_}
+-- `gritstrut_lsi`: the operation's promise, its number and its place.
 use native.Mathlib.Omega.{arith}
-use borrow.Author.Needs.{needs}
-use Rattle.gritstrut.proofs.Leaves.{solve-leaves}
+use Rattle.gritstrut.proofs.Leaves.{place-leaves}
 use Rattle.gritstrut.proofs.gritstrut_lsi.Statement.{statement}
 use Rattle.gritstrut.proofs.gritstrut_lsi.Tie as tie
 
 solve-requires : tie.Need-solve-requires
 solve-requires c κs = tt
 
-number-requires : tie.Need-number-requires
-number-requires c κs = tt
+number-with-place-requires : tie.Need-number-with-place-requires
+number-with-place-requires c κs = tt
 
 same-length : tie.Need-same-length
 same-length c = omega arith
@@ -25,14 +23,14 @@ same-length-4 : tie.Need-same-length-4
 same-length-4 c = omega arith
 
 returns : tie.Need-returns
-returns c = solve-leaves _ _ _ _ _ _ _ _ _ _ _ (c .before .before .before .before .before .before .before .before .before .solve .ensures) (c .number .ensures)
+returns c = place-leaves _ _ _ _ _ _ _ _ _ _ _ _ _ (c .before .before .before .before .before .before .before .before .before .before .solve .ensures) (c .number-with-place .ensures)
 
 pub gritstrut-lsi-spec : {M : Type 1} → statement M
 gritstrut-lsi-spec =
     tie.close
     (tie.spec
     solve-requires
-    number-requires
+    number-with-place-requires
     same-length
     same-length-2
     same-length-3

@@ -1,4 +1,5 @@
 -- `solve_lsi`: the factors of E, the reduced inequalities, LDP in its part, and x.
+use mathlib.Core.Path.{refl}
 use lib.ListN.{length}
 use Prim.Native.Nat.{_-_}
 use native.Mathlib.Omega.{arith}
@@ -14,6 +15,14 @@ use Rattle.lsei.proofs.solve_lsi.Tie as tie
 factor-front-requires : tie.Need-factor-front-requires
 factor-front-requires c κs = omega arith
 
+mul-place : tie.Need-mul-place
+mul-place c = search needs
+
+slice-read-place : tie.Need-slice-read-place
+slice-read-place c = let s = c .before .before .before .before .before .before .before .before .before .before .before in
+    let F = c .before .before .before .before .before .before .factor-front in
+    omega (arith, c .before .if1 .taken, F .kept .1 .0, s .pre)
+
 same-length : tie.Need-same-length
 same-length c = omega arith
 
@@ -21,10 +30,10 @@ same-length-2 : tie.Need-same-length-2
 same-length-2 c = omega arith
 
 returns : tie.Need-returns
-returns c = let s = c .before .before .before .before .before .before .before .before .before .before in
+returns c = let s = c .before .before .before .before .before .before .before .before .before .before .before in
     let a = s .args in
-    let F = c .before .before .before .before .before .factor-front in
-    deficient-is (a .n) (a .me) (a .mg) (F .result) (a .w .now) (F .last .0) (F .last .1 .0) (s .pre .0) (s .pre .1) (F .ensures) (c .if1 .taken) (squaresIn (a .n) (a .mg) (F .last .0))
+    let F = c .before .before .before .before .before .before .factor-front in
+    deficient-is (a .n) (a .me) (a .mg) (F .result) (a .w .now) (F .last .0) (F .last .1 .0) (s .pre .0) (s .pre .1) (F .ensures) (c .before .if1 .taken) _ refl (squaresIn (a .n) (a .mg) (F .last .0))
 
 reduce-requires : tie.Need-reduce-requires
 reduce-requires c κs = let s = c .before .before .before .before .before .before .before .before .before .before .before .before in
@@ -73,8 +82,8 @@ part-solve-ldp-end-2 c = omega arith
 solve-ldp-requires : tie.Need-solve-ldp-requires
 solve-ldp-requires c κs = omega arith
 
-add-t22 : tie.Need-add-t22
-add-t22 c = let s = c .before .before .before .before .before .before .before .before .before .before .before .before .before .before .before .before .before .before .before .before .before .before .before in
+add-t26 : tie.Need-add-t26
+add-t26 c = let s = c .before .before .before .before .before .before .before .before .before .before .before .before .before .before .before .before .before .before .before .before .before .before .before in
     let a = s .args in
     let F = c .before .before .before .before .before .before .before .before .before .before .before .before .before .before .before .before .before .before .factor-front in
     let R = c .before .before .before .before .before .before .before .before .before .before .reduce in
@@ -134,6 +143,8 @@ solve-lsi-spec =
     tie.close
     (tie.spec
     factor-front-requires
+    mul-place
+    slice-read-place
     same-length
     same-length-2
     returns
@@ -145,7 +156,7 @@ solve-lsi-spec =
     part-solve-ldp-start-2
     part-solve-ldp-end-2
     solve-ldp-requires
-    add-t22
+    add-t26
     enum-told
     same-length-3
     same-length-4

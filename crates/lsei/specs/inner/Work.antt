@@ -4,14 +4,14 @@ use mathlib.Core.List.{List}
 use Prim.Native.Nat.{ℕ, _+_, _*_, _<_, _≤_}
 use lib.Ieee.{Float}
 use Rattle.numbers.specs.Numbers.{at, tab, gather, Σ, _⊖_, _⊗_}
-use Rattle.workspace.specs.Tables.{Answer, done, rankDeficient, infeasible, iterationCap}
+use Rattle.workspace.specs.Tables.{Answer, done, rankDeficient, dependent, infeasible, iterationCap}
 use Rattle.workspace.specs.inner.Readings.{vec, mat, stack, nums}
 use Rattle.householder.specs.Qr.{Factors, factor, applyQt, solveRt}
 use Rattle.householder.specs.inner.Work.{held}
 use Rattle.nnls.specs.Counted.{Counted}
 use Rattle.lsei.specs.Lsei.{Solution, reducedRows, reducedSides, restored}
 use Rattle.lsei.specs.declared.Ending.{Ending}
-use Rattle.lsei.specs.declared.Ending.the-variants.{Done, Deficient, Infeasible, Capped}
+use Rattle.lsei.specs.declared.Ending.the-variants.{Done, Deficient, Dependent, Infeasible, Capped}
 use Rattle.lsei.specs.declared.Ended.{Ended}
 use Rattle.householder.specs.inner.Places.{QR_MATRIX, QR_SOLUTION}
 use Rattle.lsei.specs.inner.Places.{LDP_MULTIPLIERS, LDP_X, LSI_F, LSI_G, LSI_LDP_X, LSI_MULTIPLIERS, LSI_X}
@@ -19,7 +19,8 @@ use Rattle.lsei.specs.inner.Places.{LDP_MULTIPLIERS, LDP_X, LSI_F, LSI_G
 -- an ending, with the solution that it left
 abbrev pub endingAnswer : Ending → Solution → Answer Solution
 endingAnswer Done s = done s
-endingAnswer Deficient s = rankDeficient
+endingAnswer (Deficient place) s = rankDeficient place
+endingAnswer (Dependent place) s = dependent place
 endingAnswer Infeasible s = infeasible
 endingAnswer Capped s = iterationCap
 

@@ -1,18 +1,27 @@
 -- `solve_lsei`: the factors of C', the reduced problem, LSI in its part, x and the multipliers.
 use Prim.Native.Nat.{_-_}
 use native.Mathlib.Omega.{arith}
+use mathlib.Core.Path.{refl}
 use lib.ListN.{length}
 use borrow.Author.Needs.{needs}
 use borrow.Rule.Slice.PartMut.{same-len-mid}
 use Rattle.workspace.proofs.Parts.{back-get}
 use Rattle.lsei.proofs.Kept.{perm-below}
 use Rattle.lsei_nullspace.specs.inner.Work.{solutionIn}
-use Rattle.lsei_nullspace.proofs.Together.{lsi-few, deficient-is, equalities-most, refused-is, done-is}
+use Rattle.lsei_nullspace.proofs.Together.{lsi-few, dependent-is, equalities-most, refused-is, done-is}
 use Rattle.lsei_nullspace.proofs.solve_lsei.Statement.{statement}
 use Rattle.lsei_nullspace.proofs.solve_lsei.Tie as tie
 
 factor-front-requires : tie.Need-factor-front-requires
 factor-front-requires c κs = omega arith
+
+mul-place : tie.Need-mul-place
+mul-place c = search needs
+
+slice-read-place : tie.Need-slice-read-place
+slice-read-place c = let s = c .before .before .before .before .before .before .before .before .before .before .before in
+    let F = c .before .before .before .before .before .before .factor-front in
+    omega (arith, c .before .if1 .taken, F .kept .1 .0, s .pre)
 
 same-length : tie.Need-same-length
 same-length c = omega arith
@@ -21,10 +30,10 @@ same-length-2 : tie.Need-same-length-2
 same-length-2 c = omega arith
 
 returns : tie.Need-returns
-returns c = let s = c .before .before .before .before .before .before .before .before .before .before in
+returns c = let s = c .before .before .before .before .before .before .before .before .before .before .before in
     let a = s .args in
-    let F = c .before .before .before .before .before .factor-front in
-    deficient-is (a .n) (a .mc) (a .me) (a .mg) (F .result) (a .w .now) (F .last .0) (F .last .1 .0) (s .pre .0) (s .pre .1) (s .pre .2) (s .pre .3) (F .ensures) (c .if1 .taken) (solutionIn (a .n) (a .mc) (a .mg) (F .last .0))
+    let F = c .before .before .before .before .before .before .factor-front in
+    dependent-is (a .n) (a .mc) (a .me) (a .mg) (F .result) (a .w .now) (F .last .0) (F .last .1 .0) (s .pre .0) (s .pre .1) (s .pre .2) (s .pre .3) (F .ensures) (c .before .if1 .taken) _ refl (solutionIn (a .n) (a .mc) (a .mg) (F .last .0))
 
 reduce-requires : tie.Need-reduce-requires
 reduce-requires c κs = let s = c .before .before .before .before .before .before .before .before .before .before .before .before in
@@ -82,8 +91,8 @@ sub-solve-lsi-3 c = let s = c .before .before .before .before .before .before .b
 solve-lsi-requires : tie.Need-solve-lsi-requires
 solve-lsi-requires c κs = omega arith
 
-add-t23 : tie.Need-add-t23
-add-t23 c = let s = c .before .before .before .before .before .before .before .before .before .before .before .before .before .before .before .before .before .before .before .before .before .before .before in
+add-t27 : tie.Need-add-t27
+add-t27 c = let s = c .before .before .before .before .before .before .before .before .before .before .before .before .before .before .before .before .before .before .before .before .before .before .before in
     let a = s .args in
     let F = c .before .before .before .before .before .before .before .before .before .before .before .before .before .before .before .before .before .before .factor-front in
     let R = c .before .before .before .before .before .before .before .before .before .before .reduce in
@@ -149,6 +158,8 @@ solve-lsei-spec =
     tie.close
     (tie.spec
     factor-front-requires
+    mul-place
+    slice-read-place
     same-length
     same-length-2
     returns
@@ -161,7 +172,7 @@ solve-lsei-spec =
     part-solve-lsi-end-2
     sub-solve-lsi-3
     solve-lsi-requires
-    add-t23
+    add-t27
     enum-told
     same-length-3
     same-length-4

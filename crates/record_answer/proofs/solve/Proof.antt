@@ -64,7 +64,7 @@ returns c =
     let k = c .before .before .before .before .before .before .before .solve in
     let w = c .before .before .before .before .before .before .before .before .before .before .before .before .before .before .before .before .before .before .before .before .before .before .before .before .before .float-room in
     let iw = c .before .before .before .before .before .before .before .before .before .before .before .before .before .before .before .before .before .before .before .before .before .before .before .before .word-room in
-    answer-is _ (k .result) (a .d .now) _ (a .multipliers .now) _ _ _ _ _ (k .ensures)
+    answer-is _ _ (k .result) (a .d .now) _ (a .multipliers .now) _ _ _ _ _ (k .ensures)
     ∙ ap (λ (p : Problem). stepCall p (a .d .now) (a .multipliers .now) (w .result) (iw .result))
     (parts-are (a .m) (a .n) _ (a .marks .now) (a .vals .now) _ _ _ _ _ _ _ (c .before .before .before .before .before .before .before .before .before .before .before .before .before .before .before .before .before .before .factor .ensures) (c .before .before .before .before .before .before .before .before .before .before .before .before .before .before .before .before .before .gradient .ensures) (c .before .before .before .before .before .before .before .before .before .before .before .before .before .before .before .before .before .before .before .before .before .load-kinds .ensures) (length-take-le (a .m) _ (s .pre .0 .0))
     (c .before .before .before .before .before .before .before .before .before .before .before .before .before .before .before .values .ensures) (c .before .before .before .before .before .before .before .before .before .before .before .before .before .before .jacobian .ensures) (c .before .before .before .before .before .before .before .before .before .before .before .before .before .lower .ensures) (c .before .before .before .before .before .before .before .before .before .before .before .before .upper .ensures))

@@ -4,7 +4,7 @@ use mathlib.Core.List.{[]}
 use Prim.Native.Nat.{ℕ, _+_, _*_, _-_, _≤_, _<_}
 use native.Mathlib.Omega.{arith}
 use borrow.Author.Needs.{needs}
-use Rattle.step.proofs.Both.{step-first, step-second, late-later}
+use Rattle.step.proofs.Both.{step-first, step-second}
 use Rattle.step.proofs.solve_step.Statement.{statement}
 use Rattle.step.proofs.solve_step.Tie as tie
 
@@ -20,20 +20,18 @@ try-exact-requires c κs = let s = c .before .before .before .before .before .be
 enum-known-first : tie.Need-enum-known-first
 enum-known-first c = search needs
 
-enum-told : tie.Need-enum-told
-enum-told c = search needs
+cast-t30 : tie.Need-cast-t30
+cast-t30 c = let x = c .before .before .before .before .before .before .before .try-exact .ensures in
+    let q = c .before .first .given .1 in
+    omega (arith, rw q at (x .rounds))
 
-same-length : tie.Need-same-length
-same-length c = omega (arith, c .before .before .before .before .before .before .try-exact .kept, c .before .before .before .before .before .before .before .before .before .before .before .write-target .kept)
+cast-t31 : tie.Need-cast-t31
+cast-t31 c = let x = c .before .before .before .before .before .before .before .try-exact .ensures in
+    let q = c .before .first .given .1 in
+    omega (arith, rw q at (x .factorings))
 
-same-length-2 : tie.Need-same-length-2
-same-length-2 c = omega (arith, c .before .before .before .before .before .before .try-exact .kept)
-
-returns : tie.Need-returns
-returns c = let a = c .before .before .before .before .before .before .before .before .before .before .before .before .before .before .before .before .before .before .before .before .before .before .args in
-    let t = c .before .before .before .before .before .before .before .before .before .before .before .write-target in
-    let x = c .before .before .before .before .before .before .try-exact in
-    rw (c .enum-told .given .1) (step-first (a .n) (a .m) (a .factor .now) (a .gradient .now) (a .kinds .now) (a .values .now) (a .jacobian .now) (a .lower .now) (a .upper .now) _ _ _ _ _ (t .ensures) (rw (c .enum-told .given .1) at (x .ensures)), tt)
+enum-known-first-2 : tie.Need-enum-known-first-2
+enum-known-first-2 c = search needs
 
 try-relaxed-requires : tie.Need-try-relaxed-requires
 try-relaxed-requires c κs = let s = c .before .before .before .before .before .before .before .before .before .before .before .before .before .before .before .before .before .before .before .before .before .before .before .before .before in
@@ -44,8 +42,20 @@ try-relaxed-requires c κs = let s = c .before .before .before .before .before .
 after-requires : tie.Need-after-requires
 after-requires c κs = let x = c .before .before .before .before .before .before .before .before .before .before .before .before .before .before .try-exact .ensures in
     let y = c .before .before .before .before .try-relaxed .ensures in
-    let q = c .before .before .before .before .before .before .before .before .first .given .1 in
+    let q = c .before .before .before .before .before .before .before .before .first2 .given .1 in
     (rw q at (x .rounds), rw q at (x .factorings), y .rounds, y .factorings)
+
+same-length : tie.Need-same-length
+same-length c = omega (arith, c .before .before .before .before .before .before .before .try-exact .kept, c .before .before .before .before .before .before .before .before .before .before .before .before .write-target .kept)
+
+same-length-2 : tie.Need-same-length-2
+same-length-2 c = omega (arith, c .before .before .before .before .before .before .before .try-exact .kept)
+
+returns : tie.Need-returns
+returns c = let a = c .before .before .before .before .before .before .before .before .before .before .before .before .before .before .before .before .before .before .before .before .before .before .before .args in
+    let t = c .before .before .before .before .before .before .before .before .before .before .before .before .write-target in
+    let x = c .before .before .before .before .before .before .before .try-exact in
+    step-first (a .n) (a .m) (a .factor .now) (a .gradient .now) (a .kinds .now) (a .values .now) (a .jacobian .now) (a .lower .now) (a .upper .now) _ _ _ _ _ (t .ensures) (rw (c .before .first .given .1) at (x .ensures))
 
 same-length-3 : tie.Need-same-length-3
 same-length-3 c = omega (arith, c .before .before .before .before .before .before .before .before .before .before .before .before .before .before .before .try-exact .kept, c .before .before .before .before .before .before .before .before .before .before .before .before .before .before .before .before .before .before .before .before .write-target .kept, c .before .before .before .before .before .try-relaxed .kept)
@@ -58,9 +68,9 @@ returns-2 c = let a = c .before .before .before .before .before .before .before 
     let t = c .before .before .before .before .before .before .before .before .before .before .before .before .before .before .before .before .before .before .before .before .write-target in
     let x = c .before .before .before .before .before .before .before .before .before .before .before .before .before .before .before .try-exact in
     let y = c .before .before .before .before .before .try-relaxed in
-    let q = c .before .before .before .before .before .before .before .before .before .first .given .1 in
+    let q = c .before .before .before .before .before .before .before .before .before .first2 .given .1 in
     rw (c .after .ensures)
-    (step-second (a .n) (a .m) (a .factor .now) (a .gradient .now) (a .kinds .now) (a .values .now) (a .jacobian .now) (a .lower .now) (a .upper .now) _ _ _ (y .result) _ _ _ (t .ensures) (rw q at (x .ensures)) (y .ensures), late-later (y .result) _ _ (y .ensures .late))
+    (step-second (a .n) (a .m) (a .factor .now) (a .gradient .now) (a .kinds .now) (a .values .now) (a .jacobian .now) (a .lower .now) (a .upper .now) _ _ _ (y .result) _ _ _ (t .ensures) (rw q at (x .ensures)) (y .ensures))
 
 pub solve-step-spec : {M : Type 1} → statement M
 solve-step-spec =
@@ -69,12 +79,14 @@ solve-step-spec =
     write-target-requires
     try-exact-requires
     enum-known-first
-    enum-told
+    cast-t30
+    cast-t31
+    enum-known-first-2
+    try-relaxed-requires
+    after-requires
     same-length
     same-length-2
     returns
-    try-relaxed-requires
-    after-requires
     same-length-3
     same-length-4
     returns-2)

@@ -6,16 +6,21 @@ use mathlib.Core.List.{List, [], _∷_, _++_}
 use lib.ListN.{length}
 use lib.Ieee.{Float}
 use Rattle.numbers.specs.Numbers.{+0, transposed}
-use Rattle.workspace.specs.Tables.{done, refused, isLate}
+use Rattle.workspace.specs.Tables.{Answer, done, refused, isLate}
+use Rattle.workspace.specs.declared.Refusal.{Refusal}
 use Rattle.workspace.specs.inner.Readings.{vec, mat, stack}
 use Rattle.nnls.specs.Counted.{Counted}
 use Rattle.step_rows.specs.Problem.{Problem, matrixOf, sidesOf, equalityRows, inequalityRows, relaxedRows}
-use Rattle.step.specs.Step.{Step, rootWeight, relaxedMatrix}
+use Rattle.step.specs.Step.{Step, rootWeight, relaxedMatrix, step, reportOf}
 use Rattle.step_rows.specs.inner.Work.{Lengths}
 use Rattle.lsei.specs.inner.Work.{sides}
 use Rattle.step.specs.declared.Sizes.{Sizes}
 use Rattle.step.specs.declared.Tried.{Tried}
 use Rattle.step.specs.declared.Tried.the-variants.{Done, Refused}
+use Rattle.step.specs.declared.Stage.the-variants.{Passed, Failed}
+use Rattle.step.specs.declared.Report.{Report}
+use Rattle.step.specs.declared.Stepped.{Stepped}
+use Rattle.step.specs.declared.Stepped.the-variants as Stepped
 use Rattle.step.specs.inner.Places.{STEP_D, STEP_MULTIPLIERS, STEP_ROOM, EXACT_C, EXACT_X, EXACT_E, EXACT_F, EXACT_G, RELAXED_E, RELAXED_F, RELAXED_G}
 
 -- ---- what is handed
@@ -86,10 +91,12 @@ abbrev pub factoringsOf : Tried → ℕ
 factoringsOf (Done relaxation rounds factorings) = factorings
 factoringsOf (Refused r rounds factorings) = factorings
 
--- the same answer after other counts
-unfoldable pub later : Tried → (rounds factorings : ℕ) → Tried
-later (Done relaxation r f) rounds factorings = Done relaxation (rounds + r) (factorings + f)
-later (Refused why r f) rounds factorings = Refused why (rounds + r) (factorings + f)
+-- the relaxed problem's answer as the step's, after the exact one was refused and took its counts
+unfoldable pub later : Refusal → (rounds factorings : ℕ) → Tried → Stepped
+later why rounds factorings (Done relaxation r f) =
+    Stepped.Done relaxation (record { exact = Failed why; relaxed = Passed; rounds = rounds + r; factorings = factorings + f })
+later why rounds factorings (Refused k r f) =
+    Stepped.Refused k (record { exact = Failed why; relaxed = Failed k; rounds = rounds + r; factorings = factorings + f })
 
 -- a refusal of the arithmetic is one of those after which the workspaces are cleared
 abbrev pub IsLate : Tried → Type 0
@@ -103,3 +110,24 @@ pub record Tries (c : Counted Step) (n m : ℕ) (r : Tried) (w w′ : List Float
   pub rounds : roundsOf r ≤ 198
   pub factorings : factoringsOf r ≤ 13334
   pub late : IsLate r
+
+-- ---- what the step ends with
+
+-- its answer, with the step d and the multipliers l that it left
+abbrev pub steppedAnswer : Stepped → (d l : List Float) → Answer Step
+steppedAnswer (Stepped.Done relaxation report) d l = done (record { d = d; multipliers = l; relaxation = relaxation })
+steppedAnswer (Stepped.Refused r report) d l = refused r
+
+abbrev pub steppedReport : Stepped → Report
+steppedReport (Stepped.Done relaxation report) = report
+steppedReport (Stepped.Refused r report) = report
+
+abbrev pub IsLateStep : Stepped → Type 0
+IsLateStep (Stepped.Done relaxation report) = Unit
+IsLateStep (Stepped.Refused r report) = isLate r ≡ true
+
+-- the step of the problem p: the answer that it left in the workspace, and its report
+pub record EndsStep (n m : ℕ) (r : Stepped) (w : List Float) (p : Problem) : Type 0 where
+  pub the-answer : steppedAnswer r (vec STEP_D n w) (vec STEP_MULTIPLIERS m w) ≡ step p .answer
+  pub the-report : steppedReport r ≡ reportOf p
+  pub late : IsLateStep r

@@ -57,7 +57,7 @@ returns c = let s = c .before .before .before .before .before .before .before .b
     let e = c .before .before .before .before .before .before .before .before .before .before .before .before .before .before .before .before .before .solve-step in
     let lv = e .kept .1 .1 .1 .1 .1 .1 .1 .0 ∙ length-take-le 8192 (a .w .now) (s .pre .floats) in
     let lu = e .kept .1 .1 .1 .1 .1 .1 .1 .1 .0 ∙ length-take-le 512 (a .iw .now) (s .pre .words) in
-    step-given (a .n) (a .m) _ (e .result) _ (a .d .now) _ (a .multipliers .now) _ (e .last .1 .1 .1 .1 .1 .1 .1 .0) (a .w .now) _ (e .last .1 .1 .1 .1 .1 .1 .1 .1 .0) (a .iw .now) _ (s .pre .lengths .variables) (s .pre .lengths .constraints) lv lu (e .ensures .0) (e .ensures .1)
+    step-given (a .n) (a .m) _ (e .result) _ (a .d .now) _ (a .multipliers .now) _ (e .last .1 .1 .1 .1 .1 .1 .1 .0) (a .w .now) _ (e .last .1 .1 .1 .1 .1 .1 .1 .1 .0) (a .iw .now) _ (s .pre .lengths .variables) (s .pre .lengths .constraints) lv lu (e .ensures)
     (c .before .before .before .before .before .before .before .before .give .ensures)
 
 pub step-all-spec : {M : Type 1} → statement M

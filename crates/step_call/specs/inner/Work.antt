@@ -7,8 +7,8 @@ use lib.Ieee.{Float}
 use Rattle.workspace.specs.inner.Readings.{vec, Cleared}
 use Rattle.step_rows.specs.inner.Work.{Lengths}
 use Rattle.step.specs.inner.Places.{STEP_D, STEP_MULTIPLIERS}
-use Rattle.step.specs.declared.Tried.{Tried}
-use Rattle.step.specs.declared.Tried.the-variants.{Done, Refused}
+use Rattle.step.specs.declared.Stepped.{Stepped}
+use Rattle.step.specs.declared.Stepped.the-variants.{Done, Refused}
 use Rattle.step_call.specs.declared.Outcome.{Outcome}
 use Rattle.step_call.specs.declared.Outcome.the-variants as Outcome
 
@@ -23,17 +23,17 @@ pub record Lent (n m : ℕ) (factor gradient : List Float) (kinds : List ℕ) (v
   pub words : 512 ≤ length iw
 
 -- a new list where the step is done, and else the old one
-abbrev pub handed : Tried → (new old : List Float) → List Float
-handed (Done relaxation rounds factorings) new old = new
-handed (Refused r rounds factorings) new old = old
+abbrev pub handed : Stepped → (new old : List Float) → List Float
+handed (Done relaxation report) new old = new
+handed (Refused r report) new old = old
 
-abbrev pub outcomeOfTried : Tried → Outcome
-outcomeOfTried (Done relaxation rounds factorings) = Outcome.Done relaxation
-outcomeOfTried (Refused r rounds factorings) = Outcome.Refused r
+abbrev pub outcomeOfStepped : Stepped → Outcome
+outcomeOfStepped (Done relaxation report) = Outcome.Done relaxation report
+outcomeOfStepped (Refused r report) = Outcome.Failed r report
 
 -- from how the step ended: the outcome, the outputs d and l, and the workspaces, before and, primed, afterwards
-pub record StepGiven (n m : ℕ) (t : Tried) (r : Outcome) (d d' l l' w w' : List Float) (iw iw' : List ℕ) : Type 0 where
-  pub outcome : r ≡ outcomeOfTried t
+pub record StepGiven (n m : ℕ) (t : Stepped) (r : Outcome) (d d' l l' w w' : List Float) (iw iw' : List ℕ) : Type 0 where
+  pub outcome : r ≡ outcomeOfStepped t
   pub the-d : d' ≡ handed t (vec STEP_D n w) d
   pub the-multipliers : l' ≡ handed t (vec STEP_MULTIPLIERS m w) l
   pub both : Cleared w w' iw iw'

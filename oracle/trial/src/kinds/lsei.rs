@@ -1,9 +1,12 @@
 //! Kinds for LDP, LSI and LSEI.
 
-use super::parts::{huge, in_columns, in_rows, low_rank, product, repeat_rows, strew, tiny, units};
+use super::parts::{
+    huge, in_columns, in_rows, low_rank, product, put_column, put_row, repeat_rows, strew, tiny,
+    units,
+};
 use super::{Row, Share};
 use crate::draw::{Draw, Palette, specials, spell};
-use crate::table::Aim::{Blocked, Moved, Nan, Number, Ranked};
+use crate::table::Aim::{Blocked, Moved, Nan, Number, Place, Ranked};
 use reference::call::Call;
 use reference::shape::Op;
 
@@ -55,18 +58,37 @@ pub const LSI: &[Row] = rows![
     ("short", Share::All(6561), &[Number(0), Number(5), Number(6)], |op, index, _| {
         spelt(op, index, &[1, 2, 2], &[-1.0, 0.0, 2.0])
     }),
-    ("dependent", Share::Weight(3), &[Number(5)], dependent),
+    ("dependent", Share::Weight(3), &[Number(5), Place(5)], dependent),
+    ("column twice", Share::Weight(4), &[Number(5), Place(5)], |op, _, draw| {
+        let mut call = any(op, draw, Palette::Smooth);
+        column_twice(draw, &mut call, 0);
+        call
+    }),
+    ("short rows", Share::Weight(2), &[Number(5), Place(5)], |op, _, draw| {
+        let n = draw.between(1, 17);
+        let sizes = [n, draw.below(n), draw.size(0, 20)];
+        posed(op, draw, &sizes, Palette::Smooth)
+    }),
     ("units", Share::Weight(4), &[Number(0), Moved, Ranked], in_units),
 ];
 
 pub const LSEI: &[Row] = rows![
-    ("every size", Share::All(18 * 7 * 5 * 4), &[Number(0), Number(5)], every_lsei),
-    ("short", Share::All(6561), &[Number(0), Number(5), Number(6)], |op, index, _| {
+    ("every size", Share::All(18 * 7 * 5 * 4), &[Number(0), Number(5), Number(11)], every_lsei),
+    ("short", Share::All(6561), &[Number(0), Number(6), Number(11)], |op, index, _| {
         spelt(op, index, &[1, 1, 1, 2], &[-1.0, 0.0, 2.0])
     }),
-    ("dependent", Share::Weight(3), &[Number(5)], dependent),
+    ("two equalities", Share::All(6561), &[Number(0), Number(11), Place(11)], two_equalities),
+    ("dependent", Share::Weight(3), &[Number(5), Number(11), Place(5), Place(11)], dependent),
+    ("equality twice", Share::Weight(6), &[Number(11), Place(11)], equality_twice),
+    ("column twice", Share::Weight(4), &[Number(5), Place(5)], |op, _, draw| {
+        let mut call = any(op, draw, Palette::Smooth);
+        column_twice(draw, &mut call, 2);
+        call
+    }),
+    ("twice, hardly told", Share::Weight(3), &[Number(0), Number(11), Place(11)], hardly_told),
+    ("lost in what is left", Share::Weight(4), &[Number(5), Place(5)], lost_in_what_is_left),
     ("units", Share::Weight(4), &[Number(0), Moved, Ranked], in_units),
-    ("too many", Share::Weight(2), &[Number(5)], |op, _, draw| {
+    ("too many", Share::Weight(2), &[Number(11), Place(11)], |op, _, draw| {
         let n = draw.between(0, 15);
         let sizes = [n, draw.between(n + 1, 16), draw.size(0, 17), draw.size(0, 66)];
         posed(op, draw, &sizes, Palette::Smooth)
@@ -250,6 +272,82 @@ fn dependent(op: Op, _: u64, draw: &mut Draw) -> Call {
     let rows = call.inputs[matrix].len() / n;
     let rank = draw.below(if matrix == 0 { rows.min(n) + 1 } else { n - mc + 1 });
     call.inputs[matrix] = low_rank(draw, palette, rows, n, rank);
+    call
+}
+
+/// A column of E that stands twice, or its opposite, or nothing in its place.
+fn column_twice(draw: &mut Draw, call: &mut Call, matrix: usize) {
+    let n = columns(call);
+    if n > 0 {
+        let (from, to) = (draw.below(n), draw.below(n));
+        let factor = draw.pick(&[1.0, 1.0, -1.0, 2.0, 3.0, 0.0]);
+        put_column(&mut call.inputs[matrix], n, from, to, factor);
+    }
+}
+
+/// Equalities of which one stands twice, or its opposite or a multiple, with or without its side.
+fn equality_twice(op: Op, _: u64, draw: &mut Draw) -> Call {
+    let n = draw.size(1, 17);
+    let mc = draw.between(2, n.clamp(2, 16));
+    let sizes = [n, mc, draw.between(n, 17), draw.size(0, 20)];
+    let palette = draw.pick(&[Palette::Smooth, Palette::Whole, Palette::Signs]);
+    let mut call = posed(op, draw, &sizes, palette);
+    let from = draw.below(mc);
+    let to = (from + draw.between(1, mc - 1)) % mc;
+    let factor = draw.pick(&[1.0, 1.0, 1.0, -1.0, 2.0, 3.0]);
+    put_row(&mut call.inputs[0], n, from, to, factor);
+    if draw.one_in(2) {
+        call.inputs[1][to] = factor * call.inputs[1][from];
+    }
+    call
+}
+
+/// Rows that stand twice and whose second, once the first is taken, rounding leaves just above the
+/// rank tolerance: they pass for independent. In another order of variables most do not.
+const HARDLY: [&[f64]; 6] = [
+    &[0.7, 2.8],
+    &[0.1, 5.8],
+    &[0.19, 0.7],
+    &[3175.0, 7324.0],
+    &[0.2, 5.7, 6.2],
+    &[0.4, 31.7, 12.8],
+];
+
+/// One of these rows twice, in a power of two and with signs, or with its variables turned.
+fn hardly_told(op: Op, _: u64, draw: &mut Draw) -> Call {
+    let row = draw.pick(&HARDLY);
+    let (n, scale) = (row.len(), draw.power(-20, 20));
+    let mut row: Vec<f64> = row.iter().map(|value| value * draw.pick(&[scale, -scale])).collect();
+    if draw.one_in(3) {
+        row.rotate_left(1);
+    }
+    let mut call = posed(op, draw, &[n, 2, n, draw.clone().below(4)], Palette::Smooth);
+    call.inputs[0] = [&row[..], &row].concat();
+    if draw.one_in(2) {
+        call.inputs[1][1] = call.inputs[1][0];
+    }
+    call
+}
+
+/// Two equalities on two variables, by index over three letters, on E of the unit matrix.
+fn two_equalities(op: Op, index: u64, _: &mut Draw) -> Call {
+    let values = spell(index, &[-1.0, 0.0, 2.0], 8);
+    let (c, rest) = values.split_at(4);
+    let (d, f) = rest.split_at(2);
+    let e = vec![1.0, 0.0, 0.0, 1.0];
+    let inputs = vec![c.to_vec(), d.to_vec(), e, f.to_vec(), vec![], vec![]];
+    Call::new(op, &[2, 2, 2, 0], inputs)
+}
+
+/// No more rows of E than are needed, and one of them an equality's: what the equalities leave of it
+/// is short of rank by one.
+fn lost_in_what_is_left(op: Op, _: u64, draw: &mut Draw) -> Call {
+    let n = draw.between(2, 17);
+    let mc = draw.between(1, (n - 1).min(16));
+    let sizes = [n, mc, n - mc, draw.size(0, 20)];
+    let mut call = posed(op, draw, &sizes, Palette::Smooth);
+    let (c, row) = (call.inputs[0][..n].to_vec(), draw.below(n - mc));
+    call.inputs[2][row * n..(row + 1) * n].copy_from_slice(&c);
     call
 }
 

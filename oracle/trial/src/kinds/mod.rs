@@ -92,7 +92,7 @@ pub fn of(op: Op) -> Vec<Kind> {
         rows.extend(spoiled::ROWS);
     }
     if op == Op::Step {
-        rows.extend(spoiled::KINDS);
+        rows.extend(spoiled::STEP);
     }
     rows.iter().map(|row| kind(op, row)).collect()
 }

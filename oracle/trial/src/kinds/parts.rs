@@ -35,6 +35,20 @@ pub fn repeat_columns(draw: &mut Draw, a: &mut [f64], rows: usize, cols: usize) 
     }
 }
 
+/// Puts a multiple of a column over another; over itself for one that stays or vanishes.
+pub fn put_column(a: &mut [f64], cols: usize, from: usize, to: usize, factor: f64) {
+    for row in a.chunks_exact_mut(cols) {
+        row[to] = factor * row[from];
+    }
+}
+
+/// Puts a multiple of a row over another.
+pub fn put_row(a: &mut [f64], cols: usize, from: usize, to: usize, factor: f64) {
+    for j in 0..cols {
+        a[to * cols + j] = factor * a[from * cols + j];
+    }
+}
+
 /// Puts some rows over others, each with its right-hand side.
 pub fn repeat_rows(draw: &mut Draw, a: &mut [f64], rhs: &mut [f64]) {
     let rows = rhs.len();

@@ -18,8 +18,17 @@ pub const ROWS: [Row; 5] = [
     }),
 ];
 
-pub const KINDS: [Row; 1] =
-    [("bad kind", Share::Weight(4), &[Number(4)], |op, _, draw| spoilt(op, draw, &[bad_kind]))];
+/// Rows that the step has besides.
+pub const STEP: [Row; 3] = [
+    ("bad kind", Share::Weight(4), &[Number(4)], |op, _, draw| spoilt(op, draw, &[bad_kind])),
+    ("bad report", Share::Weight(3), &[Number(2)], |op, _, draw| spoilt(op, draw, &[bad_report])),
+    ("bad report, more", Share::Weight(3), &[Number(1), Number(2)], |op, _, draw| {
+        let other = draw.pick(&[bad_size, bad_workspace, bad_kind]);
+        let mut call = spoilt(op, draw, &[other]);
+        bad_report(&mut call, draw);
+        call
+    }),
+];
 
 /// One of an operation's own calls, of the kinds that are drawn.
 fn sound(op: Op, draw: &mut Draw) -> Call {
@@ -97,19 +106,28 @@ fn other_length(len: usize, draw: &mut Draw) -> usize {
 /// One slice of another length.
 fn bad_length(call: &mut Call, draw: &mut Draw) {
     let (inputs, outputs) = (call.inputs.len(), call.outputs.len());
-    let extra = usize::from(matches!(call.op, Op::Qr | Op::Step));
+    let extra = match call.op {
+        Op::Qr => 1,
+        Op::Step => 2,
+        _ => 0,
+    };
     let at = draw.below(inputs + outputs + extra);
     if at < inputs {
         let len = other_length(call.inputs[at].len(), draw);
         call.inputs[at].resize(len, 1.0);
     } else if at < inputs + outputs {
         call.outputs[at - inputs] = other_length(call.outputs[at - inputs], draw);
-    } else if call.op == Op::Qr {
-        call.perm = other_length(call.perm, draw);
+    } else if at == inputs + outputs {
+        call.words = other_length(call.words, draw);
     } else {
         let len = other_length(call.kinds.len(), draw);
         call.kinds.resize(len, 1);
     }
+}
+
+/// A report of another length.
+fn bad_report(call: &mut Call, draw: &mut Draw) {
+    call.words = draw.pick(&[5, 7, 0, other_length(call.words, &mut draw.clone())]);
 }
 
 /// One workspace, or both, too short.

@@ -1,9 +1,9 @@
 //! Kinds for the step.
 
-use super::parts::{huge, in_columns, in_rows, product, strew, tiny, units};
+use super::parts::{huge, in_columns, in_rows, product, put_row, strew, tiny, units};
 use super::{Row, Share};
 use crate::draw::{Draw, Palette, SPECIAL, spell};
-use crate::table::Aim::{Blocked, Moved, Nan, Number, Ranked, Relaxed};
+use crate::table::Aim::{Blocked, Moved, Nan, Number, Place, Ranked, Relaxed, Stages};
 use reference::call::Call;
 use reference::shape::Op;
 use std::cmp::Ordering;
@@ -16,7 +16,7 @@ const JACOBIAN: usize = 3;
 const LOWER: usize = 4;
 const UPPER: usize = 5;
 
-pub const ROWS: [Row; 24] = [
+pub const ROWS: [Row; 28] = [
     ("every size", Share::All(16 * 17 * 8), &[Number(0), Relaxed], |_, index, draw| {
         let at = index / 8;
         posed(draw, (at / 17) as usize + 1, (at % 17) as usize, Palette::Smooth)
@@ -32,14 +32,26 @@ pub const ROWS: [Row; 24] = [
     }),
     ("signs", Share::Weight(4), &[Number(0), Relaxed], |_, _, draw| loose(draw, Palette::Signs)),
     ("at rest", Share::Weight(5), &[Number(0)], at_rest),
-    ("above the diagonal", Share::Weight(6), &[Number(0), Relaxed], above),
+    ("above the diagonal", Share::Weight(6), &[Number(0), Relaxed, Stages(5, 0)], above),
     ("incompatible", Share::Weight(6), &[Relaxed], incompatible),
-    ("dependent", Share::Weight(5), &[Relaxed], dependent),
-    ("crowded", Share::Weight(4), &[Relaxed], crowded),
+    ("dependent", Share::Weight(5), &[Relaxed, Stages(11, 0), Place(11)], dependent),
+    ("entered twice", Share::Weight(6), &[Stages(11, 0), Place(11)], entered_twice),
+    ("twice and crossed", Share::Weight(4), &[Stages(11, 6), Stages(11, 7)], |_, _, draw| {
+        let mut call = entered_twice(Op::Step, 0, draw);
+        cross(draw, &mut call);
+        call
+    }),
+    ("twice and singular", Share::Weight(4), &[Stages(11, 5), Place(5)], |_, _, draw| {
+        let mut call = entered_twice(Op::Step, 0, draw);
+        flatten(draw, &mut call);
+        call
+    }),
+    ("two balances", Share::All(3 * 6561), &[Stages(11, 0), Stages(11, 6)], balances),
+    ("crowded", Share::Weight(4), &[Relaxed, Stages(11, 0), Stages(11, 6), Place(11)], crowded),
     ("violated", Share::Weight(5), &[Relaxed], violated),
-    ("crossed bounds", Share::Weight(4), &[Number(6)], crossed),
+    ("crossed bounds", Share::Weight(4), &[Number(6), Stages(6, 6), Stages(6, 7)], crossed),
     ("open sides", Share::Weight(5), &[Number(0)], open),
-    ("singular", Share::Weight(4), &[Number(5)], singular),
+    ("singular", Share::Weight(4), &[Number(5), Stages(5, 5), Place(5)], singular),
     ("wide", Share::Weight(4), &[Number(0)], |_, _, draw| of(draw, Palette::Wide)),
     ("tiny", Share::Weight(3), &[Number(0)], |_, _, draw| scaled(draw, tiny)),
     ("huge", Share::Weight(3), &[Number(0)], |_, _, draw| scaled(draw, huge)),
@@ -216,6 +228,37 @@ fn dependent(_: Op, _: u64, draw: &mut Draw) -> Call {
     call
 }
 
+/// Balances among inequalities, one of them entered twice, or its opposite or a multiple, with the
+/// value that agrees.
+fn entered_twice(_: Op, _: u64, draw: &mut Draw) -> Call {
+    let n = draw.size(2, 16);
+    let m = draw.between(2, 16.min(n + 4));
+    let palette = draw.pick(&[Palette::Smooth, Palette::Whole, Palette::Signs]);
+    let mut call = posed(draw, n, m, palette);
+    let from = draw.below(m);
+    let to = (from + draw.between(1, m - 1)) % m;
+    let factor = draw.pick(&[1.0, 1.0, 1.0, -1.0, 2.0]);
+    put_row(&mut call.inputs[JACOBIAN], n, from, to, factor);
+    call.inputs[VALUES][to] = factor * call.inputs[VALUES][from];
+    (call.kinds[from], call.kinds[to]) = (0, 0);
+    call
+}
+
+/// Two constraints on one variable, over short lists of values: the second or both are equalities.
+fn balances(_: Op, index: u64, draw: &mut Draw) -> Call {
+    let letters = [-1.0, 0.0, 2.0];
+    let values = spell(index / 3, &letters, 8);
+    let kinds = [[0, 0], [1, 0], [0, 1]][(index % 3) as usize];
+    let one = |at: usize| vec![values[at]];
+    let upper = vec![draw.pick(&[f64::INFINITY, values[7]])];
+    let diagonal = vec![draw.pick(&[1.0, 2.0, 0.0])];
+    let inputs =
+        vec![diagonal, one(0), values[1..3].to_vec(), values[3..5].to_vec(), one(5), upper];
+    let mut call = Call::new(Op::Step, &[1, 2], inputs);
+    call.kinds = kinds.to_vec();
+    call
+}
+
 /// More equalities than variables.
 fn crowded(_: Op, _: u64, draw: &mut Draw) -> Call {
     let n = draw.between(1, 8);
@@ -249,11 +292,15 @@ fn violated(_: Op, _: u64, draw: &mut Draw) -> Call {
 fn crossed(_: Op, _: u64, draw: &mut Draw) -> Call {
     let palette = draw.pick(&[Palette::Smooth, Palette::Whole]);
     let mut call = of(draw, palette);
+    cross(draw, &mut call);
+    call
+}
+
+fn cross(draw: &mut Draw, call: &mut Call) {
     let at = draw.below(call.sizes[0]);
     let middle = draw.smooth();
     call.inputs[LOWER][at] = middle + draw.fraction();
     call.inputs[UPPER][at] = middle - draw.fraction();
-    call
 }
 
 /// Nonfinite bounds of every sort on both sides.
@@ -273,8 +320,12 @@ fn open(_: Op, _: u64, draw: &mut Draw) -> Call {
 fn singular(_: Op, _: u64, draw: &mut Draw) -> Call {
     let palette = draw.pick(&[Palette::Smooth, Palette::Whole]);
     let mut call = of(draw, palette);
+    flatten(draw, &mut call);
+    call
+}
+
+fn flatten(draw: &mut Draw, call: &mut Call) {
     let n = call.sizes[0];
     let at = draw.below(n) * (n + 1);
     call.inputs[FACTOR][at] = draw.pick(&[0.0, -0.0, 1e-17, 1e-300]);
-    call
 }

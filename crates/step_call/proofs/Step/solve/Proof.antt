@@ -19,7 +19,7 @@ are-sizes-requires c κs = tt
 
 returns : tie.Need-returns
 returns c = let a = c .before .before .before .before .before .before .before .before .before .before .before .before .before .args in
-    size-refused (step (problemOf (a .n) (a .m) (a .factor .now) (a .gradient .now) (a .kinds .now) (a .values .now) (a .jacobian .now) (a .lower .now) (a .upper .now)) .answer) (isDimension (a .n) && isConstraints (a .m)) (areLengths (problemOf (a .n) (a .m) (a .factor .now) (a .gradient .now) (a .kinds .now) (a .values .now) (a .jacobian .now) (a .lower .now) (a .upper .now)) (a .d .now) (a .multipliers .now)) (isRoom (a .w .now) (a .iw .now)) (areKinds (a .kinds .now)) (a .d .now) (a .multipliers .now) (a .w .now) (a .iw .now) (sym (c .before .are-sizes .ensures) ∙ not-true _ (c .if1 .taken))
+    size-refused (step (problemOf (a .n) (a .m) (a .factor .now) (a .gradient .now) (a .kinds .now) (a .values .now) (a .jacobian .now) (a .lower .now) (a .upper .now)) .answer) _ (isDimension (a .n) && isConstraints (a .m)) (areLengths (problemOf (a .n) (a .m) (a .factor .now) (a .gradient .now) (a .kinds .now) (a .values .now) (a .jacobian .now) (a .lower .now) (a .upper .now)) (a .d .now) (a .multipliers .now)) (isRoom (a .w .now) (a .iw .now)) (areKinds (a .kinds .now)) (a .d .now) (a .multipliers .now) (a .w .now) (a .iw .now) (sym (c .before .are-sizes .ensures) ∙ not-true _ (c .if1 .taken))
 
 are-lengths-requires : tie.Need-are-lengths-requires
 are-lengths-requires c κs = let a = c .before .before .before .before .before .before .before .before .before .before .before .before .before .args in
@@ -27,28 +27,28 @@ are-lengths-requires c κs = let a = c .before .before .before .before .before .
 
 returns-2 : tie.Need-returns-2
 returns-2 c = let a = c .before .before .before .before .before .before .before .before .before .before .before .before .before .before .before .args in
-    length-refused (step (problemOf (a .n) (a .m) (a .factor .now) (a .gradient .now) (a .kinds .now) (a .values .now) (a .jacobian .now) (a .lower .now) (a .upper .now)) .answer) (isDimension (a .n) && isConstraints (a .m)) (areLengths (problemOf (a .n) (a .m) (a .factor .now) (a .gradient .now) (a .kinds .now) (a .values .now) (a .jacobian .now) (a .lower .now) (a .upper .now)) (a .d .now) (a .multipliers .now)) (isRoom (a .w .now) (a .iw .now)) (areKinds (a .kinds .now)) (a .d .now) (a .multipliers .now) (a .w .now) (a .iw .now) (sym (c .before .before .before .are-sizes .ensures) ∙ not-false _ (c .before .before .if1 .left)) (lengths-bad (has (a .factor .now) (a .n * a .n) && has (a .gradient .now) (a .n) && has (a .kinds .now) (a .m) && has (a .values .now) (a .m) && has (a .jacobian .now) (a .m * a .n)) (has (a .lower .now) (a .n)) (has (a .upper .now) (a .n)) (has (a .d .now) (a .n)) (has (a .multipliers .now) (a .m)) (sym (c .before .are-lengths .ensures) ∙ not-true _ (c .if2 .taken)))
+    length-refused (step (problemOf (a .n) (a .m) (a .factor .now) (a .gradient .now) (a .kinds .now) (a .values .now) (a .jacobian .now) (a .lower .now) (a .upper .now)) .answer) _ (isDimension (a .n) && isConstraints (a .m)) (areLengths (problemOf (a .n) (a .m) (a .factor .now) (a .gradient .now) (a .kinds .now) (a .values .now) (a .jacobian .now) (a .lower .now) (a .upper .now)) (a .d .now) (a .multipliers .now)) (isRoom (a .w .now) (a .iw .now)) (areKinds (a .kinds .now)) (a .d .now) (a .multipliers .now) (a .w .now) (a .iw .now) (sym (c .before .before .before .are-sizes .ensures) ∙ not-false _ (c .before .before .if1 .left)) (lengths-bad (has (a .factor .now) (a .n * a .n) && has (a .gradient .now) (a .n) && has (a .kinds .now) (a .m) && has (a .values .now) (a .m) && has (a .jacobian .now) (a .m * a .n)) (has (a .lower .now) (a .n)) (has (a .upper .now) (a .n)) (has (a .d .now) (a .n)) (has (a .multipliers .now) (a .m)) (sym (c .before .are-lengths .ensures) ∙ not-true _ (c .if2 .taken)))
 
 are-other-lengths-requires : tie.Need-are-other-lengths-requires
 are-other-lengths-requires c κs = tt
 
 returns-3 : tie.Need-returns-3
 returns-3 c = let a = c .before .before .before .before .before .before .before .before .before .before .before .before .before .before .before .before .before .args in
-    length-refused (step (problemOf (a .n) (a .m) (a .factor .now) (a .gradient .now) (a .kinds .now) (a .values .now) (a .jacobian .now) (a .lower .now) (a .upper .now)) .answer) (isDimension (a .n) && isConstraints (a .m)) (areLengths (problemOf (a .n) (a .m) (a .factor .now) (a .gradient .now) (a .kinds .now) (a .values .now) (a .jacobian .now) (a .lower .now) (a .upper .now)) (a .d .now) (a .multipliers .now)) (isRoom (a .w .now) (a .iw .now)) (areKinds (a .kinds .now)) (a .d .now) (a .multipliers .now) (a .w .now) (a .iw .now) (sym (c .before .before .before .before .before .are-sizes .ensures) ∙ not-false _ (c .before .before .before .before .if1 .left)) (lengths-rest (has (a .factor .now) (a .n * a .n) && has (a .gradient .now) (a .n) && has (a .kinds .now) (a .m) && has (a .values .now) (a .m) && has (a .jacobian .now) (a .m * a .n)) (has (a .lower .now) (a .n)) (has (a .upper .now) (a .n)) (has (a .d .now) (a .n)) (has (a .multipliers .now) (a .m)) (sym (c .before .before .before .are-lengths .ensures) ∙ not-false _ (c .before .before .if2 .left)) (sym (c .before .are-other-lengths .ensures) ∙ not-true _ (c .if3 .taken)))
+    length-refused (step (problemOf (a .n) (a .m) (a .factor .now) (a .gradient .now) (a .kinds .now) (a .values .now) (a .jacobian .now) (a .lower .now) (a .upper .now)) .answer) _ (isDimension (a .n) && isConstraints (a .m)) (areLengths (problemOf (a .n) (a .m) (a .factor .now) (a .gradient .now) (a .kinds .now) (a .values .now) (a .jacobian .now) (a .lower .now) (a .upper .now)) (a .d .now) (a .multipliers .now)) (isRoom (a .w .now) (a .iw .now)) (areKinds (a .kinds .now)) (a .d .now) (a .multipliers .now) (a .w .now) (a .iw .now) (sym (c .before .before .before .before .before .are-sizes .ensures) ∙ not-false _ (c .before .before .before .before .if1 .left)) (lengths-rest (has (a .factor .now) (a .n * a .n) && has (a .gradient .now) (a .n) && has (a .kinds .now) (a .m) && has (a .values .now) (a .m) && has (a .jacobian .now) (a .m * a .n)) (has (a .lower .now) (a .n)) (has (a .upper .now) (a .n)) (has (a .d .now) (a .n)) (has (a .multipliers .now) (a .m)) (sym (c .before .before .before .are-lengths .ensures) ∙ not-false _ (c .before .before .if2 .left)) (sym (c .before .are-other-lengths .ensures) ∙ not-true _ (c .if3 .taken)))
 
 is-room-requires : tie.Need-is-room-requires
 is-room-requires c κs = tt
 
 returns-4 : tie.Need-returns-4
 returns-4 c = let a = c .before .before .before .before .before .before .before .before .before .before .before .before .before .before .before .before .before .before .before .args in
-    room-refused (step (problemOf (a .n) (a .m) (a .factor .now) (a .gradient .now) (a .kinds .now) (a .values .now) (a .jacobian .now) (a .lower .now) (a .upper .now)) .answer) (isDimension (a .n) && isConstraints (a .m)) (areLengths (problemOf (a .n) (a .m) (a .factor .now) (a .gradient .now) (a .kinds .now) (a .values .now) (a .jacobian .now) (a .lower .now) (a .upper .now)) (a .d .now) (a .multipliers .now)) (isRoom (a .w .now) (a .iw .now)) (areKinds (a .kinds .now)) (a .d .now) (a .multipliers .now) (a .w .now) (a .iw .now) (sym (c .before .before .before .before .before .before .before .are-sizes .ensures) ∙ not-false _ (c .before .before .before .before .before .before .if1 .left)) (lengths-good (has (a .factor .now) (a .n * a .n) && has (a .gradient .now) (a .n) && has (a .kinds .now) (a .m) && has (a .values .now) (a .m) && has (a .jacobian .now) (a .m * a .n)) (has (a .lower .now) (a .n)) (has (a .upper .now) (a .n)) (has (a .d .now) (a .n)) (has (a .multipliers .now) (a .m)) (sym (c .before .before .before .before .before .are-lengths .ensures) ∙ not-false _ (c .before .before .before .before .if2 .left)) (sym (c .before .before .before .are-other-lengths .ensures) ∙ not-false _ (c .before .before .if3 .left))) (sym (c .before .is-room .ensures) ∙ not-true _ (c .if4 .taken))
+    room-refused (step (problemOf (a .n) (a .m) (a .factor .now) (a .gradient .now) (a .kinds .now) (a .values .now) (a .jacobian .now) (a .lower .now) (a .upper .now)) .answer) _ (isDimension (a .n) && isConstraints (a .m)) (areLengths (problemOf (a .n) (a .m) (a .factor .now) (a .gradient .now) (a .kinds .now) (a .values .now) (a .jacobian .now) (a .lower .now) (a .upper .now)) (a .d .now) (a .multipliers .now)) (isRoom (a .w .now) (a .iw .now)) (areKinds (a .kinds .now)) (a .d .now) (a .multipliers .now) (a .w .now) (a .iw .now) (sym (c .before .before .before .before .before .before .before .are-sizes .ensures) ∙ not-false _ (c .before .before .before .before .before .before .if1 .left)) (lengths-good (has (a .factor .now) (a .n * a .n) && has (a .gradient .now) (a .n) && has (a .kinds .now) (a .m) && has (a .values .now) (a .m) && has (a .jacobian .now) (a .m * a .n)) (has (a .lower .now) (a .n)) (has (a .upper .now) (a .n)) (has (a .d .now) (a .n)) (has (a .multipliers .now) (a .m)) (sym (c .before .before .before .before .before .are-lengths .ensures) ∙ not-false _ (c .before .before .before .before .if2 .left)) (sym (c .before .before .before .are-other-lengths .ensures) ∙ not-false _ (c .before .before .if3 .left))) (sym (c .before .is-room .ensures) ∙ not-true _ (c .if4 .taken))
 
 are-kinds-requires : tie.Need-are-kinds-requires
 are-kinds-requires c κs = tt
 
 returns-5 : tie.Need-returns-5
 returns-5 c = let a = c .before .before .before .before .before .before .before .before .before .before .before .before .before .before .before .before .before .before .before .before .before .args in
-    kind-refused (step (problemOf (a .n) (a .m) (a .factor .now) (a .gradient .now) (a .kinds .now) (a .values .now) (a .jacobian .now) (a .lower .now) (a .upper .now)) .answer) (isDimension (a .n) && isConstraints (a .m)) (areLengths (problemOf (a .n) (a .m) (a .factor .now) (a .gradient .now) (a .kinds .now) (a .values .now) (a .jacobian .now) (a .lower .now) (a .upper .now)) (a .d .now) (a .multipliers .now)) (isRoom (a .w .now) (a .iw .now)) (areKinds (a .kinds .now)) (a .d .now) (a .multipliers .now) (a .w .now) (a .iw .now) (sym (c .before .before .before .before .before .before .before .before .before .are-sizes .ensures) ∙ not-false _ (c .before .before .before .before .before .before .before .before .if1 .left)) (lengths-good (has (a .factor .now) (a .n * a .n) && has (a .gradient .now) (a .n) && has (a .kinds .now) (a .m) && has (a .values .now) (a .m) && has (a .jacobian .now) (a .m * a .n)) (has (a .lower .now) (a .n)) (has (a .upper .now) (a .n)) (has (a .d .now) (a .n)) (has (a .multipliers .now) (a .m)) (sym (c .before .before .before .before .before .before .before .are-lengths .ensures) ∙ not-false _ (c .before .before .before .before .before .before .if2 .left)) (sym (c .before .before .before .before .before .are-other-lengths .ensures) ∙ not-false _ (c .before .before .before .before .if3 .left))) (sym (c .before .before .before .is-room .ensures) ∙ not-false _ (c .before .before .if4 .left)) (sym (c .before .are-kinds .ensures) ∙ not-true _ (c .if5 .taken))
+    kind-refused (step (problemOf (a .n) (a .m) (a .factor .now) (a .gradient .now) (a .kinds .now) (a .values .now) (a .jacobian .now) (a .lower .now) (a .upper .now)) .answer) _ (isDimension (a .n) && isConstraints (a .m)) (areLengths (problemOf (a .n) (a .m) (a .factor .now) (a .gradient .now) (a .kinds .now) (a .values .now) (a .jacobian .now) (a .lower .now) (a .upper .now)) (a .d .now) (a .multipliers .now)) (isRoom (a .w .now) (a .iw .now)) (areKinds (a .kinds .now)) (a .d .now) (a .multipliers .now) (a .w .now) (a .iw .now) (sym (c .before .before .before .before .before .before .before .before .before .are-sizes .ensures) ∙ not-false _ (c .before .before .before .before .before .before .before .before .if1 .left)) (lengths-good (has (a .factor .now) (a .n * a .n) && has (a .gradient .now) (a .n) && has (a .kinds .now) (a .m) && has (a .values .now) (a .m) && has (a .jacobian .now) (a .m * a .n)) (has (a .lower .now) (a .n)) (has (a .upper .now) (a .n)) (has (a .d .now) (a .n)) (has (a .multipliers .now) (a .m)) (sym (c .before .before .before .before .before .before .before .are-lengths .ensures) ∙ not-false _ (c .before .before .before .before .before .before .if2 .left)) (sym (c .before .before .before .before .before .are-other-lengths .ensures) ∙ not-false _ (c .before .before .before .before .if3 .left))) (sym (c .before .before .before .is-room .ensures) ∙ not-false _ (c .before .before .if4 .left)) (sym (c .before .are-kinds .ensures) ∙ not-true _ (c .if5 .taken))
 
 step-all-requires : tie.Need-step-all-requires
 step-all-requires c κs = let a = c .before .before .before .before .before .before .before .before .before .before .before .before .before .before .before .before .before .before .before .before .before .before .before .before .before .args in
@@ -80,7 +80,7 @@ same-length-4 c = omega arith
 
 returns-6 : tie.Need-returns-6
 returns-6 c = let a = c .before .before .before .before .before .before .before .before .before .before .before .before .before .before .before .before .before .before .before .before .before .before .before .before .before .before .before .before .before .before .before .before .before .before .args in
-    call-answered (step (problemOf (a .n) (a .m) (a .factor .now) (a .gradient .now) (a .kinds .now) (a .values .now) (a .jacobian .now) (a .lower .now) (a .upper .now)) .answer) (isDimension (a .n) && isConstraints (a .m)) (areLengths (problemOf (a .n) (a .m) (a .factor .now) (a .gradient .now) (a .kinds .now) (a .values .now) (a .jacobian .now) (a .lower .now) (a .upper .now)) (a .d .now) (a .multipliers .now)) (isRoom (a .w .now) (a .iw .now)) (areKinds (a .kinds .now)) _ (a .d .now) _ (a .multipliers .now) _ (a .w .now) _ (a .iw .now) _ (sym (c .before .before .before .before .before .before .before .before .before .before .before .before .before .before .before .before .before .before .before .before .before .before .are-sizes .ensures) ∙ not-false _ (c .before .before .before .before .before .before .before .before .before .before .before .before .before .before .before .before .before .before .before .before .before .if1 .left)) (lengths-good (has (a .factor .now) (a .n * a .n) && has (a .gradient .now) (a .n) && has (a .kinds .now) (a .m) && has (a .values .now) (a .m) && has (a .jacobian .now) (a .m * a .n)) (has (a .lower .now) (a .n)) (has (a .upper .now) (a .n)) (has (a .d .now) (a .n)) (has (a .multipliers .now) (a .m)) (sym (c .before .before .before .before .before .before .before .before .before .before .before .before .before .before .before .before .before .before .before .before .are-lengths .ensures) ∙ not-false _ (c .before .before .before .before .before .before .before .before .before .before .before .before .before .before .before .before .before .before .before .if2 .left)) (sym (c .before .before .before .before .before .before .before .before .before .before .before .before .before .before .before .before .before .before .are-other-lengths .ensures) ∙ not-false _ (c .before .before .before .before .before .before .before .before .before .before .before .before .before .before .before .before .before .if3 .left))) (sym (c .before .before .before .before .before .before .before .before .before .before .before .before .before .before .before .before .is-room .ensures) ∙ not-false _ (c .before .before .before .before .before .before .before .before .before .before .before .before .before .before .before .if4 .left)) (sym (c .before .before .before .before .before .before .before .before .before .before .before .before .before .before .are-kinds .ensures) ∙ not-false _ (c .before .before .before .before .before .before .before .before .before .before .before .before .before .if5 .left)) (c .before .before .before .before .before .before .before .before .step-all .ensures)
+    call-answered (step (problemOf (a .n) (a .m) (a .factor .now) (a .gradient .now) (a .kinds .now) (a .values .now) (a .jacobian .now) (a .lower .now) (a .upper .now)) .answer) _ (isDimension (a .n) && isConstraints (a .m)) (areLengths (problemOf (a .n) (a .m) (a .factor .now) (a .gradient .now) (a .kinds .now) (a .values .now) (a .jacobian .now) (a .lower .now) (a .upper .now)) (a .d .now) (a .multipliers .now)) (isRoom (a .w .now) (a .iw .now)) (areKinds (a .kinds .now)) _ (a .d .now) _ (a .multipliers .now) _ (a .w .now) _ (a .iw .now) _ (sym (c .before .before .before .before .before .before .before .before .before .before .before .before .before .before .before .before .before .before .before .before .before .before .are-sizes .ensures) ∙ not-false _ (c .before .before .before .before .before .before .before .before .before .before .before .before .before .before .before .before .before .before .before .before .before .if1 .left)) (lengths-good (has (a .factor .now) (a .n * a .n) && has (a .gradient .now) (a .n) && has (a .kinds .now) (a .m) && has (a .values .now) (a .m) && has (a .jacobian .now) (a .m * a .n)) (has (a .lower .now) (a .n)) (has (a .upper .now) (a .n)) (has (a .d .now) (a .n)) (has (a .multipliers .now) (a .m)) (sym (c .before .before .before .before .before .before .before .before .before .before .before .before .before .before .before .before .before .before .before .before .are-lengths .ensures) ∙ not-false _ (c .before .before .before .before .before .before .before .before .before .before .before .before .before .before .before .before .before .before .before .if2 .left)) (sym (c .before .before .before .before .before .before .before .before .before .before .before .before .before .before .before .before .before .before .are-other-lengths .ensures) ∙ not-false _ (c .before .before .before .before .before .before .before .before .before .before .before .before .before .before .before .before .before .if3 .left))) (sym (c .before .before .before .before .before .before .before .before .before .before .before .before .before .before .before .before .is-room .ensures) ∙ not-false _ (c .before .before .before .before .before .before .before .before .before .before .before .before .before .before .before .if4 .left)) (sym (c .before .before .before .before .before .before .before .before .before .before .before .before .before .before .are-kinds .ensures) ∙ not-false _ (c .before .before .before .before .before .before .before .before .before .before .before .before .before .if5 .left)) (c .before .before .before .before .before .before .before .before .step-all .ensures)
 
 pub solve-spec : {M : Type 1} → statement M
 solve-spec =
