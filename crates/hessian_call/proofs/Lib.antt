@@ -1,3 +1,4 @@
 pub mod Calls
 pub mod Lower
+pub mod Mirrored
 pub mod One

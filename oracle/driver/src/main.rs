@@ -2,6 +2,7 @@
 
 mod arguments;
 mod linked;
+mod mirror;
 mod programs;
 mod root;
 
@@ -22,6 +23,7 @@ const USAGE: &str = "usage: oracle COMMAND [--OPTION VALUE]...
   calls       compares library calls       --calls N --seed N --threads N --ops qr,nnls,..
   one         shows one library call       --op OP --kind KIND --index N --seed N
   sqrt        compares square roots        --patterns N --seed N
+  mirror      compares B with its mirror   --sequences N --seed N
   records     compares record programs     --program FILE --files N --seed N --threads N
   all         calls, and then records      with the options of both
   write-list  writes the stored list       --folder FOLDER --each N --seed N
@@ -48,6 +50,7 @@ fn command(arguments: &Arguments) -> Result<bool, String> {
         "calls" => calls(arguments),
         "one" => one(arguments),
         "sqrt" => sqrt(arguments),
+        "mirror" => mirror::compare(arguments),
         "records" => records(arguments),
         "all" => Ok(calls(arguments)? & records(arguments)?),
         "write-list" => write_list(arguments),

@@ -8,5 +8,6 @@ pub mod kinds;
 pub mod records;
 pub mod replay;
 pub mod run;
+pub mod sequences;
 pub mod stored;
 pub mod table;
