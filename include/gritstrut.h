@@ -6,7 +6,8 @@
  *
  * - No heap, no globals, no locks: they are re-entrant, and two threads may call them at once
  *   with buffers of their own. They need the two workspaces, stack (under 2 KiB was measured for
- *   a step) and, of the C library, memset and memmove alone.
+ *   a step, 2272 bytes for gritstrut_packed_cholesky) and, of the C library, memset and memmove
+ *   alone.
  * - A slice is a pointer and then its length in entries. Matrices are dense and row-major: entry
  *   (i, j) of a matrix of n columns is at i * n + j.
  * - What the caller must see to, since no function can test it: every pointer is not null, aligned
@@ -43,7 +44,7 @@
  *   Zero is +0. Untouched means the same bits. (Of an entry that is a NaN it is proved that it
  *   stays a NaN; that its bits stay is compared, not proved: docs/TRUST.md.) Entries of a
  *   workspace past the first 8192 and 512 never change. Inputs never change, except b under
- *   gritstrut_update.
+ *   gritstrut_update and gritstrut_packed_update.
  * - Single results are stored through their pointers only where the number is 0; but a place only
  *   where it is 5 or 11, and a step's report where it is 0, 5, 6 or 7. Else they are untouched.
  * - A place says where rank was lost: the index, from 0, of the column of the factored matrix that
@@ -158,6 +159,21 @@ uint32_t gritstrut_cholesky(size_t n, const double *b, size_t b_len, double *l, 
 uint32_t gritstrut_update(size_t n, double *b, size_t b_len, const double *s, size_t s_len,
                           const double *y, size_t y_len,
                           double *w, size_t w_len, uint32_t *iw, size_t iw_len);
+
+/* The same with B kept as its lower triangle, row by row: b has n(n + 1)/2 entries, entry (i, j),
+ * j <= i, at i(i + 1)/2 + j. Numbers and answers are those of the square form on the square that
+ * the triangle stands for. l stays square (n * n), +0 above the diagonal, as the step takes it. */
+uint32_t gritstrut_packed_identity(size_t n, double *b, size_t b_len,
+                                   double *w, size_t w_len, uint32_t *iw, size_t iw_len);
+uint32_t gritstrut_packed_times(size_t n, const double *b, size_t b_len,
+                                const double *v, size_t v_len, double *out, size_t out_len,
+                                double *w, size_t w_len, uint32_t *iw, size_t iw_len);
+uint32_t gritstrut_packed_cholesky(size_t n, const double *b, size_t b_len,
+                                   double *l, size_t l_len,
+                                   double *w, size_t w_len, uint32_t *iw, size_t iw_len);
+uint32_t gritstrut_packed_update(size_t n, double *b, size_t b_len,
+                                 const double *s, size_t s_len, const double *y, size_t y_len,
+                                 double *w, size_t w_len, uint32_t *iw, size_t iw_len);
 
 /* The entries of a step's report. A step has two stages: the exact problem, and where that is
  * refused the relaxed one. */

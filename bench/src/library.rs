@@ -16,6 +16,36 @@ unsafe extern "C" {
         x: *mut f64, x_len: usize, rounds: *mut u32, factorings: *mut u32,
         w: *mut f64, w_len: usize, iw: *mut u32, iw_len: usize,
     ) -> u32;
+    fn gritstrut_times(
+        n: usize, b: *const f64, b_len: usize, v: *const f64, v_len: usize,
+        out: *mut f64, out_len: usize, w: *mut f64, w_len: usize, iw: *mut u32, iw_len: usize,
+    ) -> u32;
+    fn gritstrut_cholesky(
+        n: usize, b: *const f64, b_len: usize, l: *mut f64, l_len: usize,
+        w: *mut f64, w_len: usize, iw: *mut u32, iw_len: usize,
+    ) -> u32;
+    fn gritstrut_identity(
+        n: usize, b: *mut f64, b_len: usize, w: *mut f64, w_len: usize, iw: *mut u32, iw_len: usize,
+    ) -> u32;
+    fn gritstrut_update(
+        n: usize, b: *mut f64, b_len: usize, s: *const f64, s_len: usize,
+        y: *const f64, y_len: usize, w: *mut f64, w_len: usize, iw: *mut u32, iw_len: usize,
+    ) -> u32;
+    fn gritstrut_packed_times(
+        n: usize, b: *const f64, b_len: usize, v: *const f64, v_len: usize,
+        out: *mut f64, out_len: usize, w: *mut f64, w_len: usize, iw: *mut u32, iw_len: usize,
+    ) -> u32;
+    fn gritstrut_packed_cholesky(
+        n: usize, b: *const f64, b_len: usize, l: *mut f64, l_len: usize,
+        w: *mut f64, w_len: usize, iw: *mut u32, iw_len: usize,
+    ) -> u32;
+    fn gritstrut_packed_identity(
+        n: usize, b: *mut f64, b_len: usize, w: *mut f64, w_len: usize, iw: *mut u32, iw_len: usize,
+    ) -> u32;
+    fn gritstrut_packed_update(
+        n: usize, b: *mut f64, b_len: usize, s: *const f64, s_len: usize,
+        y: *const f64, y_len: usize, w: *mut f64, w_len: usize, iw: *mut u32, iw_len: usize,
+    ) -> u32;
     fn gritstrut_step(
         n: usize, m: usize, factor: *const f64, factor_len: usize,
         gradient: *const f64, gradient_len: usize, kinds: *const u8, kinds_len: usize,
@@ -100,5 +130,59 @@ impl Lent {
             )
         };
         if number == 0 { rank as usize } else { 0 }
+    }
+}
+
+/// B of dimension n in one form, and what its operations are lent.
+pub struct Approximation {
+    n: usize,
+    packed: bool,
+    pub b: Vec<f64>,
+    out: Vec<f64>,
+    w: Vec<f64>,
+    iw: Vec<u32>,
+}
+
+#[rustfmt::skip]
+impl Approximation {
+    /// The identity, square or as its lower triangle.
+    pub fn new(n: usize, packed: bool) -> Self {
+        let entries = if packed { n * (n + 1) / 2 } else { n * n };
+        let (b, out, w) = (vec![0.0; entries], vec![0.0; n * n], vec![0.0; 8192]);
+        let mut made = Approximation { n, packed, b, out, w, iw: vec![0; 512] };
+        assert_eq!(made.reset(), 0);
+        made
+    }
+
+    pub fn reset(&mut self) -> u32 {
+        let call = if self.packed { gritstrut_packed_identity } else { gritstrut_identity };
+        unsafe {
+            call(self.n, self.b.as_mut_ptr(), self.b.len(),
+                self.w.as_mut_ptr(), 8192, self.iw.as_mut_ptr(), 512)
+        }
+    }
+
+    pub fn times(&mut self, v: &[f64]) -> u32 {
+        let call = if self.packed { gritstrut_packed_times } else { gritstrut_times };
+        unsafe {
+            call(self.n, self.b.as_ptr(), self.b.len(), v.as_ptr(), v.len(),
+                self.out.as_mut_ptr(), self.n, self.w.as_mut_ptr(), 8192, self.iw.as_mut_ptr(), 512)
+        }
+    }
+
+    pub fn cholesky(&mut self) -> u32 {
+        let call = if self.packed { gritstrut_packed_cholesky } else { gritstrut_cholesky };
+        unsafe {
+            call(self.n, self.b.as_ptr(), self.b.len(), self.out.as_mut_ptr(), self.n * self.n,
+                self.w.as_mut_ptr(), 8192, self.iw.as_mut_ptr(), 512)
+        }
+    }
+
+    pub fn update(&mut self, s: &[f64], y: &[f64]) -> u32 {
+        let call = if self.packed { gritstrut_packed_update } else { gritstrut_update };
+        unsafe {
+            call(self.n, self.b.as_mut_ptr(), self.b.len(), s.as_ptr(), s.len(), y.as_ptr(), y.len(),
+                self.w.as_mut_ptr(), 8192, self.iw.as_mut_ptr(), 512)
+        }
     }
 }

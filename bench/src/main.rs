@@ -2,6 +2,7 @@
 //!
 //!     bench                      every set: medians over interleaved runs, and their ratios
 //!     bench growth               the same for steps with 0 to 16 active rows
+//!     bench forms                B as its lower triangle beside the square, both ours
 //!     bench names [growth]       each set, a side that does it and the number of calls
 //!     bench count SET WHO N      one side goes through one set N times, for an instruction count
 //!     bench nnls FILE            writes the NNLS problems and our answers, for SciPy
@@ -54,6 +55,21 @@ fn table(sets: Vec<Planned>) {
     sets.iter().for_each(row);
 }
 
+/// The two forms of B: microseconds for one call of each, and the ratio.
+fn forms(sets: Vec<Planned>) {
+    println!("{:<15} {:>10} {:>10} {:>13} {:>7}", "set", "packed, us", "square, us", "packed/square", "spread");
+    for plan in sets {
+        let mut set = (plan.make)();
+        let told: Vec<usize> = set.sides.iter_mut().map(|side| (side.run)()).collect();
+        assert_eq!(told[0], told[1], "{}: the forms differ", plan.name);
+        let (medians, spread) = clock::medians(&mut set.sides, RUNS);
+        let each = 1e6 / set.calls as f64;
+        let (packed, square) = (medians[0] * each, medians[1] * each);
+        let (name, ratio, spread) = (&plan.name, packed / square, 100.0 * spread);
+        println!("{name:<15} {packed:>10.3} {square:>10.3} {ratio:>13.2} {spread:>6.1}%");
+    }
+}
+
 fn names(sets: Vec<Planned>) {
     for plan in sets {
         let set = (plan.make)();
@@ -91,6 +107,7 @@ fn main() {
     match words[..] {
         [] => table(sets::all()),
         ["growth"] => table(sets::growth()),
+        ["forms"] => forms(sets::forms()),
         ["names"] => names(sets::all()),
         ["names", "growth"] => names(sets::growth()),
         ["count", name, who, times] => count(name, who, times.parse().expect("a number")),

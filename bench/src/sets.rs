@@ -167,6 +167,36 @@ pub fn growth() -> Vec<Planned> {
         .collect()
 }
 
+/// One operation on B in each form, packed first, over the same steps and changes of gradient.
+fn both(n: usize, run: fn(&mut library::Approximation, &[f64], &[f64]) -> u32) -> Set {
+    let steps = problems::matrices(200, 2, n);
+    let side_of = |who, packed| {
+        let steps = steps.clone();
+        let mut b = library::Approximation::new(n, packed);
+        side(who, move || {
+            b.reset();
+            let (s, y) = steps[0].a.split_at(n);
+            b.update(s, y);
+            let one = |p: &Matrix| run(&mut b, &p.a[..n], &p.a[n..]) == 0;
+            steps.iter().map(one).filter(|done| *done).count()
+        })
+    };
+    let sides = vec![side_of("packed", true), side_of("square", false)];
+    Set { calls: steps.len(), factorings: None, away: None, sides }
+}
+
+/// The operations on B as its lower triangle beside those on the square.
+pub fn forms() -> Vec<Planned> {
+    let mut sets = vec![];
+    for n in [4, 8, 16] {
+        sets.push(planned(format!("identity {n}"), move || both(n, |b, _, _| b.reset())));
+        sets.push(planned(format!("product {n}"), move || both(n, |b, s, _| b.times(s))));
+        sets.push(planned(format!("factor {n}"), move || both(n, |b, _, _| b.cholesky())));
+        sets.push(planned(format!("update {n}"), move || both(n, |b, s, y| b.update(s, y))));
+    }
+    sets
+}
+
 /// NLopt as a further side, and how far its answers are from ours.
 #[cfg(nlopt)]
 mod peer {

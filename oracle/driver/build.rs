@@ -8,9 +8,24 @@ use std::path::Path;
 const LIBRARY: &str = "GRITSTRUT_LIBRARY";
 
 /// The C interface's names after `gritstrut_`.
-const NAMES: [&str; 13] = [
-    "sqrt", "sum", "norm", "qr", "nnls", "ldp", "lsi", "lsei", "identity", "times", "cholesky",
-    "update", "step",
+const NAMES: [&str; 17] = [
+    "sqrt",
+    "sum",
+    "norm",
+    "qr",
+    "nnls",
+    "ldp",
+    "lsi",
+    "lsei",
+    "identity",
+    "times",
+    "cholesky",
+    "update",
+    "step",
+    "packed_identity",
+    "packed_times",
+    "packed_cholesky",
+    "packed_update",
 ];
 
 fn main() {

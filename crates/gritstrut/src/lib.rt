@@ -6,12 +6,14 @@ ghost use Rattle.householder_call.specs.Promise.{qrCall};
 ghost use Rattle.nnls_call.specs.Promise.{nnlsCall};
 ghost use Rattle.lsei_call.specs.Promise.{ldpCall, lsiCall, lseiCall};
 ghost use Rattle.hessian_call.specs.Promise.{identityCall, timesCall, choleskyCall, updateCall};
+ghost use Rattle.hessian_packed_call.specs.Promise.{packedIdentityCall, packedTimesCall, packedCholeskyCall, packedUpdateCall};
 ghost use Rattle.step_rows.specs.Problem.{problemOf};
 ghost use lib.ListN.{length};
 ghost use Rattle.workspace.specs.Tables.{outcomeNumber};
 ghost use Rattle.gritstrut.specs.Interface.{QrLeaves, NnlsLeaves, SolveLeaves, placed, PlaceLeaves, WriteLeaves, entriesOf, stepReportCall, StepLeaves};
 ghost use Rattle.step.specs.Step.{reportOf};
 use hessian_call::Hessian;
+use hessian_packed_call::Packed;
 use householder_call::Qr;
 use lsei_call::Ldp;
 use lsei_call::Lsei;
@@ -246,6 +248,69 @@ pub extern "C" fn gritstrut_update(
     ensures { λ k. ⌜ WriteLeaves (updateCall n (now (b .entry)) (now (s .entry)) (now (y .entry)) (now (w .entry)) (now (iw .entry))) k (now (b .entry)) (now (b .exit)) (now (w .entry)) (now (w .exit)) (now (iw .entry)) (now (iw .exit)) ⌝ }
 {
     let answer = Hessian::update(n, b, s, y, w, iw);
+    answer.number()
+}
+
+// ---- the approximation B as its lower triangle
+
+// The identity.
+#[no_mangle]
+pub extern "C" fn gritstrut_packed_identity(
+    n: usize,
+    b: &mut [f64],
+    w: &mut [f64],
+    iw: &mut [u32],
+) -> u32
+    ensures { λ k. ⌜ WriteLeaves (packedIdentityCall n (now (b .entry)) (now (w .entry)) (now (iw .entry))) k (now (b .entry)) (now (b .exit)) (now (w .entry)) (now (w .exit)) (now (iw .entry)) (now (iw .exit)) ⌝ }
+{
+    let answer = Packed::identity(n, b, w, iw);
+    answer.number()
+}
+
+// The product B v.
+#[no_mangle]
+pub extern "C" fn gritstrut_packed_times(
+    n: usize,
+    b: &[f64],
+    v: &[f64],
+    out: &mut [f64],
+    w: &mut [f64],
+    iw: &mut [u32],
+) -> u32
+    ensures { λ k. ⌜ WriteLeaves (packedTimesCall n (now (b .entry)) (now (v .entry)) (now (out .entry)) (now (w .entry)) (now (iw .entry))) k (now (out .entry)) (now (out .exit)) (now (w .entry)) (now (w .exit)) (now (iw .entry)) (now (iw .exit)) ⌝ }
+{
+    let answer = Packed::times(n, b, v, out, w, iw);
+    answer.number()
+}
+
+// The Cholesky factor of B, square.
+#[no_mangle]
+pub extern "C" fn gritstrut_packed_cholesky(
+    n: usize,
+    b: &[f64],
+    l: &mut [f64],
+    w: &mut [f64],
+    iw: &mut [u32],
+) -> u32
+    ensures { λ k. ⌜ WriteLeaves (packedCholeskyCall n (now (b .entry)) (now (l .entry)) (now (w .entry)) (now (iw .entry))) k (now (l .entry)) (now (l .exit)) (now (w .entry)) (now (w .exit)) (now (iw .entry)) (now (iw .exit)) ⌝ }
+{
+    let answer = Packed::cholesky(n, b, l, w, iw);
+    answer.number()
+}
+
+// The damped update of B.
+#[no_mangle]
+pub extern "C" fn gritstrut_packed_update(
+    n: usize,
+    b: &mut [f64],
+    s: &[f64],
+    y: &[f64],
+    w: &mut [f64],
+    iw: &mut [u32],
+) -> u32
+    ensures { λ k. ⌜ WriteLeaves (packedUpdateCall n (now (b .entry)) (now (s .entry)) (now (y .entry)) (now (w .entry)) (now (iw .entry))) k (now (b .entry)) (now (b .exit)) (now (w .entry)) (now (w .exit)) (now (iw .entry)) (now (iw .exit)) ⌝ }
+{
+    let answer = Packed::update(n, b, s, y, w, iw);
     answer.number()
 }
 

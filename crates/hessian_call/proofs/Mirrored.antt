@@ -6,7 +6,6 @@ use mathlib.Core.List.{List, [], _∷_}
 use Prim.Native.Nat.{ℕ, suc, _*_, _<_, _≤_}
 use native.Mathlib.Nat.{mul-le-mul}
 use native.Mathlib.Omega.{arith}
-use lib.ListN.{length}
 use lib.Ieee.{Float}
 use Rattle.numbers.proofs.Cases.{lt-or-ge}
 use Rattle.workspace.specs.Tables.{Answer, done, call, outcomeOf, outcomeNumber, output, isDimension, isRoom, has}
@@ -14,21 +13,8 @@ use Rattle.workspace.specs.declared.Outcome.the-variants.{Done}
 use Rattle.workspace.proofs.Tests.{and-true, has-length}
 use Rattle.hessian.specs.Hessian.{identity}
 use Rattle.hessian.specs.Hessian as Definition
-use Rattle.hessian.specs.Claims.{Mirror}
-use Rattle.hessian.proofs.Lengths.{length-identity, length-update}
-use Rattle.hessian.proofs.Mirrored.{mirror-identity, update-mirrors}
+use Rattle.hessian.proofs.Mirrored.{Kept, kept-identity, kept-update}
 use Rattle.hessian_call.specs.Claims.{Call, reset, update, answerOf, next, after, CallsMirror, Seen, Met, Run, RunsMirror, SinceReset}
-
--- what is kept by every call: B has n by n entries, and is its own mirror
-pub record Kept (n : ℕ) (b : List Float) : Type 0 where
-  pub size : length b ≡ n * n
-  pub mirror : Mirror n b
-
-pub kept-identity : (n : ℕ) → Kept n (identity n)
-kept-identity n = record { size = length-identity n; mirror = mirror-identity n }
-
-kept-update : (n : ℕ) (b s y : List Float) → Kept n b → Kept n (Definition.update n b s y)
-kept-update n b s y k = record { size = length-update n b s y (k .size); mirror = update-mirrors n b s y (k .mirror) }
 
 -- ---- a call
 

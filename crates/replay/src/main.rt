@@ -55,7 +55,7 @@ fn no_call() -> Call
 // Reads a call of an operation and n bytes and replays it, if it is one.
 fn replay_next(operation: u64, n: usize) -> bool {
     let mut call = no_call();
-    if 12 < operation {
+    if 16 < operation {
         return false;
     }
     if 12288 < n {

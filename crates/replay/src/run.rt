@@ -119,6 +119,27 @@ fn run_step(
     mix_kinds(mix_places(mix_float(told(number), relaxation), &report), g)
 }
 
+// The same of B as its lower triangle.
+fn run_packed(
+    operation: usize,
+    call: &Call,
+    values: &Values,
+    x: &mut [f64],
+    w: &mut [f64],
+    iw: &mut [u32],
+) -> u64 {
+    let n = size(call, 0);
+    let a = part(call, values, 0);
+    let b = part(call, values, 1);
+    let c = part(call, values, 2);
+    match operation {
+        13 => told(gritstrut::gritstrut_packed_identity(n, x, w, iw)),
+        14 => told(gritstrut::gritstrut_packed_times(n, a, b, x, w, iw)),
+        15 => told(gritstrut::gritstrut_packed_cholesky(n, a, x, w, iw)),
+        _ => told(gritstrut::gritstrut_packed_update(n, x, b, c, w, iw)),
+    }
+}
+
 // The approximation B: the identity, a product, the factor, or the update of the matrix in x.
 fn run_hessian(
     operation: usize,
@@ -136,7 +157,8 @@ fn run_hessian(
         8 => told(gritstrut::gritstrut_identity(n, x, w, iw)),
         9 => told(gritstrut::gritstrut_times(n, a, b, x, w, iw)),
         10 => told(gritstrut::gritstrut_cholesky(n, a, x, w, iw)),
-        _ => told(gritstrut::gritstrut_update(n, x, b, c, w, iw)),
+        11 => told(gritstrut::gritstrut_update(n, x, b, c, w, iw)),
+        _ => run_packed(operation, call, values, x, w, iw),
     }
 }
 

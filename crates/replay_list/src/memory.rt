@@ -48,11 +48,19 @@ fn load(to: &mut [f64], from: &[f64]) {
     }
 }
 
-// The memory of the first output: for the update, operation 11, the matrix, which is changed where it stands.
+// An operation whose output is its first input: `update`, square or packed.
+fn is_update(operation: usize) -> bool {
+    if operation == 11 {
+        return true;
+    }
+    operation == 16
+}
+
+// The memory of the first output: for an update the matrix, which is changed where it stands.
 pub fn first_output(operation: usize, call: &Call, values: &Values) -> Output
     ensures { λ r. ⌜ 1200 ≡ length r ⌝ }
 {
-    if operation != 11 {
+    if !is_update(operation) {
         return lent_output(call);
     }
     let mut memory = lent_output(call);

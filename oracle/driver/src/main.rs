@@ -24,6 +24,7 @@ const USAGE: &str = "usage: oracle COMMAND [--OPTION VALUE]...
   one         shows one library call       --op OP --kind KIND --index N --seed N
   sqrt        compares square roots        --patterns N --seed N
   mirror      compares B with its mirror   --sequences N --seed N
+  packed      compares B's two forms       --sequences N --seed N
   records     compares record programs     --program FILE --files N --seed N --threads N
   all         calls, and then records      with the options of both
   write-list  writes the stored list       --folder FOLDER --each N --seed N
@@ -51,6 +52,7 @@ fn command(arguments: &Arguments) -> Result<bool, String> {
         "one" => one(arguments),
         "sqrt" => sqrt(arguments),
         "mirror" => mirror::compare(arguments),
+        "packed" => mirror::packed(arguments),
         "records" => records(arguments),
         "all" => Ok(calls(arguments)? & records(arguments)?),
         "write-list" => write_list(arguments),
@@ -172,10 +174,10 @@ fn check_list(arguments: &Arguments) -> Result<bool, String> {
         lines: fs::read_to_string(&lines).map_err(|error| unread(&lines, error))?,
     };
     let found = replay::verify(&list, &library)?;
-    println!("{:<10}{:>7} {:?}", "op", "calls", "by number, from 0");
+    println!("{:<16}{:>7} {:?}", "op", "calls", "by number, from 0");
     for op in OPS {
         let numbers = found.numbers[op.code()];
-        println!("{:<10}{:>7} {numbers:?}", op.name(), numbers.iter().sum::<u64>());
+        println!("{:<16}{:>7} {numbers:?}", op.name(), numbers.iter().sum::<u64>());
     }
     println!(
         "{} calls, {} with a NaN ratio, the longest {} bytes",

@@ -1,4 +1,5 @@
-//! B after sequences of resets and updates, held against its mirror: the Rust's, and the library's.
+//! B after sequences of resets and updates: held against its mirror, the Rust's and the library's;
+//! and the library's B as its lower triangle held against the Rust's square.
 
 use crate::arguments::Arguments;
 use crate::linked::linked;
@@ -6,7 +7,7 @@ use peer::{Library, library};
 use reference::Rust;
 use reference::call::Sound;
 use reference::shape::Op;
-use trial::sequences::{Mirrored, mirrors};
+use trial::sequences::{Agreed, Mirrored, agree, mirrors};
 
 /// Runs the sequences through one library and says what was counted: whether nothing is apart.
 fn show(name: &str, library: &Library, sequences: u64, seed: u64) -> bool {
@@ -43,4 +44,21 @@ pub fn compare(arguments: &Arguments) -> Result<bool, String> {
         equal &= show("the library", &under_test, sequences, seed);
     }
     Ok(equal)
+}
+
+/// Compares the library's B as its lower triangle with the Rust's square.
+pub fn packed(arguments: &Arguments) -> Result<bool, String> {
+    let sequences = arguments.value("sequences", 20_000)?;
+    let seed = arguments.value("seed", 1)?;
+    let (under_test, own) = linked();
+    let whose = if own.contains(&Op::PackedUpdate) { "the library" } else { "the peer" };
+    let Agreed { events, refused, entries, apart, numbers, first } =
+        agree(&library::<Rust, Sound>(), &under_test, sequences, seed);
+    println!("{whose}: seed {seed}, {sequences} sequences from the identity, of every dimension");
+    println!("    events {events}, after each a product and a factor, {refused} factors refused");
+    println!("    entries {entries}; apart: {apart}; numbers apart: {numbers}");
+    if let Some(index) = first {
+        println!("    first in sequence {index}");
+    }
+    Ok(apart == 0 && numbers == 0 && first.is_none())
 }

@@ -31,6 +31,13 @@ macro_rules! interface {
             Cholesky cholesky "gritstrut_cholesky" [n] (b b_len read) (l l_len write);
             Update update "gritstrut_update" [n]
                 (b b_len both) (s s_len read) (y y_len read);
+            PackedIdentity packed_identity "gritstrut_packed_identity" [n] (b b_len write);
+            PackedTimes packed_times "gritstrut_packed_times" [n]
+                (b b_len read) (v v_len read) (out out_len write);
+            PackedCholesky packed_cholesky "gritstrut_packed_cholesky" [n]
+                (b b_len read) (l l_len write);
+            PackedUpdate packed_update "gritstrut_packed_update" [n]
+                (b b_len both) (s s_len read) (y y_len read);
             Step step "gritstrut_step" [n m]
                 (factor factor_len read) (gradient gradient_len read) (kinds kinds_len kind)
                 (values values_len read) (jacobian jacobian_len read) (lower lower_len read)

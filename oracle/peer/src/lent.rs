@@ -62,7 +62,7 @@ pub unsafe fn serve<K: Kernels, E: Edge>(
         inputs,
         kinds,
         outputs: match op {
-            Op::Update => vec![],
+            _ if op.is_update() => vec![],
             _ => lent.outputs.iter().map(|output| output.1).collect(),
         },
         words: lent.words.1,

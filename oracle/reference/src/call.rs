@@ -3,6 +3,7 @@
 use crate::shape::{Lengths, Op, REPORT, WORKSPACES};
 use crate::stand_in::{self, Failure};
 use crate::tally::{self, Tally};
+use crate::triangle;
 
 /// A call: everything that crosses the C interface inwards.
 #[derive(Debug, Clone)]
@@ -260,6 +261,9 @@ fn arithmetic<K: Kernels, E: Edge>(call: &Call) -> Answer {
             let after = K::update(sizes[0], &inputs[0], &inputs[1], &inputs[2]);
             Answer::written(vec![after])
         }
+        Op::PackedIdentity | Op::PackedTimes | Op::PackedCholesky | Op::PackedUpdate => {
+            on_square::<K, E>(call)
+        }
         Op::Step => match K::step(&call.kinds, inputs) {
             Ok((solution, relaxation)) => {
                 Answer { value: Some(relaxation), ..solved(Ok(solution)) }
@@ -267,6 +271,20 @@ fn arithmetic<K: Kernels, E: Edge>(call: &Call) -> Answer {
             Err(failure) => solved(Err(failure)),
         },
     }
+}
+
+/// The square form's answer on the square that the triangle stands for; B is packed again.
+fn on_square<K: Kernels, E: Edge>(call: &Call) -> Answer {
+    let (n, mut square) = (call.sizes[0], call.clone());
+    square.op = call.op.square().expect("an operation on a triangle");
+    if let Some(b) = square.inputs.first_mut() {
+        *b = triangle::unpacked(n, b);
+    }
+    let mut answer = arithmetic::<K, E>(&square);
+    if matches!(call.op, Op::PackedIdentity | Op::PackedUpdate) {
+        answer.outputs[0] = triangle::packed(n, &answer.outputs[0]);
+    }
+    answer
 }
 
 fn factored(factored: Factored) -> Answer {

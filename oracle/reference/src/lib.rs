@@ -7,6 +7,7 @@ pub mod call;
 pub mod shape;
 pub mod stand_in;
 pub mod tally;
+pub mod triangle;
 
 include!(concat!(env!("OUT_DIR"), "/tree.rs"));
 

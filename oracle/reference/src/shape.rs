@@ -1,5 +1,7 @@
 //! The public operations: their sizes, and how long each slice is.
 
+use crate::triangle;
+
 /// A public operation.
 #[derive(Debug, Clone, Copy, PartialEq, Eq, Hash)]
 pub enum Op {
@@ -16,10 +18,14 @@ pub enum Op {
     Cholesky,
     Update,
     Step,
+    PackedIdentity,
+    PackedTimes,
+    PackedCholesky,
+    PackedUpdate,
 }
 
 /// Every public operation, in the order of the port.
-pub const OPS: [Op; 13] = [
+pub const OPS: [Op; 17] = [
     Op::Sqrt,
     Op::Sum,
     Op::Norm,
@@ -33,6 +39,10 @@ pub const OPS: [Op; 13] = [
     Op::Cholesky,
     Op::Update,
     Op::Step,
+    Op::PackedIdentity,
+    Op::PackedTimes,
+    Op::PackedCholesky,
+    Op::PackedUpdate,
 ];
 
 /// How many f64 and u32 the workspaces hold at least.
@@ -76,12 +86,32 @@ impl Op {
             Op::Cholesky => "cholesky",
             Op::Update => "update",
             Op::Step => "step",
+            Op::PackedIdentity => "packed_identity",
+            Op::PackedTimes => "packed_times",
+            Op::PackedCholesky => "packed_cholesky",
+            Op::PackedUpdate => "packed_update",
         }
     }
 
     /// The operation of a name.
     pub fn named(name: &str) -> Option<Op> {
         OPS.into_iter().find(|op| op.name() == name)
+    }
+
+    /// The operation on the square B that one on its lower triangle agrees with.
+    pub fn square(self) -> Option<Op> {
+        match self {
+            Op::PackedIdentity => Some(Op::Identity),
+            Op::PackedTimes => Some(Op::Times),
+            Op::PackedCholesky => Some(Op::Cholesky),
+            Op::PackedUpdate => Some(Op::Update),
+            _ => None,
+        }
+    }
+
+    /// Whether the first input is written too.
+    pub fn is_update(self) -> bool {
+        matches!(self, Op::Update | Op::PackedUpdate)
     }
 
     /// Whether the operation has sizes, refusals and workspaces: all but part 1.
@@ -100,6 +130,9 @@ impl Op {
             Op::Lsi => &[(0, 17), (0, 17), (0, 66)],
             Op::Lsei => &[(0, 17), (0, 16), (0, 17), (0, 66)],
             Op::Identity | Op::Times | Op::Cholesky | Op::Update => &[(1, 16)],
+            Op::PackedIdentity | Op::PackedTimes | Op::PackedCholesky | Op::PackedUpdate => {
+                &[(1, 16)]
+            }
             Op::Step => &[(1, 16), (0, 16)],
         }
     }
@@ -135,6 +168,10 @@ impl Op {
             Op::Times => (vec![first * first, first], vec![first]),
             Op::Cholesky => (vec![first * first], vec![first * first]),
             Op::Update => (vec![first * first, first, first], vec![]),
+            Op::PackedIdentity => (vec![], vec![triangle::count(first)]),
+            Op::PackedTimes => (vec![triangle::count(first), first], vec![first]),
+            Op::PackedCholesky => (vec![triangle::count(first)], vec![first * first]),
+            Op::PackedUpdate => (vec![triangle::count(first), first, first], vec![]),
             Op::Step => {
                 let (n, m) = (first, second);
                 (vec![n * n, n, m, m * n, n, n], vec![n, m])

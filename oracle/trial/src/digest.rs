@@ -100,7 +100,7 @@ fn written(owed: &Answer, i: usize) -> &[f64] {
 /// The first output: `update` has its matrix there before the call.
 fn first<'a>(stored: &'a Stored, owed: &'a Answer) -> &'a [f64] {
     match stored.call.op {
-        Op::Update if owed.number != 0 => &stored.call.inputs[0],
+        op if op.is_update() && owed.number != 0 => &stored.call.inputs[0],
         _ => written(owed, 0),
     }
 }

@@ -214,7 +214,7 @@ pub fn compare(
     if number != owed.number {
         found.push(format!("number: owed {}, found {number}", owed.number));
     }
-    compare_inputs(&buffers, call.op == Op::Update && owed.number == 0, &mut found);
+    compare_inputs(&buffers, call.op.is_update() && owed.number == 0, &mut found);
     compare_workspaces(&buffers, owed.number, &mut found);
     compare_outputs(&buffers, call.op, owed, &mut found);
     compare_single(&buffers, owed, &mut found);
@@ -284,7 +284,7 @@ fn compare_workspaces(buffers: &Buffers, number: u32, found: &mut Vec<String>) {
 
 /// Outputs and the slice of u32: as owed where the answer has them, else untouched.
 fn compare_outputs(buffers: &Buffers, op: Op, owed: &Answer, found: &mut Vec<String>) {
-    let (updated, done) = (op == Op::Update, owed.number == 0);
+    let (updated, done) = (op.is_update(), owed.number == 0);
     let written = if updated && done { &buffers.inputs[..1] } else { &buffers.outputs[..] };
     for (i, held) in written.iter().enumerate() {
         let values = owed.outputs.get(i).map(Vec::as_slice);

@@ -1,8 +1,10 @@
-//! Sequences of resets and updates of B from the identity, and whether B stays its own mirror.
+//! Sequences of resets and updates of B from the identity: whether B stays its own mirror, and
+//! whether B as its lower triangle agrees with the square.
 
 use crate::draw::{Draw, Palette};
 use peer::Library;
 use reference::shape::{Op, WORKSPACES};
+use reference::triangle;
 
 /// What happens to B.
 #[derive(Debug, Clone)]
@@ -80,7 +82,14 @@ pub fn sequence(seed: u64, index: u64) -> Sequence {
     Sequence { n, events: (0..count).map(|_| one(&mut draw)).collect() }
 }
 
-/// B and the workspaces that each call is lent.
+/// How B is kept.
+#[derive(Debug, Clone, Copy, PartialEq, Eq)]
+pub enum Form {
+    Square,
+    Packed,
+}
+
+/// The workspaces that each call is lent.
 pub struct Room {
     w: Vec<f64>,
     iw: Vec<u32>,
@@ -93,8 +102,18 @@ impl Default for Room {
 }
 
 impl Room {
-    /// Makes an event happen to the square B, through the library: the number of its call.
-    pub fn happen(&mut self, library: &Library, n: usize, b: &mut [f64], event: &Event) -> u32 {
+    /// Makes an event happen to B, through the library: the number of its call.
+    pub fn happen(
+        &mut self,
+        (library, form): (&Library, Form),
+        n: usize,
+        b: &mut [f64],
+        event: &Event,
+    ) -> u32 {
+        let (identity, update) = match form {
+            Form::Square => (library.identity, library.update),
+            Form::Packed => (library.packed_identity, library.packed_update),
+        };
         let none = vec![0.0; n];
         let (reset, refusal, s, y) = match event {
             Event::Reset => (true, 0, &none, &none),
@@ -109,12 +128,97 @@ impl Room {
         let (b, words) = (b.as_mut_ptr(), WORKSPACES[1]);
         unsafe {
             if reset {
-                (library.identity)(size, b, length, w, room, iw, words)
+                identity(size, b, length, w, room, iw, words)
             } else {
-                (library.update)(size, b, length, s.as_ptr(), n, y.as_ptr(), n, w, room, iw, words)
+                update(size, b, length, s.as_ptr(), n, y.as_ptr(), n, w, room, iw, words)
             }
         }
     }
+}
+
+impl Room {
+    /// The product with a vector and the factor of B: their numbers and what they wrote.
+    fn answers(
+        &mut self,
+        (library, form): (&Library, Form),
+        n: usize,
+        b: &[f64],
+        v: &[f64],
+    ) -> ([u32; 2], Vec<f64>) {
+        let (times, cholesky) = match form {
+            Form::Square => (library.times, library.cholesky),
+            Form::Packed => (library.packed_times, library.packed_cholesky),
+        };
+        let (mut out, mut l) = (vec![-1.0; n], vec![-1.0; n * n]);
+        let (w, iw) = (self.w.as_mut_ptr(), self.iw.as_mut_ptr());
+        let (rooms, data, len) = (WORKSPACES, b.as_ptr(), b.len());
+        let numbers = unsafe {
+            [
+                times(n, data, len, v.as_ptr(), n, out.as_mut_ptr(), n, w, rooms[0], iw, rooms[1]),
+                cholesky(n, data, len, l.as_mut_ptr(), n * n, w, rooms[0], iw, rooms[1]),
+            ]
+        };
+        out.extend(l);
+        (numbers, out)
+    }
+}
+
+/// What was counted where the two forms of B were compared.
+#[derive(Debug, Clone, Copy, Default)]
+pub struct Agreed {
+    pub events: u64,
+    /// Factors that were refused by both.
+    pub refused: u64,
+    /// Entries of B, of products and of factors, and how many of them are apart; numbers apart.
+    pub entries: u64,
+    pub apart: u64,
+    pub numbers: u64,
+    /// The first sequence with a difference.
+    pub first: Option<u64>,
+}
+
+impl Agreed {
+    fn entries(&mut self, owed: &[f64], found: &[f64], index: u64) {
+        let apart = owed.iter().zip(found).filter(|(owed, found)| !same(**owed, **found)).count();
+        self.entries += owed.len() as u64;
+        self.apart += apart as u64;
+        if apart > 0 || owed.len() != found.len() {
+            self.first.get_or_insert(index);
+        }
+    }
+
+    fn numbers(&mut self, owed: &[u32], found: &[u32], index: u64) {
+        if owed != found {
+            self.numbers += 1;
+            self.first.get_or_insert(index);
+        }
+    }
+}
+
+/// Runs sequences on the square B of one library and on the triangle of another: after each event
+/// the triangle must be the square's, and product and factor must answer alike.
+pub fn agree(square: &Library, packed: &Library, sequences: u64, seed: u64) -> Agreed {
+    let mut counts = Agreed::default();
+    let mut room = Room::default();
+    let (one, other) = ((square, Form::Square), (packed, Form::Packed));
+    for index in 0..sequences {
+        let Sequence { n, events } = sequence(seed, index);
+        let mut draw = Draw::new(seed, Op::Times, "sequence", index);
+        let (mut b, mut p) = (vec![f64::NAN; n * n], vec![f64::NAN; triangle::count(n)]);
+        for event in std::iter::once(&Event::Reset).chain(&events) {
+            let owed = room.happen(one, n, &mut b, event);
+            let found = room.happen(other, n, &mut p, event);
+            counts.events += 1;
+            counts.numbers(&[owed], &[found], index);
+            counts.entries(&triangle::packed(n, &b), &p, index);
+            let v = vector(&mut draw, n);
+            let (owed, found) = (room.answers(one, n, &b, &v), room.answers(other, n, &p, &v));
+            counts.refused += u64::from(owed.0[1] != 0);
+            counts.numbers(&owed.0, &found.0, index);
+            counts.entries(&owed.1, &found.1, index);
+        }
+    }
+    counts
 }
 
 /// What was counted over some sequences.
@@ -178,11 +282,12 @@ pub fn mirrors(library: &Library, sequences: u64, seed: u64) -> Mirrored {
     for index in 0..sequences {
         let Sequence { n, events } = sequence(seed, index);
         let mut b = vec![f64::NAN; n * n];
-        room.happen(library, n, &mut b, &Event::Reset);
+        let kept = (library, Form::Square);
+        room.happen(kept, n, &mut b, &Event::Reset);
         counts.compare(n, &b, index);
         for event in &events {
             let before: Vec<u64> = b.iter().map(|entry| entry.to_bits()).collect();
-            let number = room.happen(library, n, &mut b, event);
+            let number = room.happen(kept, n, &mut b, event);
             let left = b.iter().zip(&before).all(|(now, before)| now.to_bits() == *before);
             counts.event(event, number, left);
             counts.compare(n, &b, index);

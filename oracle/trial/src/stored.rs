@@ -73,7 +73,7 @@ impl Stored {
         for (to, &len) in lengths[2..5].iter_mut().zip(&call.outputs) {
             *to = len;
         }
-        if call.op == Op::Update {
+        if call.op.is_update() {
             lengths[2] = call.inputs[0].len();
         }
         lengths[5] = call.words;

@@ -187,7 +187,7 @@ const HEADS: [&str; COLUMNS] = [
 
 /// Prints one line of the table.
 fn line(op: &str, kind: &str, columns: &[String; COLUMNS]) {
-    print!("{op:<9}{kind:<20}");
+    print!("{op:<16}{kind:<20}");
     for column in columns {
         print!("{column:>9}");
     }

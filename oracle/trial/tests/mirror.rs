@@ -1,10 +1,11 @@
-//! B is its own mirror: the Rust keeps it, and copies of its update that do not are told.
+//! B is its own mirror: the Rust keeps it, and copies of its update that do not are told. And B as
+//! its lower triangle agrees with the square; versions that do not are told.
 
 use peer::{Library, library};
 use reference::Rust;
 use reference::call::Sound;
 use std::slice;
-use trial::sequences::mirrors;
+use trial::sequences::{agree, mirrors};
 
 /// The dot product, as the Rust has it.
 fn dot(a: &[f64], b: &[f64]) -> f64 {
@@ -107,4 +108,45 @@ fn slips_are_told() {
         let found = mirrors(&Library { update, ..rust() }, 4_000, 1);
         assert!(found.apart > 1_000 && found.numbers == 0, "{found:?}");
     }
+}
+
+/// A packed product, right but for one entry that is read by columns.
+#[allow(clippy::too_many_arguments)]
+unsafe extern "C" fn by_columns(
+    n: usize,
+    b: *const f64,
+    b_len: usize,
+    v: *const f64,
+    v_len: usize,
+    out: *mut f64,
+    out_len: usize,
+    w: *mut f64,
+    w_len: usize,
+    iw: *mut u32,
+    iw_len: usize,
+) -> u32 {
+    let number =
+        unsafe { (rust().packed_times)(n, b, b_len, v, v_len, out, out_len, w, w_len, iw, iw_len) };
+    if number == 0 && n > 2 {
+        let (b, v) = unsafe { (slice::from_raw_parts(b, b_len), slice::from_raw_parts(v, v_len)) };
+        let column: f64 = [b[0], b[1], b[2]].iter().zip(v).map(|(b, v)| b * v).sum();
+        unsafe { out.write(column) };
+    }
+    number
+}
+
+#[test]
+fn the_triangle_agrees() {
+    let found = agree(&rust(), &rust(), 2_000, 1);
+    assert_eq!((found.apart, found.numbers, found.first), (0, 0, None));
+    assert!(found.refused > 500 && found.events - found.refused > 500);
+}
+
+#[test]
+fn triangles_that_do_not_agree_are_told() {
+    let found = agree(&rust(), &Library { packed_times: by_columns, ..rust() }, 2_000, 1);
+    assert!(found.apart > 500, "{found:?}");
+    let lengths = Library { packed_update: rust().update, ..rust() };
+    let found = agree(&rust(), &lengths, 2_000, 1);
+    assert!(found.numbers > 500, "{found:?}");
 }

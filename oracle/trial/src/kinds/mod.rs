@@ -3,6 +3,7 @@
 mod hessian;
 mod lsei;
 mod nnls;
+mod packed;
 mod parts;
 mod plain;
 mod qr;
@@ -44,7 +45,10 @@ impl Kind {
     /// The call of an index.
     pub fn call(&self, seed: u64, index: u64) -> (Call, Draw) {
         let mut draw = Draw::new(seed, self.op, self.name, index);
-        let mut call = (self.make)(self.op, index, &mut draw);
+        let mut call = match self.is_spoiled() {
+            true => (self.make)(self.op, index, &mut draw),
+            false => packed::make(self.op, self.make, index, &mut draw),
+        };
         if call.op.is_lent() && matches!(self.share, Share::Weight(_)) && draw.one_in(4) {
             lengthen(&mut call, &mut draw);
         }
@@ -82,6 +86,10 @@ fn own(op: Op) -> Vec<Row> {
         Op::Cholesky => hessian::CHOLESKY.to_vec(),
         Op::Update => hessian::UPDATE.to_vec(),
         Op::Step => step::ROWS.to_vec(),
+        Op::PackedIdentity => hessian::IDENTITY.to_vec(),
+        Op::PackedTimes => hessian::TIMES.to_vec(),
+        Op::PackedCholesky => hessian::CHOLESKY.to_vec(),
+        Op::PackedUpdate => hessian::UPDATE.to_vec(),
     }
 }
 

@@ -1,6 +1,6 @@
 //! Calls with a wrong size, length, workspace or kind, for every argument, one or several.
 
-use super::{Row, Share, own};
+use super::{Row, Share, own, packed};
 use crate::draw::{Draw, Palette};
 use crate::table::Aim::Number;
 use reference::call::Call;
@@ -38,7 +38,7 @@ fn sound(op: Op, draw: &mut Draw) -> Call {
         Share::All(count) => draw.below(count as usize) as u64,
         Share::Weight(_) => draw.bits() >> 32,
     };
-    (row.3)(op, index, draw)
+    packed::make(op, row.3, index, draw)
 }
 
 /// A sound call with one of the faults, or with some of several.
