@@ -22,7 +22,7 @@ large-five : norm (fin true 3 (pos 600) ∷ fin false 1 (pos 602) ∷ []) ≡ fi
 unfolding norm rescaled reduced plainNorm scaled largest hasNan hasInf isNan tab dot sqrtOf rootOf floorRoot round units span climb trailingZeros size odd Σ mul add sum
 large-five = refl
 
--- document 01's norms of the last two
+-- the plain norms of the last two
 vanishes : plainNorm (fin false 3 (negsuc 599) ∷ fin true 1 (negsuc 597) ∷ []) ≡ +0
 unfolding plainNorm dot sqrtOf rootOf floorRoot round units span climb trailingZeros size odd Σ mul add sum
 vanishes = refl
