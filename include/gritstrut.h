@@ -66,8 +66,8 @@ extern "C" {
 #endif
 
 /* The version of this header; the number is 10000 * first + 100 * second + third. */
-#define GRITSTRUT_VERSION "0.2.0"
-#define GRITSTRUT_VERSION_NUMBER 200
+#define GRITSTRUT_VERSION "0.3.0"
+#define GRITSTRUT_VERSION_NUMBER 300
 
 #define GRITSTRUT_FLOATS 8192
 #define GRITSTRUT_WORDS 512

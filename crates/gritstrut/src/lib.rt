@@ -25,9 +25,9 @@ use workspace::Refusal;
 // The version that include/gritstrut.h names: major, minor and patch, two digits each.
 #[no_mangle]
 pub extern "C" fn gritstrut_version() -> u32
-    ensures { λ r. ⌜ r ≡ 200 ⌝ }
+    ensures { λ r. ⌜ r ≡ 300 ⌝ }
 {
-    200
+    300
 }
 
 // The square root.
