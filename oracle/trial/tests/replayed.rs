@@ -27,7 +27,7 @@ impl<'a> Memory<'a> {
         let (call, fill) = (&stored.call, stored.fill);
         let output = || vec![f64::from_bits(fill.output); 1_200];
         let mut outputs = [output(), output(), output()];
-        if call.op == Op::Update {
+        if call.op.is_update() {
             outputs[0][..call.inputs[0].len()].copy_from_slice(&call.inputs[0]);
         }
         Self {
