@@ -34,7 +34,7 @@ use Rattle.step.specs.declared.Report.{Report}
 use Rattle.step_call.specs.declared.Outcome as StepTold
 use Rattle.step_call.specs.Promise as Step
 use Rattle.step_call.specs.declared.Outcome.the-variants as step-told
-use Rattle.gritstrut.specs.Interface.{QrLeaves, NnlsLeaves, SolveLeaves, placed, PlaceLeaves, WriteLeaves, entriesOf, reportLeft, stepReportCall, StepLeaves}
+use Rattle.gritstrut.specs.Interface.{QrLeaves, NnlsLeaves, SolveLeaves, placeLeft, PlaceLeaves, WriteLeaves, entriesOf, reportLeft, stepReportCall, StepLeaves}
 
 -- ---- operations that tell nothing beside their outputs
 
@@ -50,11 +50,11 @@ solve-leaves c o k x x' l l' w w' iw iw' p e = record {
 }
 
 pub place-leaves : (c : Answer Solution) (o : Outcome) (k place place' : ℕ) (x x' l l' w w' : List Float) (iw iw' : List ℕ)
-    → Solves c o x x' l l' w w' iw iw' → (k ≡ outcomeNumber o) × (place' ≡ placed o place) → PlaceLeaves c k place place' x x' l l' w w' iw iw'
+    → Solves c o x x' l l' w w' iw iw' → (k ≡ outcomeNumber o) × (place' ≡ placeLeft o place) → PlaceLeaves c k place place' x x' l l' w w' iw iw'
 place-leaves c o k place place' x x' l l' w w' iw iw' p e = record {
   the-number = e .0 ∙ ap outcomeNumber (p .the-outcome) ∙ number-told c;
   the-call = record { the-outcome = refl; the-x = p .the-x; the-multipliers = p .the-multipliers; the-floats = p .the-floats; the-words = p .the-words };
-  the-place = e .1 ∙ ap (λ (q : Outcome). placed q place) (p .the-outcome);
+  the-place = e .1 ∙ ap (λ (q : Outcome). placeLeft q place) (p .the-outcome);
 }
 
 pub write-leaves : (c : Answer (List Float)) (o : Outcome) (k : ℕ) (out out' w w' : List Float) (iw iw' : List ℕ)
@@ -158,10 +158,10 @@ counts-fit m n k a b x x' w w' iw iw' r f p =
 
 -- ---- a place, and a report
 
-pub some-place : (why : Refusal) (o : Outcome) (at old : ℕ) → o ≡ Refused why → at ≡ placeOf why → eqb at nowhere ≡ false → at ≡ placed o old
+pub some-place : (why : Refusal) (o : Outcome) (at old : ℕ) → o ≡ Refused why → at ≡ placeOf why → eqb at nowhere ≡ false → at ≡ placeLeft o old
 some-place why o at old q e h = rw (q, ← e, h)
 
-pub no-place : (why : Refusal) (o : Outcome) (at old : ℕ) → o ≡ Refused why → at ≡ placeOf why → eqb at nowhere ≡ true → old ≡ placed o old
+pub no-place : (why : Refusal) (o : Outcome) (at old : ℕ) → o ≡ Refused why → at ≡ placeOf why → eqb at nowhere ≡ true → old ≡ placeLeft o old
 no-place why o at old q e h = rw (q, ← e, h)
 
 six : (l : List ℕ) (a b c d e f : ℕ) → length l ≡ 6 → set (set (set (set (set (set l 0 a) 1 b) 2 c) 3 d) 4 e) 5 f ≡ a ∷ b ∷ c ∷ d ∷ e ∷ f ∷ []

@@ -1,5 +1,5 @@
 -- The C interface's promises: the number, and what the operation's own promise says of all that it leaves. Definitions only.
--- A single result is written through a pointer where the number is 0, and nothing is stored there else: from the answer c of a call, what stands behind each such pointer before and, primed, afterwards.
+-- A single result is written through a pointer where the number is 0, a place where the refusal has one, and nothing is stored there else: from the answer c of a call, what stands behind each such pointer before and, primed, afterwards.
 use mathlib.Core.Path.{_≡_}
 use mathlib.Core.Bool.{cond, _&&_}
 use mathlib.Core.List.{List, [], _∷_}
@@ -40,14 +40,14 @@ pub record SolveLeaves (c : Answer Solution) (k : ℕ) (x x' l l' w w' : List Fl
   pub the-call : Solves c (Tables.outcomeOf c) x x' l l' w w' iw iw'
 
 -- the place that comes with a refusal is stored where there is one
-abbrev pub placed : Outcome → ℕ → ℕ
-placed Done old = old
-placed (Refused r) old = cond (eqb (placeOf r) nowhere) old (placeOf r)
+abbrev pub placeLeft : Outcome → ℕ → ℕ
+placeLeft Done old = old
+placeLeft (Refused r) old = cond (eqb (placeOf r) nowhere) old (placeOf r)
 
 pub record PlaceLeaves (c : Answer Solution) (k place place' : ℕ) (x x' l l' w w' : List Float) (iw iw' : List ℕ) : Type 0 where
   pub the-number : k ≡ number c
   pub the-call : Solves c (Tables.outcomeOf c) x x' l l' w w' iw iw'
-  pub the-place : place' ≡ placed (Tables.outcomeOf c) place
+  pub the-place : place' ≡ placeLeft (Tables.outcomeOf c) place
 
 pub record WriteLeaves (c : Answer (List Float)) (k : ℕ) (out out' w w' : List Float) (iw iw' : List ℕ) : Type 0 where
   pub the-number : k ≡ number c

@@ -10,7 +10,7 @@ ghost use Rattle.hessian_packed_call.specs.Promise.{packedIdentityCall, packedT
 ghost use Rattle.step_rows.specs.Problem.{problemOf};
 ghost use lib.ListN.{length};
 ghost use Rattle.workspace.specs.Tables.{outcomeNumber};
-ghost use Rattle.gritstrut.specs.Interface.{QrLeaves, NnlsLeaves, SolveLeaves, placed, PlaceLeaves, WriteLeaves, entriesOf, stepReportCall, StepLeaves};
+ghost use Rattle.gritstrut.specs.Interface.{QrLeaves, NnlsLeaves, SolveLeaves, placeLeft, PlaceLeaves, WriteLeaves, entriesOf, stepReportCall, StepLeaves};
 ghost use Rattle.step.specs.Step.{reportOf};
 use hessian_call::Hessian;
 use hessian_packed_call::Packed;
@@ -131,7 +131,7 @@ pub extern "C" fn gritstrut_ldp(
 
 // The number of an outcome; the place that comes with it is stored.
 fn number_with_place(o: workspace::Outcome, place: &mut u32) -> u32
-    ensures { λ k. ⌜ (k ≡ outcomeNumber o) × (now (place .exit) ≡ placed o (now (place .entry))) ⌝ }
+    ensures { λ k. ⌜ (k ≡ outcomeNumber o) × (now (place .exit) ≡ placeLeft o (now (place .entry))) ⌝ }
 {
     match o {
         workspace::Outcome::Done => 0,

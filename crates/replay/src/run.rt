@@ -119,28 +119,8 @@ fn run_step(
     mix_kinds(mix_places(mix_float(told(number), relaxation), &report), g)
 }
 
-// The same of B as its lower triangle.
-fn run_packed(
-    operation: usize,
-    call: &Call,
-    values: &Values,
-    x: &mut [f64],
-    w: &mut [f64],
-    iw: &mut [u32],
-) -> u64 {
-    let n = size(call, 0);
-    let a = part(call, values, 0);
-    let b = part(call, values, 1);
-    let c = part(call, values, 2);
-    match operation {
-        13 => told(gritstrut::gritstrut_packed_identity(n, x, w, iw)),
-        14 => told(gritstrut::gritstrut_packed_times(n, a, b, x, w, iw)),
-        15 => told(gritstrut::gritstrut_packed_cholesky(n, a, x, w, iw)),
-        _ => told(gritstrut::gritstrut_packed_update(n, x, b, c, w, iw)),
-    }
-}
-
-// The approximation B: the identity, a product, the factor, or the update of the matrix in x.
+// The approximation B, square or as its lower triangle: the identity, a product, the factor, or the update of the
+// matrix in x.
 fn run_hessian(
     operation: usize,
     call: &Call,
@@ -158,8 +138,68 @@ fn run_hessian(
         9 => told(gritstrut::gritstrut_times(n, a, b, x, w, iw)),
         10 => told(gritstrut::gritstrut_cholesky(n, a, x, w, iw)),
         11 => told(gritstrut::gritstrut_update(n, x, b, c, w, iw)),
-        _ => run_packed(operation, call, values, x, w, iw),
+        13 => told(gritstrut::gritstrut_packed_identity(n, x, w, iw)),
+        14 => told(gritstrut::gritstrut_packed_times(n, a, b, x, w, iw)),
+        15 => told(gritstrut::gritstrut_packed_cholesky(n, a, x, w, iw)),
+        _ => told(gritstrut::gritstrut_packed_update(n, x, b, c, w, iw)),
     }
+}
+
+// LSI.
+fn run_lsi(
+    call: &Call,
+    values: &Values,
+    x: &mut [f64],
+    y: &mut [f64],
+    w: &mut [f64],
+    iw: &mut [u32],
+) -> u64 {
+    let mut place = mark(call);
+    let number = gritstrut::gritstrut_lsi(
+        size(call, 0),
+        size(call, 1),
+        size(call, 2),
+        part(call, values, 0),
+        part(call, values, 1),
+        part(call, values, 2),
+        part(call, values, 3),
+        x,
+        y,
+        &mut place,
+        w,
+        iw,
+    );
+    told_place(number, place)
+}
+
+// LSEI.
+fn run_lsei(
+    call: &Call,
+    values: &Values,
+    x: &mut [f64],
+    y: &mut [f64],
+    w: &mut [f64],
+    iw: &mut [u32],
+) -> u64 {
+    let mut place = mark(call);
+    let number = gritstrut::gritstrut_lsei(
+        size(call, 0),
+        size(call, 1),
+        size(call, 2),
+        size(call, 3),
+        part(call, values, 0),
+        part(call, values, 1),
+        part(call, values, 2),
+        part(call, values, 3),
+        part(call, values, 4),
+        part(call, values, 5),
+        x,
+        y,
+        &mut place,
+        w,
+        iw,
+    );
+    told_place(number, place)
 }
 
 // A call that is lent workspaces.
@@ -174,49 +214,20 @@ fn run_any(
 ) -> u64 {
     let i = size(call, 0);
     let j = size(call, 1);
-    let k = size(call, 2);
-    let l = size(call, 3);
     let a = part(call, values, 0);
     let b = part(call, values, 1);
-    let c = part(call, values, 2);
-    let d = part(call, values, 3);
-    let e = part(call, values, 4);
-    let f = part(call, values, 5);
     match operation {
         3 => run_qr(call, values, x, y, w, iw),
         4 => {
+            let k = size(call, 2);
             let mut p = mark(call);
             let mut q = mark(call);
             let number = gritstrut::gritstrut_nnls(i, j, k, a, b, x, &mut p, &mut q, w, iw);
             told_counts(number, p, q)
         }
         5 => told(gritstrut::gritstrut_ldp(i, j, a, b, x, y, w, iw)),
-        6 => {
-            let mut p = mark(call);
-            let number = gritstrut::gritstrut_lsi(i, j, k, a, b, c, d, x, y, &mut p, w, iw);
-            told_place(number, p)
-        }
-        7 => {
-            let mut p = mark(call);
-            let number = gritstrut::gritstrut_lsei(
-                i,
-                j,
-                k,
-                l,
-                a,
-                b,
-                c,
-                d,
-                e,
-                f,
-                x,
-                y,
-                &mut p,
-                w,
-                iw,
-            );
-            told_place(number, p)
-        }
+        6 => run_lsi(call, values, x, y, w, iw),
+        7 => run_lsei(call, values, x, y, w, iw),
         12 => run_step(call, values, x, y, w, iw),
         _ => run_hessian(operation, call, values, x, w, iw),
     }
