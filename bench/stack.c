@@ -36,6 +36,7 @@ static unsigned char stack[ROOM] __attribute__((aligned(4096)));
 
 static double workspace[GRITSTRUT_FLOATS];
 static uint32_t words[GRITSTRUT_WORDS];
+static gritstrut_tally tally;
 static uint64_t state = 88172645463325252u;
 
 /* From -1 to 1. */
@@ -80,7 +81,7 @@ static void call(struct step *p)
     p->number = gritstrut_step(n, m, p->factor, n * n, p->gradient, n, p->kinds, m, p->values, m,
                                p->jacobian, m * n, p->lower, n, p->upper, n, p->d, n,
                                p->multipliers, m, &p->relaxation, p->report, GRITSTRUT_REPORT,
-                               workspace, GRITSTRUT_FLOATS, words, GRITSTRUT_WORDS);
+                               &tally, workspace, GRITSTRUT_FLOATS, words, GRITSTRUT_WORDS);
 }
 
 /* Paints what lies below its own frame, makes the call, and looks how deep the paint is gone. It

@@ -49,6 +49,7 @@ int main(int argc, char **argv)
     double lower[METERS], upper[METERS], values[ROWS];
     double d[METERS], multipliers[ROWS], relaxation;
     uint32_t report[GRITSTRUT_REPORT];
+    gritstrut_tally tally = {0, 0};
 
     for (int i = 0; i < METERS; i++) {
         factor[i * METERS + i] = 1.0 / spread[i];
@@ -63,7 +64,7 @@ int main(int argc, char **argv)
     uint32_t number = gritstrut_step(METERS, m, factor, METERS * METERS, gradient, METERS, kinds, m,
                                      values, m, coefficients, m * METERS, lower, METERS, upper, METERS,
                                      d, METERS, multipliers, m, &relaxation, report, GRITSTRUT_REPORT,
-                                     w, GRITSTRUT_FLOATS, iw, GRITSTRUT_WORDS);
+                                     &tally, w, GRITSTRUT_FLOATS, iw, GRITSTRUT_WORDS);
     /* The report is written with 0, 5, 6 and 7: a step can come out although a balance stands twice. */
     int reported = number == GRITSTRUT_DONE || number >= GRITSTRUT_DEFICIENT;
     if (reported && report[GRITSTRUT_EXACT_NUMBER] == GRITSTRUT_DEPENDENT) {

@@ -15,7 +15,7 @@ extern "C" {
         jacobian: *const f64, jacobian_len: usize, lower: *const f64, lower_len: usize,
         upper: *const f64, upper_len: usize, d: *mut f64, d_len: usize,
         multipliers: *mut f64, multipliers_len: usize, relaxation: *mut f64,
-        report: *mut u32, report_len: usize,
+        report: *mut u32, report_len: usize, tally: *mut [u64; 2],
         w: *mut f64, w_len: usize, iw: *mut u32, iw_len: usize,
     ) -> u32;
 }
@@ -50,7 +50,7 @@ fn solve(p: &Problem) -> Result<Step, u32> {
     let (n, m) = (p.gradient.len(), p.values.len());
     let exact = Stage { number: 0, place: None };
     let mut step = Step { d: vec![0.0; n], multipliers: vec![0.0; m], relaxation: 0.0, exact };
-    let mut report = [0u32; 6];
+    let (mut report, mut tally) = ([0u32; 6], [0u64; 2]);
     let (mut w, mut iw) = (vec![0.0f64; 8192], vec![0u32; 512]);
     // Every length is passed as it is, so a wrong one is refused by number; no two slices overlap.
     #[rustfmt::skip]
@@ -62,7 +62,7 @@ fn solve(p: &Problem) -> Result<Step, u32> {
             p.jacobian.as_ptr(), p.jacobian.len(), p.lower.as_ptr(), p.lower.len(),
             p.upper.as_ptr(), p.upper.len(), step.d.as_mut_ptr(), n,
             step.multipliers.as_mut_ptr(), m, &mut step.relaxation,
-            report.as_mut_ptr(), report.len(),
+            report.as_mut_ptr(), report.len(), &mut tally,
             w.as_mut_ptr(), w.len(), iw.as_mut_ptr(), iw.len(),
         )
     };

@@ -13,7 +13,7 @@
  * - What the caller must see to, since no function can test it: every pointer is not null, aligned
  *   for its type and valid for the length passed with it (a length of 0 goes with any pointer that
  *   is not null and is aligned); a slice that is written overlaps no other slice of the call; and
- *   the pointers of single results (rank, rounds, factorings, place, relaxation) are distinct and
+ *   the pointers of single results (rank, rounds, factorings, place, relaxation, tally) are distinct and
  *   overlap nothing. The processor rounds to nearest and keeps subnormal numbers, as a C program begins
  *   (some that are linked with -ffast-math do not). Everything else is taken: any size and length,
  *   and any bit pattern as a double, NaN and infinities too.
@@ -46,7 +46,8 @@
  *   workspace past the first 8192 and 512 never change. Inputs never change, except b under
  *   gritstrut_update and gritstrut_packed_update.
  * - Single results are stored through their pointers only where the number is 0; but a place only
- *   where it is 5 or 11, and a step's report where it is 0, 5, 6 or 7. Else they are untouched.
+ *   where it is 5 or 11, and a step's report and tally where it is 0, 5, 6 or 7. Else they are
+ *   untouched.
  * - A place says where rank was lost: the index, from 0, of the column of the factored matrix that
  *   stands next after those that could be taken. With 11 the columns are the equalities: if one was
  *   entered twice, and the others are independent and in like units, the place is one of the two
@@ -183,9 +184,19 @@ enum {
     GRITSTRUT_RELAXED_NUMBER, /* 0 where the relaxed one was solved or not tried, else 5, 6 or 7 */
     GRITSTRUT_RELAXED_PLACE,  /* with 5 the variable, n being the relaxation; else NOWHERE */
     GRITSTRUT_ROUNDS,         /* rounds of NNLS in both stages, one refused by 7 not counted */
-    GRITSTRUT_FACTORINGS,     /* QR factorings in both stages, those of no columns too */
+    GRITSTRUT_FACTORINGS,     /* QR factorings in both stages, those of no columns too: at most 25,879 */
     GRITSTRUT_REPORT          /* how many entries a report has */
 };
+
+/* A running tally of what steps took: set both counts to 0 at first. A count that would pass the
+ * range stays at UINT64_MAX. */
+typedef struct gritstrut_tally {
+    uint64_t rounds;
+    uint64_t factorings;
+} gritstrut_tally;
+
+/* Raises a tally by counts from elsewhere; gritstrut_step raises its own. */
+void gritstrut_tally_raise(gritstrut_tally *tally, uint64_t rounds, uint64_t factorings);
 
 /* The step d that minimizes d'Bd / 2 + g'd, where B = L L', under m constraints and under bounds:
  * a_j'd + c_j = 0 where kinds[j] is 0, a_j'd + c_j >= 0 where it is 1, lower <= d <= upper, where
@@ -199,6 +210,10 @@ enum {
  * the number is 0: an exact number of 11 beside a relaxed one of 0 says that a step came out
  * although an equality depends on others, and the exact place which one it is. That place counts
  * the equalities alone: with kinds 1, 0, 0 the place 1 is constraint 2.
+ * tally is raised by the report's rounds and factorings with 0, 5, 6 and 7, and stays with 1 to 4;
+ * nothing else depends on it. With p exact inequality rows (constraints of kind 1, closed sides) and
+ * q relaxed rows (one of kind 1, two of kind 0, closed sides, two more) a step takes at most
+ * 3 + (3p^2 + 4p) + (3q^2 + 4q) factorings.
  * The exact problem reads the whole square of factor, the entries ABOVE the diagonal too: set
  * them to +0, as gritstrut_cholesky does. */
 uint32_t gritstrut_step(size_t n, size_t m, const double *factor, size_t factor_len,
@@ -210,6 +225,7 @@ uint32_t gritstrut_step(size_t n, size_t m, const double *factor, size_t factor_
                         const double *upper, size_t upper_len,
                         double *d, size_t d_len, double *multipliers, size_t multipliers_len,
                         double *relaxation, uint32_t *report, size_t report_len,
+                        gritstrut_tally *tally,
                         double *w, size_t w_len, uint32_t *iw, size_t iw_len);
 
 #ifdef __cplusplus

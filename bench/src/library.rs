@@ -52,7 +52,7 @@ unsafe extern "C" {
         values: *const f64, values_len: usize, jacobian: *const f64, jacobian_len: usize,
         lower: *const f64, lower_len: usize, upper: *const f64, upper_len: usize,
         d: *mut f64, d_len: usize, multipliers: *mut f64, multipliers_len: usize,
-        relaxation: *mut f64, report: *mut u32, report_len: usize,
+        relaxation: *mut f64, report: *mut u32, report_len: usize, tally: *mut [u64; 2],
         w: *mut f64, w_len: usize, iw: *mut u32, iw_len: usize,
     ) -> u32;
 }
@@ -73,6 +73,8 @@ pub struct Lent {
     second: Vec<f64>,
     third: Vec<f64>,
     index: Vec<u32>,
+    /// Rounds and factorings of all steps so far.
+    pub tally: [u64; 2],
 }
 
 impl Lent {
@@ -85,6 +87,7 @@ impl Lent {
             second: room(),
             third: room(),
             index: vec![0; 66],
+            tally: [0; 2],
         }
     }
 
@@ -98,7 +101,7 @@ impl Lent {
                 p.values.as_ptr(), p.values.len(), p.jacobian.as_ptr(), p.jacobian.len(),
                 p.lower.as_ptr(), p.lower.len(), p.upper.as_ptr(), p.upper.len(),
                 self.first.as_mut_ptr(), p.gradient.len(), self.second.as_mut_ptr(), p.values.len(),
-                &mut relaxation, report.as_mut_ptr(), report.len(),
+                &mut relaxation, report.as_mut_ptr(), report.len(), &mut self.tally,
                 self.w.as_mut_ptr(), 8192, self.iw.as_mut_ptr(), 512,
             )
         };

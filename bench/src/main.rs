@@ -3,6 +3,7 @@
 //!     bench                      every set: medians over interleaved runs, and their ratios
 //!     bench growth               the same for steps with 0 to 16 active rows
 //!     bench forms                B as its lower triangle beside the square, both ours
+//!     bench scan                 what a factoring of a step takes, and the most that its sizes allow
 //!     bench names [growth]       each set, a side that does it and the number of calls
 //!     bench count SET WHO N      one side goes through one set N times, for an instruction count
 //!     bench nnls FILE            writes the NNLS problems and our answers, for SciPy
@@ -70,6 +71,20 @@ fn forms(sets: Vec<Planned>) {
     }
 }
 
+/// Steps of ours: microseconds for a step and for a factoring, the bound on factorings, and the milliseconds that so many take.
+fn scan(sets: Vec<Planned>) {
+    println!("{:<23} {:>9} {:>10} {:>13} {:>7} {:>13}", "set", "step, us", "factorings", "factoring, us", "bound", "at bound, ms");
+    for plan in sets {
+        let mut set = (plan.make)();
+        let (Some((_, factorings)), Some(bound)) = (set.factorings, set.bound) else { continue };
+        let times: Vec<f64> = (0..RUNS).map(|_| clock::seconds(&mut set.sides[0].run)).collect();
+        let (time, calls) = (1e6 * clock::quantile(&times, 0.5), set.calls as f64);
+        let (each, one, mean) = (time / calls, time / f64::from(factorings), f64::from(factorings) / calls);
+        let (name, most) = (&plan.name, 1e-3 * one * bound as f64);
+        println!("{name:<23} {each:>9.2} {mean:>10.1} {one:>13.3} {bound:>7} {most:>13.2}");
+    }
+}
+
 fn names(sets: Vec<Planned>) {
     for plan in sets {
         let set = (plan.make)();
@@ -108,6 +123,7 @@ fn main() {
         [] => table(sets::all()),
         ["growth"] => table(sets::growth()),
         ["forms"] => forms(sets::forms()),
+        ["scan"] => scan(sets::all()),
         ["names"] => names(sets::all()),
         ["names", "growth"] => names(sets::growth()),
         ["count", name, who, times] => count(name, who, times.parse().expect("a number")),

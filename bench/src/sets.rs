@@ -19,9 +19,20 @@ pub struct Set {
     pub calls: usize,
     /// Most factorings in one call, and how many in all, where there is an NNLS in it.
     pub factorings: Option<(u32, u32)>,
+    /// The most factorings that the sizes of a step in it allow.
+    pub bound: Option<u64>,
     /// The worst difference between our answers and NLopt's.
     pub away: Option<f64>,
     pub sides: Vec<Side>,
+}
+
+/// 3 + (3p^2 + 4p) + (3q^2 + 4q), with p exact inequality rows and q relaxed rows.
+fn bound(problem: &Step) -> u64 {
+    let closed = problem.lower.iter().chain(&problem.upper).filter(|bound| bound.is_finite()).count();
+    let equalities = problem.kinds.iter().filter(|&&kind| kind == 0).count();
+    let (p, q) = (problem.kinds.len() - equalities + closed, problem.kinds.len() + equalities + closed + 2);
+    let most = |rows: usize| (3 * rows * rows + 4 * rows) as u64;
+    3 + most(p) + most(q)
 }
 
 fn counted(each: impl Iterator<Item = u32>) -> Option<(u32, u32)> {
@@ -57,6 +68,7 @@ fn steps(problems: Vec<Step>) -> Set {
     let mut set = Set {
         calls: problems.len(),
         factorings: counted(problems.iter().map(rust::factorings_of_step)),
+        bound: problems.iter().map(bound).max(),
         away: None,
         sides: vec![
             side("ours", move || ours.iter().filter(|p| lent.step(p) == 0).count()),
@@ -75,6 +87,7 @@ fn least_squares(problems: Vec<Matrix>) -> Set {
     let mut set = Set {
         calls: problems.len(),
         factorings: counted(problems.iter().map(rust::factorings_of_nnls)),
+        bound: None,
         away: None,
         sides: vec![
             side("ours", move || ours.iter().filter(|p| lent.nnls(p) == 0).count()),
@@ -92,7 +105,7 @@ fn pair(
     rust: impl FnMut() -> usize + 'static,
 ) -> Set {
     let sides = vec![side("ours", ours), side("rust", rust)];
-    Set { calls, factorings: None, away: None, sides }
+    Set { calls, factorings: None, bound: None, away: None, sides }
 }
 
 fn factors(problems: Vec<Matrix>) -> Set {
@@ -182,7 +195,7 @@ fn both(n: usize, run: fn(&mut library::Approximation, &[f64], &[f64]) -> u32) -
         })
     };
     let sides = vec![side_of("packed", true), side_of("square", false)];
-    Set { calls: steps.len(), factorings: None, away: None, sides }
+    Set { calls: steps.len(), factorings: None, bound: None, away: None, sides }
 }
 
 /// The operations on B as its lower triangle beside those on the square.

@@ -99,6 +99,7 @@ pub fn step(
     let mut d = [0.0];
     let mut relaxation = 0.0;
     let mut report = [0u32; 6];
+    let mut tally = [0u64; 2];
     let mut iw = word_room();
     let number = gritstrut::gritstrut_step(
         1,
@@ -114,6 +115,7 @@ pub fn step(
         multipliers,
         &mut relaxation,
         &mut report,
+        &mut tally,
         w,
         &mut iw,
     );

@@ -9,7 +9,7 @@ use lib.Dec.{leb, eqb}
 use lib.ListN.{length, set}
 use lib.Ieee.{Float}
 use borrow.Author.Tests.{leb-true, eq-eqb}
-use Rattle.workspace.specs.Tables.{Answer, done, refused, isLate, call, number, numberOf, placeOf, nowhere, outcomeOf, outcomeNumber, output, isMatrix, isDimension, isConstraints, isRoom, has}
+use Rattle.workspace.specs.Tables.{Answer, done, refused, call, number, numberOf, placeOf, nowhere, outcomeOf, outcomeNumber, output, isMatrix, isDimension, isConstraints, isRoom, has}
 use Rattle.workspace.specs.declared.Refusal.the-variants.{Length}
 use Rattle.workspace.specs.declared.Refusal.{Refusal}
 use Rattle.workspace.specs.declared.Outcome.{Outcome}
@@ -34,7 +34,7 @@ use Rattle.step.specs.declared.Report.{Report}
 use Rattle.step_call.specs.declared.Outcome as StepTold
 use Rattle.step_call.specs.Promise as Step
 use Rattle.step_call.specs.declared.Outcome.the-variants as step-told
-use Rattle.gritstrut.specs.Interface.{QrLeaves, NnlsLeaves, SolveLeaves, placeLeft, PlaceLeaves, WriteLeaves, entriesOf, reportLeft, stepReportCall, StepLeaves}
+use Rattle.gritstrut.specs.Interface.{QrLeaves, NnlsLeaves, SolveLeaves, placeLeft, PlaceLeaves, WriteLeaves, entriesOf, raisedCounts, Tells, stepReportCall, StepLeaves}
 
 -- ---- operations that tell nothing beside their outputs
 
@@ -180,36 +180,17 @@ report-written t l a b c d h ea eb ec ed = six l a b c d (t .rounds) (t .factori
 
 -- ---- the step
 
--- a test before the arithmetic tells its reason alone
-early : (b : Bool) (r q : Refusal) (t : Report) (old : List ℕ) → step-told.Refused r ≡ Step.refusedBy b q t → (numberOf r ≡ numberOf q) × (old ≡ reportLeft (Step.refusedBy b q t) old)
-early false r q t old e = (let z : r ≡ q = cc in ap (λ (s : Refusal). numberOf s) z, refl)
-early true r q t old e = let z : _≡_ {A = ℕ} 1 2 = cc in absurd (let y : ⊥ = omega arith in y)
+-- what is told of each outcome
+pub done-tells : (o : StepTold.Outcome) (delta : Float) (t : Report) (old : Float) (r r' y y' : List ℕ) → o ≡ step-told.Done delta t → r' ≡ entriesOf t → y' ≡ raisedCounts y (t .rounds) (t .factorings)
+    → Tells o 0 old delta r r' y y'
+done-tells o delta t old r r' y y' e f g = rw e (record { the-number = refl; the-relaxation = refl; the-report = f; the-tally = g })
 
-late : (b : Bool) (r q : Refusal) (u t : Report) (old : List ℕ) → step-told.Failed r u ≡ Step.refusedBy b q t → (numberOf r ≡ numberOf q) × (entriesOf u ≡ reportLeft (Step.refusedBy b q t) old)
-late true r q u t old e = (let z : r ≡ q = cc in ap (λ (s : Refusal). numberOf s) z, let z : u ≡ t = cc in ap entriesOf z)
-late false r q u t old e = let z : _≡_ {A = ℕ} 1 2 = cc in absurd (let y : ⊥ = omega arith in y)
+pub failed-tells : (o : StepTold.Outcome) (why : Refusal) (t : Report) (k : ℕ) (old : Float) (r r' y y' : List ℕ) → o ≡ step-told.Failed why t → k ≡ numberOf why → r' ≡ entriesOf t
+    → y' ≡ raisedCounts y (t .rounds) (t .factorings) → Tells o k old old r r' y y'
+failed-tells o why t k old r r' y y' e h f g = rw e (record { the-number = h; the-relaxation = refl; the-report = f; the-tally = g })
 
-undone : {A : Type 0} (b : Bool) (delta : Float) (u : Report) (q : Refusal) (t : Report) → step-told.Done delta u ≡ Step.refusedBy b q t → A
-undone true delta u q t e = let z : _≡_ {A = ℕ} 0 1 = cc in absurd (let y : ⊥ = omega arith in y)
-undone false delta u q t e = let z : _≡_ {A = ℕ} 0 2 = cc in absurd (let y : ⊥ = omega arith in y)
-
--- what is told of an answer, and what single results and the report then hold
-pub record Told (c : Answer Step) (t : Report) (k : ℕ) (relaxation relaxation' : Float) (r r' : List ℕ) : Type 0 where
-  pub the-number : k ≡ number c
-  pub the-relaxation : relaxation' ≡ output c (λ s. s .relaxation) relaxation
-  pub the-report : r' ≡ reportLeft (Step.outcomeOf c t) r
-
-done-told : (c : Answer Step) (t u : Report) (delta old : Float) (r : List ℕ) → step-told.Done delta u ≡ Step.outcomeOf c t → Told c t 0 old delta r (entriesOf u)
-done-told (done s) t u delta old r e = record { the-number = refl; the-relaxation = cc; the-report = let z : u ≡ t = cc in ap entriesOf z }
-done-told (refused q) t u delta old r e = undone (isLate q) delta u q t e
-
-failed-told : (c : Answer Step) (t u : Report) (why : Refusal) (old : Float) (r : List ℕ) → step-told.Failed why u ≡ Step.outcomeOf c t → Told c t (numberOf why) old old r (entriesOf u)
-failed-told (done s) t u why old r e = let z : _≡_ {A = ℕ} 0 1 = cc in absurd (let y : ⊥ = omega arith in y)
-failed-told (refused q) t u why old r e = let l = late (isLate q) why q u t r e in record { the-number = l .0; the-relaxation = refl; the-report = l .1 }
-
-refused-told : (c : Answer Step) (t : Report) (why : Refusal) (old : Float) (r : List ℕ) → step-told.Refused why ≡ Step.outcomeOf c t → Told c t (numberOf why) old old r r
-refused-told (done s) t why old r e = let z : _≡_ {A = ℕ} 0 2 = cc in absurd (let y : ⊥ = omega arith in y)
-refused-told (refused q) t why old r e = let l = early (isLate q) why q t r e in record { the-number = l .0; the-relaxation = refl; the-report = l .1 }
+pub refused-tells : (o : StepTold.Outcome) (why : Refusal) (k : ℕ) (old : Float) (r y : List ℕ) → o ≡ step-told.Refused why → k ≡ numberOf why → Tells o k old old r r y y
+refused-tells o why k old r y e h = rw e (record { the-number = h; the-relaxation = refl; the-report = refl; the-tally = refl })
 
 -- the call with the report's length among its tests
 reported : (s l r k : Bool) (a : Answer Step) → call s (l && true) r k a ≡ call s l r k a
@@ -228,29 +209,14 @@ module _ (p : Problem) (d d' l l' : List Float) (r : List ℕ) (w w' : List Floa
         ∙ ap (λ (b : Bool). call (isDimension (p .n) && isConstraints (p .m)) (Step.areLengths p d l && b) (isRoom w iw) (Step.areKinds (p .kinds)) (step p .answer))
         (sym (eq-eqb (length r) 6 six))
 
-    leaves : (o : StepTold.Outcome) (k : ℕ) (x : Float) (r' : List ℕ) → Step.Steps (Step.stepCall p d l w iw) (reportOf p) o d d' l l' w w' iw iw'
-        → (Step.Steps c (reportOf p) o d d' l l' w w' iw iw' → Told c (reportOf p) k old x r r') → StepLeaves c (reportOf p) k old x r r' d d' l l' w w' iw iw'
-    leaves o k x r' q f =
+    pub step-leaves : (o : StepTold.Outcome) (k : ℕ) (x : Float) (r' y y' : List ℕ) → Step.Steps (Step.stepCall p d l w iw) (reportOf p) o d d' l l' w w' iw iw'
+        → Tells o k old x r r' y y' → StepLeaves c (reportOf p) k old x r r' y y' d d' l l' w w' iw iw'
+    step-leaves o k x r' y y' q t =
         let v = subst (λ (a : Answer Step). Step.Steps a (reportOf p) o d d' l l' w w' iw iw') same q in
-        let t = f v in
         record {
-          the-number = t .the-number;
           the-call = record { the-outcome = refl; the-d = v .the-d; the-multipliers = v .the-multipliers; the-floats = v .the-floats; the-words = v .the-words };
-          the-relaxation = t .the-relaxation;
-          the-report = t .the-report;
+          told = subst (λ (a : StepTold.Outcome). Tells a k old x r r' y y') (v .the-outcome) t;
         }
-
-    pub step-leaves : (delta : Float) (u : Report) (r' : List ℕ) → Step.Steps (Step.stepCall p d l w iw) (reportOf p) (step-told.Done delta u) d d' l l' w w' iw iw'
-        → r' ≡ entriesOf u → StepLeaves c (reportOf p) 0 old delta r r' d d' l l' w w' iw iw'
-    step-leaves delta u r' q e = rw e (leaves (step-told.Done delta u) 0 delta (entriesOf u) q (λ v. done-told c (reportOf p) u delta old r (v .the-outcome)))
-
-    pub step-fails : (why : Refusal) (u : Report) (r' : List ℕ) (k : ℕ) → Step.Steps (Step.stepCall p d l w iw) (reportOf p) (step-told.Failed why u) d d' l l' w w' iw iw'
-        → r' ≡ entriesOf u → k ≡ numberOf why → StepLeaves c (reportOf p) k old old r r' d d' l l' w w' iw iw'
-    step-fails why u r' k q e h = rw (e, h) (leaves (step-told.Failed why u) (numberOf why) old (entriesOf u) q (λ v. failed-told c (reportOf p) u why old r (v .the-outcome)))
-
-    pub step-keeps : (why : Refusal) (k : ℕ) → Step.Steps (Step.stepCall p d l w iw) (reportOf p) (step-told.Refused why) d d' l l' w w' iw iw'
-        → k ≡ numberOf why → StepLeaves c (reportOf p) k old old r r d d' l l' w w' iw iw'
-    step-keeps why k q h = rw h (leaves (step-told.Refused why) (numberOf why) old r q (λ v. refused-told c (reportOf p) why old r (v .the-outcome)))
 
 -- a report of another length
 module _ (p : Problem) (d l : List Float) (r : List ℕ) (w : List Float) (iw : List ℕ) (old : Float) (other : eqb (length r) 6 ≡ false) where
@@ -258,12 +224,18 @@ module _ (p : Problem) (d l : List Float) (r : List ℕ) (w : List Float) (iw : 
   shut s true k a m e = rw e
   shut s false k a m e = rw e
 
-  pub no-report : isDimension (p .n) && isConstraints (p .m) ≡ true → (k : ℕ) → k ≡ 2 → StepLeaves (stepReportCall p d l r w iw) (reportOf p) k old old r r d d l l w w iw iw
-  no-report s k h =
+  pub no-report : isDimension (p .n) && isConstraints (p .m) ≡ true → (k : ℕ) (y : List ℕ) → k ≡ 2 → StepLeaves (stepReportCall p d l r w iw) (reportOf p) k old old r r y y d d l l w w iw iw
+  no-report s k y h =
       rw (other, h, shut (isDimension (p .n) && isConstraints (p .m)) (Step.areLengths p d l) (Step.areKinds (p .kinds)) (step p .answer) (isRoom w iw) s)
-      (record { the-number = refl; the-call = record { the-outcome = refl; the-d = refl; the-multipliers = refl; the-floats = refl; the-words = refl }; the-relaxation = refl; the-report = refl })
+      (record {
+        the-call = record { the-outcome = refl; the-d = refl; the-multipliers = refl; the-floats = refl; the-words = refl };
+        told = record { the-number = refl; the-relaxation = refl; the-report = refl; the-tally = refl };
+      })
 
-  pub no-size : isDimension (p .n) && isConstraints (p .m) ≡ false → (k : ℕ) → k ≡ 1 → StepLeaves (stepReportCall p d l r w iw) (reportOf p) k old old r r d d l l w w iw iw
-  no-size s k h =
+  pub no-size : isDimension (p .n) && isConstraints (p .m) ≡ false → (k : ℕ) (y : List ℕ) → k ≡ 1 → StepLeaves (stepReportCall p d l r w iw) (reportOf p) k old old r r y y d d l l w w iw iw
+  no-size s k y h =
       rw (s, h)
-      (record { the-number = refl; the-call = record { the-outcome = refl; the-d = refl; the-multipliers = refl; the-floats = refl; the-words = refl }; the-relaxation = refl; the-report = refl })
+      (record {
+        the-call = record { the-outcome = refl; the-d = refl; the-multipliers = refl; the-floats = refl; the-words = refl };
+        told = record { the-number = refl; the-relaxation = refl; the-report = refl; the-tally = refl };
+      })

@@ -1,11 +1,13 @@
 -- The promises of the C interface allow one answer only.
-use mathlib.Core.Path.{sym, _∙_}
+use mathlib.Core.Path.{sym, ap, _∙_}
+use mathlib.Core.List.{List}
+use Prim.Native.Nat.{ℕ}
 use Rattle.householder_call.specs.Promise.{Factored}
 use Rattle.nnls_call.specs.Promise.{Nnls}
 use Rattle.lsei_call.specs.Promise.{Solves}
 use Rattle.hessian_call.specs.Promise.{Writes}
-use Rattle.step_call.specs.Promise.{Steps}
-use Rattle.gritstrut.specs.Interface.{QrLeaves, NnlsLeaves, SolveLeaves, PlaceLeaves, WriteLeaves, StepLeaves}
+use Rattle.step_call.specs.Promise as Step
+use Rattle.gritstrut.specs.Interface.{QrLeaves, NnlsLeaves, SolveLeaves, PlaceLeaves, WriteLeaves, tallyLeft, StepLeaves}
 use Rattle.gritstrut.specs.Claims.{OneQr, OneNnls, OneSolve, OnePlace, OneWrite, OneStep}
 
 pub one-qr : OneQr
@@ -64,12 +66,15 @@ one-write c k m out out' out'' w w' w'' iw iw' iw'' s t =
     (s .the-number ∙ sym (t .the-number), p .the-output ∙ sym (q .the-output), p .the-floats ∙ sym (q .the-floats), p .the-words ∙ sym (q .the-words))
 
 pub one-step : OneStep
-one-step c v k m relaxation relaxation' relaxation'' r r' r'' d d' d'' l l' l'' w w' w'' iw iw' iw'' s t =
+one-step c v k m relaxation relaxation' relaxation'' r r' r'' y y' z z' d d' d'' l l' l'' w w' w'' iw iw' iw'' s t =
     let p = s .the-call in
-    let q = t .the-call in (
-      s .the-number ∙ sym (t .the-number),
-      s .the-relaxation ∙ sym (t .the-relaxation),
-      s .the-report ∙ sym (t .the-report),
+    let q = t .the-call in
+    let a = s .told in
+    let b = t .told in (
+      a .the-number ∙ sym (b .the-number),
+      a .the-relaxation ∙ sym (b .the-relaxation),
+      a .the-report ∙ sym (b .the-report),
+      λ e. a .the-tally ∙ ap (λ (x : List ℕ). tallyLeft (Step.outcomeOf c v) x) e ∙ sym (b .the-tally),
       p .the-d ∙ sym (q .the-d),
       p .the-multipliers ∙ sym (q .the-multipliers),
       p .the-floats ∙ sym (q .the-floats),

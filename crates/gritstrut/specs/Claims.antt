@@ -34,7 +34,8 @@ abbrev pub OneWrite : Type 0
 OneWrite = (c : Answer (List Float)) (k m : ℕ) (out out' out'' w w' w'' : List Float) (iw iw' iw'' : List ℕ)
     → WriteLeaves c k out out' w w' iw iw' → WriteLeaves c m out out'' w w'' iw iw'' → (k ≡ m) × (out' ≡ out'') × (w' ≡ w'') × (iw' ≡ iw'')
 
+-- The step's tallies may differ: no other answer depends on them, and each tally is raised by itself.
 abbrev pub OneStep : Type 0
-OneStep = (c : Answer Step) (t : Report) (k m : ℕ) (relaxation relaxation' relaxation'' : Float) (r r' r'' : List ℕ) (d d' d'' l l' l'' w w' w'' : List Float) (iw iw' iw'' : List ℕ)
-    → StepLeaves c t k relaxation relaxation' r r' d d' l l' w w' iw iw' → StepLeaves c t m relaxation relaxation'' r r'' d d'' l l'' w w'' iw iw''
-    → (k ≡ m) × (relaxation' ≡ relaxation'') × (r' ≡ r'') × (d' ≡ d'') × (l' ≡ l'') × (w' ≡ w'') × (iw' ≡ iw'')
+OneStep = (c : Answer Step) (t : Report) (k m : ℕ) (relaxation relaxation' relaxation'' : Float) (r r' r'' y y' z z' : List ℕ) (d d' d'' l l' l'' w w' w'' : List Float) (iw iw' iw'' : List ℕ)
+    → StepLeaves c t k relaxation relaxation' r r' y y' d d' l l' w w' iw iw' → StepLeaves c t m relaxation relaxation'' r r'' z z' d d'' l l'' w w'' iw iw''
+    → (k ≡ m) × (relaxation' ≡ relaxation'') × (r' ≡ r'') × (y ≡ z → y' ≡ z') × (d' ≡ d'') × (l' ≡ l'') × (w' ≡ w'') × (iw' ≡ iw'')

@@ -6,7 +6,9 @@ use mathlib.Core.List.{List, [], _∷_}
 use lib.Dec.{eqb}
 use Prim.Native.Nat.{ℕ}
 use lib.Ieee.{Float}
-use Rattle.workspace.specs.Tables.{Answer, number, output, placeOf, nowhere, call, isDimension, isConstraints, isRoom, has}
+use Rattle.numbers.specs.Numbers.{nth}
+use Rattle.tally.specs.Tally.{saturated}
+use Rattle.workspace.specs.Tables.{Answer, number, numberOf, output, placeOf, nowhere, call, isDimension, isConstraints, isRoom, has}
 use Rattle.workspace.specs.declared.Outcome.{Outcome}
 use Rattle.workspace.specs.declared.Outcome.the-variants.{Done, Refused}
 use Rattle.workspace.specs.Tables as Tables
@@ -18,7 +20,7 @@ use Rattle.lsei_call.specs.Promise.{Solves}
 use Rattle.hessian_call.specs.Promise.{Writes}
 use Rattle.nnls.specs.Counted.{Counted}
 use Rattle.step_rows.specs.Problem.{Problem}
-use Rattle.step.specs.Step.{Step, step, reportOf, stageNumber, stagePlace}
+use Rattle.step.specs.Step.{Step, step, stageNumber, stagePlace}
 use Rattle.step.specs.declared.Report.{Report}
 use Rattle.step_call.specs.declared.Outcome as Told
 use Rattle.step_call.specs.declared.Outcome.the-variants as told
@@ -53,25 +55,48 @@ pub record WriteLeaves (c : Answer (List Float)) (k : ℕ) (out out' w w' : List
   pub the-number : k ≡ number c
   pub the-call : Writes c (Tables.outcomeOf c) out out' w w' iw iw'
 
--- ---- the step, with its report in six entries
+-- ---- the step, with its report in six entries and a tally of two counts
 
 -- number and place of the exact stage, then of the relaxed one, rounds and factorings
 abbrev pub entriesOf : Report → List ℕ
 entriesOf t = stageNumber (t .exact) ∷ stagePlace (t .exact) ∷ stageNumber (t .relaxed) ∷ stagePlace (t .relaxed) ∷ t .rounds ∷ t .factorings ∷ []
+
+-- a lent tally, rounds and then factorings, raised by what a step took
+abbrev pub raisedCounts : List ℕ → (rounds factorings : ℕ) → List ℕ
+raisedCounts y r f = saturated (nth y 0) r ∷ saturated (nth y 1) f ∷ []
 
 -- the whole call: the report's length is one of those that number 2 tests
 abbrev pub stepReportCall : Problem → (d multipliers : List Float) (report : List ℕ) (w : List Float) (iw : List ℕ) → Answer Step
 stepReportCall p d l r w iw =
     call (isDimension (p .n) && isConstraints (p .m)) (Step.areLengths p d l && has r 6) (isRoom w iw) (Step.areKinds (p .kinds)) (step p .answer)
 
--- the report is written unless a test before the arithmetic refuses
+-- From an outcome: the number; the relaxation, stored where the step is done; report and tally, which move unless a test before the arithmetic refuses.
+abbrev pub numberTold : Told.Outcome → ℕ
+numberTold (told.Done relaxation t) = 0
+numberTold (told.Failed r t) = numberOf r
+numberTold (told.Refused r) = numberOf r
+
+abbrev pub relaxationLeft : Told.Outcome → Float → Float
+relaxationLeft (told.Done relaxation t) old = relaxation
+relaxationLeft (told.Failed r t) old = old
+relaxationLeft (told.Refused r) old = old
+
 abbrev pub reportLeft : Told.Outcome → List ℕ → List ℕ
 reportLeft (told.Done relaxation t) old = entriesOf t
 reportLeft (told.Failed r t) old = entriesOf t
 reportLeft (told.Refused r) old = old
 
-pub record StepLeaves (c : Answer Step) (t : Report) (k : ℕ) (relaxation relaxation' : Float) (r r' : List ℕ) (d d' l l' w w' : List Float) (iw iw' : List ℕ) : Type 0 where
-  pub the-number : k ≡ number c
+abbrev pub tallyLeft : Told.Outcome → List ℕ → List ℕ
+tallyLeft (told.Done relaxation t) old = raisedCounts old (t .rounds) (t .factorings)
+tallyLeft (told.Failed r t) old = raisedCounts old (t .rounds) (t .factorings)
+tallyLeft (told.Refused r) old = old
+
+pub record Tells (o : Told.Outcome) (k : ℕ) (relaxation relaxation' : Float) (r r' tally tally' : List ℕ) : Type 0 where
+  pub the-number : k ≡ numberTold o
+  pub the-relaxation : relaxation' ≡ relaxationLeft o relaxation
+  pub the-report : r' ≡ reportLeft o r
+  pub the-tally : tally' ≡ tallyLeft o tally
+
+pub record StepLeaves (c : Answer Step) (t : Report) (k : ℕ) (relaxation relaxation' : Float) (r r' tally tally' : List ℕ) (d d' l l' w w' : List Float) (iw iw' : List ℕ) : Type 0 where
   pub the-call : Step.Steps c t (Step.outcomeOf c t) d d' l l' w w' iw iw'
-  pub the-relaxation : relaxation' ≡ output c (λ s. s .relaxation) relaxation
-  pub the-report : r' ≡ reportLeft (Step.outcomeOf c t) r
+  pub told : Tells (Step.outcomeOf c t) k relaxation relaxation' r r' tally tally'

@@ -10,7 +10,7 @@ ghost use Rattle.hessian_packed_call.specs.Promise.{packedIdentityCall, packedT
 ghost use Rattle.step_rows.specs.Problem.{problemOf};
 ghost use lib.ListN.{length};
 ghost use Rattle.workspace.specs.Tables.{outcomeNumber};
-ghost use Rattle.gritstrut.specs.Interface.{QrLeaves, NnlsLeaves, SolveLeaves, placeLeft, PlaceLeaves, WriteLeaves, entriesOf, stepReportCall, StepLeaves};
+ghost use Rattle.gritstrut.specs.Interface.{QrLeaves, NnlsLeaves, SolveLeaves, placeLeft, PlaceLeaves, WriteLeaves, entriesOf, raisedCounts, Tells, stepReportCall, StepLeaves};
 ghost use Rattle.step.specs.Step.{reportOf};
 use hessian_call::Hessian;
 use hessian_packed_call::Packed;
@@ -20,6 +20,7 @@ use lsei_call::Lsei;
 use lsei_call::Lsi;
 use nnls_call::Nnls;
 use step_call::Step;
+use tally::Tally;
 use workspace::Refusal;
 
 // The version that include/gritstrut.h names: major, minor and patch, two digits each.
@@ -334,6 +335,45 @@ fn write_report(t: step::Report, report: &mut [u32])
     report[5] = t.factorings;
 }
 
+// Raises a tally, rounds and then factorings; a count that would pass the u64 range stays at its largest value.
+#[no_mangle]
+pub extern "C" fn gritstrut_tally_raise(tally: &mut [u64; 2], rounds: u64, factorings: u64)
+    ensures { λ _. ⌜ now (tally .exit) ≡ raisedCounts (now (tally .entry)) rounds factorings ⌝ }
+{
+    let before = Tally {
+        rounds: tally[0],
+        factorings: tally[1],
+    };
+    let after = before.plus(rounds, factorings);
+    *tally = [after.rounds, after.factorings];
+}
+
+// What a step's outcome tells: its number, the relaxation, the report, and the tally raised by what was spent.
+fn tell(
+    o: step_call::Outcome,
+    relaxation: &mut f64,
+    report: &mut [u32],
+    tally: &mut [u64; 2],
+) -> u32
+    requires { ⌜ length (now report) ≡ 6 ⌝ }
+    ensures { λ k. ⌜ Tells o k (now (relaxation .entry)) (now (relaxation .exit)) (now (report .entry)) (now (report .exit)) (now (tally .entry)) (now (tally .exit)) ⌝ }
+{
+    match o {
+        step_call::Outcome::Done(delta, t) => {
+            *relaxation = delta;
+            write_report(t, report);
+            gritstrut_tally_raise(tally, t.rounds as u64, t.factorings as u64);
+            0
+        }
+        step_call::Outcome::Failed(why, t) => {
+            write_report(t, report);
+            gritstrut_tally_raise(tally, t.rounds as u64, t.factorings as u64);
+            why.number()
+        }
+        step_call::Outcome::Refused(why) => why.number(),
+    }
+}
+
 // The step of one SQP iteration.
 #[no_mangle]
 pub extern "C" fn gritstrut_step(
@@ -350,11 +390,12 @@ pub extern "C" fn gritstrut_step(
     multipliers: &mut [f64],
     relaxation: &mut f64,
     report: &mut [u32],
+    tally: &mut [u64; 2],
     w: &mut [f64],
     iw: &mut [u32],
 ) -> u32
     ensures { λ k. ⌜ StepLeaves (stepReportCall (problemOf n m (now (factor .entry)) (now (gradient .entry)) (now (kinds .entry)) (now (values .entry)) (now (jacobian .entry)) (now (lower .entry)) (now (upper .entry))) (now (d .entry)) (now (multipliers .entry)) (now (report .entry)) (now (w .entry)) (now (iw .entry))) (reportOf (problemOf n m (now (factor .entry)) (now (gradient .entry)) (now (kinds .entry)) (now (values .entry)) (now (jacobian .entry)) (now (lower .entry)) (now (upper .entry)))) k (now (relaxation .entry)) (now (relaxation .exit))
-        (now (report .entry)) (now (report .exit)) (now (d .entry)) (now (d .exit)) (now (multipliers .entry)) (now (multipliers .exit)) (now (w .entry)) (now (w .exit)) (now (iw .entry)) (now (iw .exit)) ⌝ }
+        (now (report .entry)) (now (report .exit)) (now (tally .entry)) (now (tally .exit)) (now (d .entry)) (now (d .exit)) (now (multipliers .entry)) (now (multipliers .exit)) (now (w .entry)) (now (w .exit)) (now (iw .entry)) (now (iw .exit)) ⌝ }
 {
     if report.len() != REPORT {
         if step_call::are_sizes(n, m) {
@@ -377,16 +418,5 @@ pub extern "C" fn gritstrut_step(
         w,
         iw,
     );
-    match answer {
-        step_call::Outcome::Done(delta, t) => {
-            *relaxation = delta;
-            write_report(t, report);
-            0
-        }
-        step_call::Outcome::Failed(why, t) => {
-            write_report(t, report);
-            why.number()
-        }
-        step_call::Outcome::Refused(why) => why.number(),
-    }
+    tell(answer, relaxation, report, tally)
 }

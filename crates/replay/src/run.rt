@@ -9,6 +9,7 @@ use replay_list::kinds;
 use replay_list::length_at;
 use replay_list::lent_output;
 use replay_list::mark;
+use replay_list::mix_count;
 use replay_list::mix_float;
 use replay_list::mix_kinds;
 use replay_list::mix_mark;
@@ -20,6 +21,7 @@ use replay_list::part;
 use replay_list::places;
 use replay_list::room;
 use replay_list::size;
+use replay_list::tally;
 
 // A u32 as a word.
 fn long(x: u32) -> u64 {
@@ -86,7 +88,7 @@ fn told_place(number: u32, place: u32) -> u64 {
     mix_mark(told(number), place)
 }
 
-// The step: its number, the relaxation, the report's whole memory and the kinds, which it has read.
+// The step: its number, the relaxation, the tally, the report's whole memory and the kinds, which it has read.
 fn run_step(
     call: &Call,
     values: &Values,
@@ -99,6 +101,7 @@ fn run_step(
     let g = kinds(call);
     let mut relaxation = junk(call);
     let mut report = places(call);
+    let mut counts = tally(call);
     let number = gritstrut::gritstrut_step(
         size(call, 0),
         size(call, 1),
@@ -113,10 +116,15 @@ fn run_step(
         multipliers,
         &mut relaxation,
         &mut report[..reports],
+        &mut counts,
         w,
         iw,
     );
-    mix_kinds(mix_places(mix_float(told(number), relaxation), &report), g)
+    let spent = mix_count(
+        mix_count(mix_float(told(number), relaxation), counts[0]),
+        counts[1],
+    );
+    mix_kinds(mix_places(spent, &report), g)
 }
 
 // The approximation B, square or as its lower triangle: the identity, a product, the factor, or the update of the

@@ -43,6 +43,11 @@ pub fn room_junk(call: &Call) -> f64 {
     record_read::value(word(call, 40))
 }
 
+// The counts that the tally holds before the call: the same two words.
+pub fn tally(call: &Call) -> [u64; 2] {
+    [word(call, 32), word(call, 40)]
+}
+
 // The last half of a word.
 fn low(x: u64) -> u32 {
     (x % 4294967296) as u32

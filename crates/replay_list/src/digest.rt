@@ -1,6 +1,6 @@
 // The digest of what a call left (oracle/README.md, "The stored calls").
 ghost use mathlib.Core.Path.{_≡_};
-ghost use Prim.Native.Nat.{_<_};
+ghost use Prim.Native.Nat.{_/_, _%_, _<_};
 ghost use lib.ListN.{length};
 ghost use Rattle.numbers.specs.Numbers.{at, nth};
 ghost use Rattle.replay_list.specs.Digest.{lane as Digest·lane, mix, over, patternOf};
@@ -47,6 +47,13 @@ pub fn mix_floats(digest: u64, xs: &[f64]) -> u64
         d = mix_float(d, xs[i]);
     }
     d
+}
+
+// The digest with a count more, its upper half first.
+pub fn mix_count(d: u64, x: u64) -> u64
+    ensures { λ r. ⌜ r ≡ mix (mix d (x / 4294967296)) (x % 4294967296) ⌝ }
+{
+    mixed(mixed(d, x / 4294967296), x % 4294967296)
 }
 
 // A u32 as a word.

@@ -1,20 +1,20 @@
--- What is shown of the step and of its calls: its multipliers, what it reads of the factor, and that the promise allows one answer only. Definitions only.
+-- What is shown of the step and of its calls: its multipliers, what it reads of the factor, what it costs, and that the promise allows one answer only. Definitions only.
 use mathlib.Core.Path.{_≡_}
 use mathlib.Core.Bool.{false}
 use mathlib.Core.List.{List}
-use Prim.Native.Nat.{ℕ, _<_}
+use Prim.Native.Nat.{ℕ, _+_, _*_, _<_, _≤_}
 use lib.ListN.{length}
 use lib.Ieee.{Float}
 use Rattle.numbers.specs.Numbers.{at, SameLower}
 use Rattle.workspace.specs.Tables.{Answer, done, refused}
 use Rattle.nnls.specs.Counted.{Counted}
 use Rattle.nnls.specs.Claims.{NotNegative}
-use Rattle.step_rows.specs.Problem.{Problem, problemOf, isEquality}
+use Rattle.step_rows.specs.Problem.{Problem, problemOf, isEquality, inequalityRows, relaxedRows}
 use Rattle.step.specs.Step.{Step, target, relaxed, step, reportOf}
 use Rattle.step.specs.declared.Report.{Report}
 use Rattle.step_call.specs.Promise.{stepCall, Steps}
 use Rattle.step_call.specs.declared.Outcome.{Outcome}
-use Rattle.step_call.specs.declared.Outcome.the-variants.{Done}
+use Rattle.step_call.specs.declared.Outcome.the-variants.{Done, Failed, Refused}
 
 -- of a step: no multiplier of an inequality is negative or -0
 abbrev pub ClearStep : Problem → Answer Step → Type 0
@@ -39,6 +39,35 @@ ReadLower = (p : Problem) (l f : List Float) → SameLower (p .n) (p .factor) l 
 abbrev pub StepCallClear : Type 0
 StepCallClear = (p : Problem) (relaxation : Float) (t : Report) (d d' l l' w w' : List Float) (iw iw' : List ℕ) → Steps (stepCall p d l w iw) (reportOf p) (Done relaxation t) d d' l l' w w' iw iw'
     → (j : ℕ) → j < p .m → isEquality p j ≡ false → NotNegative (at l' j)
+
+-- ---- what a step costs in QR factorings
+
+-- with p exact inequality rows and q relaxed rows at most 3 + (3p^2 + 4p) + (3q^2 + 4q)
+abbrev pub most : ℕ → ℕ
+most rows = 3 * (rows * rows) + 4 * rows
+
+abbrev pub costBound : Problem → ℕ
+costBound p = 3 + most (length (inequalityRows p)) + most (length (relaxedRows p))
+
+-- what a call reports; one that a test refuses takes none
+abbrev pub factoringsTold : Outcome → ℕ
+factoringsTold (Done relaxation t) = t .factorings
+factoringsTold (Failed r t) = t .factorings
+factoringsTold (Refused r) = 0
+
+-- so of every call, done or refused
+abbrev pub CostBound : Type 0
+CostBound = (p : Problem) (o : Outcome) (d d' l l' w w' : List Float) (iw iw' : List ℕ) → Steps (stepCall p d l w iw) (reportOf p) o d d' l l' w w' iw iw' → factoringsTold o ≤ costBound p
+
+-- a constraint and a variable have two rows each at most, and delta has two
+abbrev pub RowsFit : Type 0
+RowsFit = (p : Problem) → (length (inequalityRows p) ≤ 2 * p .m + 2 * p .n) × (length (relaxedRows p) ≤ 2 * p .m + 2 * p .n + 2)
+
+-- and so no call takes more than this: the bound with 64 and 66 rows
+abbrev pub CostMost : Type 0
+CostMost = (p : Problem) (o : Outcome) (d d' l l' w w' : List Float) (iw iw' : List ℕ) → Steps (stepCall p d l w iw) (reportOf p) o d d' l l' w w' iw iw' → factoringsTold o ≤ 25879
+
+-- ---- that the promise allows one answer only
 
 -- whatever the answer c, the outcome and all that is left are fixed by what was there before
 abbrev pub OneAnswer : Type 0

@@ -11,7 +11,7 @@ pub const LIBRARY: &str = env!("LIBRARY");
 macro_rules! declare {
     ($($op:ident $name:ident $symbol:tt [$($size:ident)*]
         $(($data:ident $len:ident $role:ident))* $({$place:ident $what:ident})*
-        $([$last:ident $last_len:ident $last_role:ident])?;)*) => {
+        $([$last:ident $last_len:ident $last_role:ident])? $(<$tally:ident>)?;)*) => {
         #[allow(dead_code)]
         mod symbols {
             unsafe extern "C" {
@@ -27,6 +27,7 @@ macro_rules! declare {
                     $($size: usize,)* $($data: peer::pointer!($role), $len: usize,)*
                     $($place: peer::pointer!($what),)*
                     $($last: peer::pointer!($last_role), $last_len: usize,)?
+                    $($tally: peer::pointer!($tally),)?
                     w: *mut f64, w_len: usize, iw: *mut u32, iw_len: usize,
                 ) -> u32;)*
             }

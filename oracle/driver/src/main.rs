@@ -18,6 +18,7 @@ use trial::kinds;
 use trial::replay::{self, List};
 use trial::run::{self, Plan};
 use trial::table;
+use trial::tallies::{Tallied, tallies};
 
 const USAGE: &str = "usage: oracle COMMAND [--OPTION VALUE]...
   calls       compares library calls       --calls N --seed N --threads N --ops qr,nnls,..
@@ -25,6 +26,7 @@ const USAGE: &str = "usage: oracle COMMAND [--OPTION VALUE]...
   sqrt        compares square roots        --patterns N --seed N
   mirror      compares B with its mirror   --sequences N --seed N
   packed      compares B's two forms       --sequences N --seed N
+  tally       compares steps on one tally  --sequences N --seed N
   records     compares record programs     --program FILE --files N --seed N --threads N
   all         calls, and then records      with the options of both
   write-list  writes the stored list       --folder FOLDER --each N --seed N
@@ -53,6 +55,7 @@ fn command(arguments: &Arguments) -> Result<bool, String> {
         "sqrt" => sqrt(arguments),
         "mirror" => mirror::compare(arguments),
         "packed" => mirror::packed(arguments),
+        "tally" => tally(arguments),
         "records" => records(arguments),
         "all" => Ok(calls(arguments)? & records(arguments)?),
         "write-list" => write_list(arguments),
@@ -125,6 +128,23 @@ fn sqrt(arguments: &Arguments) -> Result<bool, String> {
     announce(&own);
     let (patterns, seed) = (arguments.value("patterns", 10_000_000)?, arguments.value("seed", 1)?);
     Ok(root::compare(&library, patterns, seed))
+}
+
+/// Compares sequences of steps on one tally.
+fn tally(arguments: &Arguments) -> Result<bool, String> {
+    let (library, own) = linked();
+    announce(&own);
+    let sequences = arguments.value("sequences", 10_000)?;
+    let seed = arguments.value("seed", 1)?;
+    let found = tallies(&library, sequences, seed);
+    let Tallied { steps, refused: [late, early], relaxed, ended, different, first } = found;
+    println!("seed {seed}, {sequences} sequences, {steps} steps: {late} refused by the arithmetic,");
+    println!("{early} before it, {relaxed} relaxed, {ended} left a count at its largest value");
+    if let Some(index) = first {
+        println!("first difference in sequence {index}");
+    }
+    println!("differences: {different}");
+    Ok(different == 0)
 }
 
 /// Compares what a record program prints.

@@ -171,6 +171,43 @@ edges! {
             report
         }
     }
+    WrappedTally "a count that passes the range starts again" {
+        fn raised(tally: [u64; 2], spent: [u32; 2]) -> [u64; 2] {
+            [0, 1].map(|i| tally[i].wrapping_add(u64::from(spent[i])))
+        }
+    }
+    BothAtTheEnd "both counts at the end when one is" {
+        fn raised(tally: [u64; 2], spent: [u32; 2]) -> [u64; 2] {
+            let raised = Sound::raised(tally, spent);
+            if raised.contains(&u64::MAX) { [u64::MAX; 2] } else { raised }
+        }
+    }
+    TallyExchanged "the tally's counts exchanged" {
+        fn raised(tally: [u64; 2], [rounds, factorings]: [u32; 2]) -> [u64; 2] {
+            Sound::raised(tally, [factorings, rounds])
+        }
+    }
+    TallySet "the tally set, not raised" {
+        fn raised(_: [u64; 2], spent: [u32; 2]) -> [u64; 2] { spent.map(u64::from) }
+    }
+    TallyOfDone "a refused step raises nothing" {
+        fn spent(number: u32, tally: &Tally) -> Option<[u32; 2]> {
+            if number == 0 { Sound::spent(number, tally) } else { None }
+        }
+    }
+    TallyOfExact "the tally raised by the exact stage alone" {
+        fn spent(number: u32, tally: &Tally) -> Option<[u32; 2]> {
+            let mut tally = *tally;
+            tally.spent[1] = Default::default();
+            Sound::spent(number, &tally)
+        }
+    }
+    TallyByRefusedRound "a round refused by 7 counted" {
+        fn spent(number: u32, tally: &Tally) -> Option<[u32; 2]> {
+            let [rounds, factorings] = Sound::spent(number, tally)?;
+            Some([rounds + u32::from(number == 7), factorings])
+        }
+    }
     ReportedEarly "report written on 4" {
         fn reports(number: u32) -> bool { number == 0 || number >= 4 }
     }

@@ -6,8 +6,8 @@ use reference::call::{Edge, Kernels};
 use reference::shape::Op;
 
 /// Hands the table of the lent operations to a macro. A row: the operation, its function, its
-/// symbol, its sizes, its slices (pointer, length, role), its single results, and the slice that
-/// comes after these.
+/// symbol, its sizes, its slices (pointer, length, role), its single results, the slice that
+/// comes after these, and the tally.
 #[macro_export]
 macro_rules! interface {
     ($apply:ident) => {
@@ -42,7 +42,7 @@ macro_rules! interface {
                 (factor factor_len read) (gradient gradient_len read) (kinds kinds_len kind)
                 (values values_len read) (jacobian jacobian_len read) (lower lower_len read)
                 (upper upper_len read) (d d_len write) (multipliers l_len write)
-                {relaxation real} [report report_len index];
+                {relaxation real} [report report_len index] <tally>;
         }
     };
 }
@@ -57,6 +57,7 @@ macro_rules! pointer {
     (index) => { *mut u32 };
     (count) => { *mut u32 };
     (real) => { *mut f64 };
+    (tally) => { *mut [u64; 2] };
 }
 
 /// Counts sizes.
@@ -76,6 +77,7 @@ pub trait Lender {
     fn index(&mut self) -> (*mut u32, usize);
     fn count(&mut self) -> *mut u32;
     fn real(&mut self) -> *mut f64;
+    fn tally(&mut self) -> *mut [u64; 2];
     fn workspace(&mut self) -> (*mut f64, usize);
     fn index_workspace(&mut self) -> (*mut u32, usize);
 }
@@ -89,6 +91,7 @@ struct Arguments {
     words: Option<(*mut u32, usize)>,
     counts: Vec<*mut u32>,
     value: Option<*mut f64>,
+    tally: Option<*mut [u64; 2]>,
 }
 
 impl Arguments {
@@ -114,6 +117,9 @@ impl Arguments {
     fn real(&mut self, place: *mut f64) {
         self.value = Some(place);
     }
+    fn tally(&mut self, place: *mut [u64; 2]) {
+        self.tally = Some(place);
+    }
 
     unsafe fn answer<K: Kernels, E: Edge>(
         self,
@@ -124,7 +130,7 @@ impl Arguments {
     ) -> u32 {
         let mut lent = Lent::new(&self.outputs, w, iw);
         lent.words = self.words.unwrap_or(lent.words);
-        (lent.counts, lent.value) = (self.counts, self.value);
+        (lent.counts, lent.value, lent.tally) = (self.counts, self.value, self.tally);
         unsafe { serve::<K, E>(op, sizes, self.inputs, self.kinds, lent) }
     }
 }
@@ -132,7 +138,7 @@ impl Arguments {
 macro_rules! define {
     ($($op:ident $name:ident $symbol:tt [$($size:ident)*]
         $(($data:ident $len:ident $role:ident))* $({$place:ident $what:ident})*
-        $([$last:ident $last_len:ident $last_role:ident])?;)*) => {
+        $([$last:ident $last_len:ident $last_role:ident])? $(<$tally:ident>)?;)*) => {
         /// A library's functions, by operation.
         #[derive(Clone, Copy)]
         pub struct Library {
@@ -141,7 +147,7 @@ macro_rules! define {
             pub norm: unsafe extern "C" fn(*const f64, usize) -> f64,
             $(pub $name: unsafe extern "C" fn(
                 $(count_size!($size),)* $(pointer!($role), usize,)* $(pointer!($what),)*
-                $(pointer!($last_role), usize,)?
+                $(pointer!($last_role), usize,)? $(pointer!($tally),)?
                 *mut f64, usize, *mut u32, usize,
             ) -> u32,)*
         }
@@ -161,11 +167,13 @@ macro_rules! define {
                         $(let ($data, $len) = lender.$role();)*
                         $(let $place = lender.$what();)*
                         $(let ($last, $last_len) = lender.$last_role();)?
+                        $(let $tally = lender.$tally();)?
                         let ((w, w_len), (iw, iw_len)) =
                             (lender.workspace(), lender.index_workspace());
                         unsafe {
                             (self.$name)(
                                 $($size,)* $($data, $len,)* $($place,)* $($last, $last_len,)?
+                                $($tally,)?
                                 w, w_len, iw, iw_len,
                             )
                         }
@@ -178,7 +186,7 @@ macro_rules! define {
         $(#[allow(clippy::too_many_arguments)]
         unsafe extern "C" fn $name<K: Kernels, E: Edge>(
             $($size: usize,)* $($data: pointer!($role), $len: usize,)* $($place: pointer!($what),)*
-            $($last: pointer!($last_role), $last_len: usize,)?
+            $($last: pointer!($last_role), $last_len: usize,)? $($tally: pointer!($tally),)?
             w: *mut f64, w_len: usize, iw: *mut u32, iw_len: usize,
         ) -> u32 {
             #[allow(unused_mut)]
@@ -187,6 +195,7 @@ macro_rules! define {
                 $(arguments.$role($data, $len);)*
                 $(arguments.$what($place);)*
                 $(arguments.$last_role($last, $last_len);)?
+                $(arguments.$tally($tally);)?
                 arguments.answer::<K, E>(Op::$op, &[$($size),*], (w, w_len), (iw, iw_len))
             }
         })*

@@ -14,6 +14,7 @@ pub struct Lent {
     pub words: (*mut u32, usize),
     pub counts: Vec<*mut u32>,
     pub value: Option<*mut f64>,
+    pub tally: Option<*mut [u64; 2]>,
     pub w: (*mut f64, usize),
     pub iw: (*mut u32, usize),
 }
@@ -22,7 +23,7 @@ impl Lent {
     /// Outputs and workspaces alone.
     pub fn new(outputs: &[(*mut f64, usize)], w: (*mut f64, usize), iw: (*mut u32, usize)) -> Self {
         let words = (std::ptr::NonNull::dangling().as_ptr(), 0);
-        Self { outputs: outputs.to_vec(), words, counts: vec![], value: None, w, iw }
+        Self { outputs: outputs.to_vec(), words, counts: vec![], value: None, tally: None, w, iw }
     }
 }
 
@@ -85,6 +86,9 @@ unsafe fn settle<E: Edge>(answer: &Answer, lent: &Lent) {
         }
         if let (Some(place), Some(value)) = (lent.value, answer.value) {
             place.write(value);
+        }
+        if let (Some(place), Some(spent)) = (lent.tally, answer.spent) {
+            place.write(E::raised(place.read(), spent));
         }
         if E::clears(answer.number) {
             clear(lent.w, E::CLEARED[0], 0.0);

@@ -2,7 +2,7 @@
 
 use crate::shape::{Lengths, Op, REPORT, WORKSPACES};
 use crate::stand_in::{self, Failure};
-use crate::tally::{self, Tally};
+use crate::tally::{self, Spent, Tally};
 use crate::triangle;
 
 /// A call: everything that crosses the C interface inwards.
@@ -55,6 +55,8 @@ pub struct Answer {
     pub counts: Vec<u32>,
     /// The relaxation, or the value of a root, sum or norm.
     pub value: Option<f64>,
+    /// What a step raises the tally by, that it is lent: rounds and factorings.
+    pub spent: Option<[u32; 2]>,
     /// What the run passed through.
     pub tally: Tally,
 }
@@ -154,6 +156,15 @@ pub trait Edge: 'static {
     fn reports(number: u32) -> bool {
         number == 0 || number >= 5
     }
+    /// What a step raises the tally by: what both stages took, and nothing where a test refuses it.
+    fn spent(number: u32, tally: &Tally) -> Option<[u32; 2]> {
+        let Spent { rounds, factorings } = tally.total();
+        Self::reports(number).then_some([rounds, factorings])
+    }
+    /// A tally raised: a count that would pass the range stays at its largest value.
+    fn raised(tally: [u64; 2], spent: [u32; 2]) -> [u64; 2] {
+        [0, 1].map(|i| tally[i].saturating_add(u64::from(spent[i])))
+    }
     /// A step's report.
     fn report(tally: &Tally) -> [u32; REPORT] {
         let ([exact, relaxed], spent) = (tally.stages, tally.total());
@@ -231,6 +242,9 @@ pub fn answer<K: Kernels, E: Edge>(call: &Call) -> Answer {
         Op::Lsi | Op::Lsei if E::places(number) => answer.counts.push(answer.tally.short().place),
         Op::Step if E::reports(number) => answer.words = E::report(&answer.tally).to_vec(),
         _ => {}
+    }
+    if call.op == Op::Step {
+        answer.spent = E::spent(number, &answer.tally);
     }
     answer
 }

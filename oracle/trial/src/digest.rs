@@ -46,7 +46,7 @@ impl Digest {
 
 /// So many words of memory: those given, and then what it held before.
 fn memory(front: &[f64], before: u64, len: usize) -> Vec<u64> {
-    let mut words = vec![before; len];
+    let mut words = vec![pattern(f64::from_bits(before)); len];
     for (to, &value) in words.iter_mut().zip(front) {
         *to = pattern(value);
     }
@@ -70,6 +70,17 @@ fn places(owed: &Answer, mark: u32) -> Vec<u64> {
     words
 }
 
+/// A count in two words, each below the prime's square.
+fn halves(count: u64) -> [u64; 2] {
+    [count >> 32, count & 0xffff_ffff]
+}
+
+/// The tally: the two junk words of the call's floats, raised by what was spent.
+fn tally(stored: &Stored, owed: &Answer) -> [u64; 2] {
+    let before = [stored.fill.output, stored.fill.room];
+    owed.spent.map_or(before, |spent| Sound::raised(before, spent))
+}
+
 /// The single results, the last output and the permutation of QR, the report and kinds of a step.
 fn mix_own(digest: &mut Digest, stored: &Stored, owed: &Answer) {
     let Stored { call, fill: Fill { output, mark, .. } } = stored;
@@ -83,7 +94,8 @@ fn mix_own(digest: &mut Digest, stored: &Stored, owed: &Answer) {
         Op::Nnls => digest.mix_all([counts(0), counts(1)]),
         Op::Lsi | Op::Lsei => digest.mix(counts(0)),
         Op::Step => {
-            digest.mix(owed.value.map_or(*output, pattern));
+            digest.mix(owed.value.map_or(pattern(f64::from_bits(*output)), pattern));
+            digest.mix_all(tally(stored, owed).map(halves).into_iter().flatten());
             digest.mix_all(places(owed, *mark));
             digest.mix(call.kinds.len() as u64);
             digest.mix_all(call.kinds.iter().map(|&kind| u64::from(kind)));
@@ -121,7 +133,7 @@ pub fn digest(stored: &Stored, owed: &Answer) -> u64 {
         mix_own(&mut digest, stored, owed);
         digest.mix_all(memory(first(stored, owed), fill.output, OUTPUT));
         digest.mix_all(memory(written(owed, 1), fill.output, OUTPUT));
-        digest.mix_all(room(0, owed.number, fill.room));
+        digest.mix_all(room(0, owed.number, pattern(f64::from_bits(fill.room))));
         digest.mix_all(room(1, owed.number, u64::from(fill.mark)));
     } else {
         digest.mix(owed.value.map_or(NAN, pattern));

@@ -2,7 +2,7 @@
 
 use crate::draw::Draw;
 use peer::{Lender, Library};
-use reference::call::{Answer, Call};
+use reference::call::{Answer, Call, Edge, Sound};
 use reference::shape::{Op, WORKSPACES};
 
 /// Entries on either side of each buffer that no call may touch.
@@ -29,6 +29,15 @@ impl Pattern for u32 {
     }
     fn of(bits: u64) -> Self {
         bits as u32
+    }
+}
+
+impl Pattern for u64 {
+    fn bits(self) -> u64 {
+        self
+    }
+    fn of(bits: u64) -> Self {
+        bits
     }
 }
 
@@ -118,6 +127,7 @@ struct Buffers {
     words: Held<u32>,
     counts: Vec<Held<u32>>,
     value: Held<f64>,
+    tally: Held<u64>,
     w: Held<f64>,
     iw: Held<u32>,
     /// How many sizes, inputs, outputs and counts were handed out.
@@ -125,7 +135,7 @@ struct Buffers {
 }
 
 impl Buffers {
-    fn new(call: &Call, junk: &Junk, draw: &mut Draw) -> Self {
+    fn new(call: &Call, tally: &[u64; 2], junk: &Junk, draw: &mut Draw) -> Self {
         let inputs = call.inputs.iter().map(|values| Held::of(values, junk, draw)).collect();
         let outputs = call.outputs.iter().map(|&len| Held::junk(len, junk, draw)).collect();
         let counts = (0..2).map(|_| Held::junk(1, junk, draw)).collect();
@@ -137,6 +147,7 @@ impl Buffers {
             words: Held::junk(call.words, junk, draw),
             counts,
             value: Held::junk(1, junk, draw),
+            tally: Held::of(tally, junk, draw),
             w: Held::junk(call.work[0], junk, draw),
             iw: Held::junk(call.work[1], junk, draw),
             given: [0; 4],
@@ -180,6 +191,9 @@ impl Lender for Buffers {
     fn real(&mut self) -> *mut f64 {
         self.value.pointer().0
     }
+    fn tally(&mut self) -> *mut [u64; 2] {
+        self.tally.pointer().0.cast()
+    }
     fn workspace(&mut self) -> (*mut f64, usize) {
         self.w.pointer()
     }
@@ -208,7 +222,29 @@ pub fn compare(
     if !call.op.is_lent() {
         return compare_value(library, call, owed, junk, draw);
     }
-    let mut buffers = Buffers::new(call, junk, draw);
+    let mut tally = if call.op == Op::Step { some_tally(draw) } else { [0; 2] };
+    compare_on(&mut tally, library, call, owed, junk, draw)
+}
+
+/// A tally of any counts: none, many, or so many that few more pass the range.
+fn some_tally(draw: &mut Draw) -> [u64; 2] {
+    [0, 1].map(|_| match draw.below(3) {
+        0 => 0,
+        1 => draw.bits(),
+        _ => u64::MAX - draw.below(30) as u64,
+    })
+}
+
+/// The same of a call that is lent workspaces and this tally, which then is what the call left.
+pub fn compare_on(
+    tally: &mut [u64; 2],
+    library: &Library,
+    call: &Call,
+    owed: &Answer,
+    junk: &Junk,
+    draw: &mut Draw,
+) -> Vec<String> {
+    let mut buffers = Buffers::new(call, tally, junk, draw);
     let number = unsafe { library.call(call.op, &mut buffers) };
     let mut found = vec![];
     if number != owed.number {
@@ -218,6 +254,8 @@ pub fn compare(
     compare_workspaces(&buffers, owed.number, &mut found);
     compare_outputs(&buffers, call.op, owed, &mut found);
     compare_single(&buffers, owed, &mut found);
+    compare_tally(&buffers, *tally, owed, &mut found);
+    tally.copy_from_slice(buffers.tally.body());
     found
 }
 
@@ -318,6 +356,15 @@ fn compare_single(buffers: &Buffers, owed: &Answer, found: &mut Vec<String>) {
         found.push(format!("relaxation: owed {:?}, found {}", owed.value, shown(value)));
     }
     compare_rest("relaxation", &buffers.value, owed.value.is_some(), found);
+}
+
+/// The tally: raised by what was spent, else untouched.
+fn compare_tally(buffers: &Buffers, before: [u64; 2], owed: &Answer, found: &mut Vec<String>) {
+    let raised = owed.spent.map(|spent| Sound::raised(before, spent));
+    if raised.is_some_and(|raised| buffers.tally.body() != raised) {
+        found.push(format!("tally: owed {raised:?}, found {:?}", buffers.tally.body()));
+    }
+    compare_rest("tally", &buffers.tally, raised.is_some(), found);
 }
 
 /// What stays of a buffer: the margin where it is written, else all of it.

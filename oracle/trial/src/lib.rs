@@ -11,3 +11,4 @@ pub mod run;
 pub mod sequences;
 pub mod stored;
 pub mod table;
+pub mod tallies;

@@ -21,7 +21,8 @@ pub fn pattern(value: f64) -> u64 {
     if value.is_nan() { NAN } else { value.to_bits() }
 }
 
-/// What memory holds before a call: outputs, the workspace, and everything of u32.
+/// What memory holds before a call: outputs, the workspace, and everything of u32. The first two are a
+/// step's tally as well, and some of these are near the end of the range, where they are NaNs.
 #[derive(Debug, Clone, Copy, PartialEq)]
 pub struct Fill {
     pub output: u64,
@@ -35,8 +36,11 @@ impl Fill {
         let mut draw = Draw::new(seed, op, "fill", index);
         let answers = owed.outputs.iter().flatten().chain(&owed.value);
         let taken: Vec<u64> = answers.map(|&value| pattern(value)).chain([0]).collect();
-        let output = unlike(&mut draw, &taken);
-        let room = unlike(&mut draw, &[0]);
+        let mut output = unlike(&mut draw, &taken);
+        let mut room = unlike(&mut draw, &[0]);
+        if op == Op::Step && draw.below(4) == 0 && !taken.contains(&NAN) {
+            [output, room] = [0, 1].map(|_| u64::MAX - draw.below(12) as u64);
+        }
         let mark = (draw.bits() as u32 | 1 << 31).min(NOWHERE - 1);
         Self { output, room, mark }
     }

@@ -17,6 +17,7 @@ struct Memory<'a> {
     words: Vec<u32>,
     counts: [u32; 2],
     value: f64,
+    tally: [u64; 2],
     w: Vec<f64>,
     iw: Vec<u32>,
     given: [usize; 4],
@@ -36,6 +37,7 @@ impl<'a> Memory<'a> {
             words: vec![fill.mark; 551],
             counts: [fill.mark; 2],
             value: f64::from_bits(fill.output),
+            tally: [fill.output, fill.room],
             w: vec![f64::from_bits(fill.room); 8_231],
             iw: vec![fill.mark; 551],
             given: [0; 4],
@@ -80,6 +82,9 @@ impl Lender for Memory<'_> {
     fn real(&mut self) -> *mut f64 {
         &mut self.value
     }
+    fn tally(&mut self) -> *mut [u64; 2] {
+        &mut self.tally
+    }
     fn workspace(&mut self) -> (*mut f64, usize) {
         (self.w.as_mut_ptr(), self.stored.call.work[0])
     }
@@ -112,6 +117,8 @@ fn replay_lent(library: &Library, stored: &Stored, digest: &mut Digest) -> u32 {
         Op::Lsi | Op::Lsei => digest.mix(u64::from(memory.counts[0])),
         Op::Step => {
             digest.mix(pattern(memory.value));
+            let halves = |count: u64| [count >> 32, count & 0xffff_ffff];
+            digest.mix_all(memory.tally.into_iter().flat_map(halves));
             digest.mix_all(longs(&memory.words));
             let kinds = &stored.call.kinds;
             digest.mix(kinds.len() as u64);

@@ -26,6 +26,8 @@ enum Touch {
     BeforeReport,
     AfterReport,
     Relaxation,
+    Tally,
+    AfterTally,
 }
 
 thread_local! {
@@ -133,6 +135,7 @@ unsafe extern "C" fn step(
     relaxation: *mut f64,
     report: *mut u32,
     report_len: usize,
+    tally: *mut [u64; 2],
     w: *mut f64,
     w_len: usize,
     iw: *mut u32,
@@ -164,6 +167,7 @@ unsafe extern "C" fn step(
             relaxation,
             report,
             report_len,
+            tally,
             w,
             w_len,
             iw,
@@ -174,6 +178,8 @@ unsafe extern "C" fn step(
             Touch::BeforeReport => *report.sub(1) ^= 1,
             Touch::AfterReport => *report.add(report_len) ^= 1,
             Touch::Relaxation => flip(relaxation),
+            Touch::Tally => (*tally)[1] ^= 1,
+            Touch::AfterTally => *tally.add(1).cast::<u64>() ^= 1,
             _ => {}
         }
         number
@@ -245,10 +251,17 @@ fn every_touch_of_a_place_is_told() {
     tells(&short, 3, &touches);
 }
 
-/// A report that is written with 0, 5 and 6, and stays with the numbers before the arithmetic.
+/// Report and tally move with 0, 5 and 6, and stay with the numbers before the arithmetic.
 #[test]
 fn every_touch_of_a_report_is_told() {
-    let touches = [Touch::Report, Touch::BeforeReport, Touch::AfterReport, Touch::Relaxation];
+    let touches = [
+        Touch::Report,
+        Touch::BeforeReport,
+        Touch::AfterReport,
+        Touch::Relaxation,
+        Touch::Tally,
+        Touch::AfterTally,
+    ];
     let step = |factor: f64, lower: f64| {
         let one = |value: f64| vec![value];
         let inputs = vec![one(factor), one(1.0), one(0.0), one(0.0), one(lower), one(1.0)];
