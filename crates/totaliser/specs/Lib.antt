@@ -1,0 +1,2 @@
+-- Totalisers of six digits. Definitions only.
+pub mod Volume
