@@ -1,2 +1,3 @@
 -- Totalisers of six digits. Definitions only.
+pub mod Claims
 pub mod Volume
