@@ -14,6 +14,7 @@ ghost use lib.ListN.{length};
 ghost use Rattle.workspace.specs.Tables.{outcomeNumber};
 ghost use Rattle.gritstrut.specs.Interface.{QrLeaves, NnlsLeaves, SolveLeaves, placeLeft, PlaceLeaves, WriteLeaves, entriesOf, stepReportCall, StepLeaves};
 ghost use Rattle.step.specs.Step.{reportOf};
+pub use day::gritstrut_reconcile;
 use hessian_call::Hessian;
 use hessian_packed_call::Packed;
 use householder_call::Qr;

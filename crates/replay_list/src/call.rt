@@ -44,7 +44,7 @@ pub fn room_junk(call: &Call) -> f64 {
 }
 
 // The last half of a word.
-fn low(x: u64) -> u32 {
+pub fn low(x: u64) -> u32 {
     (x % 4294967296) as u32
 }
 
@@ -70,7 +70,7 @@ pub fn length_at(call: &Call, i: usize, most: usize) -> usize
 }
 
 // How many values stand before input i.
-fn start(call: &Call, i: usize) -> usize
+pub fn start(call: &Call, i: usize) -> usize
     requires { ⌜ i < 7 ⌝ }
     ensures { λ r. ⌜ r ≤ 65536 * i ⌝ }
 {

@@ -63,7 +63,6 @@ pub fn problem<E: Edge>(call: &Call) -> (Vec<usize>, Vec<Vec<f64>>) {
     let targets = meters.iter().map(target).collect();
     let floors = diagonal(&vec![1.0; n]);
     let balances = call.inputs[3].clone();
-    let inputs =
-        vec![balances, vec![0.0; m], diagonal(&scales), targets, floors, vec![0.0; n]];
+    let inputs = vec![balances, vec![0.0; m], diagonal(&scales), targets, floors, vec![0.0; n]];
     (vec![n, m, n, n], inputs)
 }
