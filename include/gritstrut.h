@@ -6,8 +6,8 @@
  *
  * - No heap, no globals, no locks: they are re-entrant, and two threads may call them at once
  *   with buffers of their own. They need the two workspaces, stack (under 2 KiB was measured for
- *   a step, 2272 bytes for gritstrut_packed_cholesky) and, of the C library, memset and memmove
- *   alone.
+ *   a step and a day, 2272 bytes for gritstrut_packed_cholesky) and, of the C library, memset and
+ *   memmove alone.
  * - A slice is a pointer and then its length in entries. Matrices are dense and row-major: entry
  *   (i, j) of a matrix of n columns is at i * n + j.
  * - What the caller must see to, since no function can test it: every pointer is not null, aligned
@@ -40,15 +40,20 @@
  *        that is not positive and finite
  *     11 GRITSTRUT_DEPENDENT: the rank of    untouched    first 8192 and 512 entries zero
  *        the equalities too low
+ *     12 GRITSTRUT_READING: a reading over   untouched    untouched
+ *        999,999
+ *     13 GRITSTRUT_SPREAD: a spread that is  untouched    untouched
+ *        not finite and positive
  *
  *   Zero is +0. Untouched means the same bits. (Of an entry that is a NaN it is proved that it
  *   stays a NaN; that its bits stay is compared, not proved: docs/TRUST.md.) Entries of a
  *   workspace past the first 8192 and 512 never change. Inputs never change, except b under
  *   gritstrut_update and gritstrut_packed_update.
  * - Single results are stored through their pointers only where the number is 0; but a place only
- *   where it is 5 or 11, and a step's report and tally where it is 0, 5, 6 or 7. Else they are
- *   untouched.
- * - A place says where rank was lost: the index, from 0, of the column of the factored matrix that
+ *   where it is 5, 11, 12 or 13, and a step's report and tally where it is 0, 5, 6 or 7. Else they
+ *   are untouched.
+ * - A place with 12 and 13 is a meter. With 5 and 11 it says where rank was lost: the index, from 0,
+ *   of the column of the factored matrix that
  *   stands next after those that could be taken. With 11 the columns are the equalities: if one was
  *   entered twice, and the others are independent and in like units, the place is one of the two
  *   (docs/DIFFERENCES.md, "What a place names", says how far that can be relied on).
@@ -83,6 +88,8 @@ extern "C" {
 #define GRITSTRUT_CAPPED 7
 #define GRITSTRUT_PIVOT 8
 #define GRITSTRUT_DEPENDENT 11
+#define GRITSTRUT_READING 12
+#define GRITSTRUT_SPREAD 13
 
 /* The place of a stage that has none. */
 #define GRITSTRUT_NOWHERE UINT32_MAX
@@ -144,6 +151,22 @@ uint32_t gritstrut_lsei(size_t n, size_t mc, size_t me, size_t mg,
                         double *x, size_t x_len, double *multipliers, size_t multipliers_len,
                         uint32_t *place,
                         double *w, size_t w_len, uint32_t *iw, size_t iw_len);
+
+/* A day's volumes of n meters, from 0 to 16, corrected so that m balances, from 0 to 16, come to
+ * zero: the least squares of the corrections, each over its meter's spread, with no volume below
+ * zero. In: the totaliser readings before and after (n each, 0 to 999,999; the volume between them
+ * is after - before, plus 1,000,000 where that is below zero, so a full turn cannot be seen),
+ * spreads (n), balances (m * n, a row of coefficients each). Out: volumes (n), and named (n): 1
+ * where the volume is below zero, as rounding can leave it, or NaN, else 0. Volumes are not
+ * clipped. After 1, 2 and 3 the meters are tested, the lowest first, each for 12 and then 13.
+ * place: the meter with 12 and 13; with 11 the balance, with 5 as LSEI's: the meter if m is 0.
+ * docs/MANUAL.md is for the person at the site. */
+uint32_t gritstrut_reconcile(size_t n, size_t m, const uint32_t *before, size_t before_len,
+                             const uint32_t *after, size_t after_len,
+                             const double *spreads, size_t spreads_len,
+                             const double *balances, size_t balances_len,
+                             double *volumes, size_t volumes_len, uint8_t *named, size_t named_len,
+                             uint32_t *place, double *w, size_t w_len, uint32_t *iw, size_t iw_len);
 
 /* The approximation B of the Hessian, of dimension n from 1 to 16, square and row-major (n * n).
  * identity writes 1 on the diagonal of b and +0 elsewhere. times writes B v (n) to out. cholesky

@@ -101,7 +101,7 @@ def lay_out(groups, edges, deps):
             ports[n] = at + box_width(n) / 2
             at += box_width(n) + BETWEEN
         items[g] = Item(level(g, under, rows), width, ports, f"{g}: {title}")
-    lines, lanes = set(), {}
+    lines, lanes = {}, {}  # lines in the order in which they are found, each once
     far = [(d, n) for n, of in edges.items() for d in of if items[group_of[n]].row - items[group_of[d]].row > 1]
 
     def lane(key, row):
@@ -119,9 +119,9 @@ def lay_out(groups, edges, deps):
             at, port = start, d
             for row in range(start.row + 1, end.row):
                 passed = lane(key, row)
-                lines.add((at, port, passed, None))
+                lines[at, port, passed, None] = True
                 at, port = passed, None
-            lines.add((at, port, end, name))
+            lines[at, port, end, name] = True
     for at, port, to, into in lines:
         at.ends.append((port, to, into))
         to.ends.append((into, at, port))

@@ -8,7 +8,7 @@ use std::path::Path;
 const LIBRARY: &str = "GRITSTRUT_LIBRARY";
 
 /// The C interface's names after `gritstrut_`.
-const NAMES: [&str; 17] = [
+const NAMES: [&str; 18] = [
     "sqrt",
     "sum",
     "norm",
@@ -26,6 +26,7 @@ const NAMES: [&str; 17] = [
     "packed_times",
     "packed_cholesky",
     "packed_update",
+    "reconcile",
 ];
 
 fn main() {

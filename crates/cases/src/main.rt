@@ -3,6 +3,7 @@
 // A bundle, on standard input: for each case the length of its name and the length of its file, two bytes each,
 // little-endian, then the name and the file. `tools/records.py bundle examples/cases.txt` writes it.
 mod calls;
+mod days;
 mod lines;
 mod table;
 
@@ -57,6 +58,7 @@ fn answer_all(bundle: &[u8]) {
 
 fn main() {
     table::tell_all();
+    days::tell_days();
     let mut input = io::large_buffer();
     let n = io::read_full(STDIN_FILENO, &mut input);
     answer_all(&input[..n]);

@@ -38,7 +38,7 @@ use Rattle.gritstrut.specs.Interface.{QrLeaves, NnlsLeaves, SolveLeaves,
 
 -- ---- operations that tell nothing beside their outputs
 
-number-told : {A : Type 0} (c : Answer A) → outcomeNumber (outcomeOf c) ≡ number c
+pub number-told : {A : Type 0} (c : Answer A) → outcomeNumber (outcomeOf c) ≡ number c
 number-told (done v) = refl
 number-told (refused r) = refl
 

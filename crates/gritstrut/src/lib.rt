@@ -1,4 +1,6 @@
 // The C interface: every public operation, each slice a pointer and a length. include/gritstrut.h declares it.
+mod day;
+
 ghost use mathlib.Core.Path.{_≡_};
 ghost use Rattle.numbers.specs.Root.{sqrtOf, sumOf};
 ghost use Rattle.norms.specs.Norm.{norm};
@@ -12,6 +14,7 @@ ghost use lib.ListN.{length};
 ghost use Rattle.workspace.specs.Tables.{outcomeNumber};
 ghost use Rattle.gritstrut.specs.Interface.{QrLeaves, NnlsLeaves, SolveLeaves, placeLeft, PlaceLeaves, WriteLeaves, entriesOf, raisedCounts, Tells, stepReportCall, StepLeaves};
 ghost use Rattle.step.specs.Step.{reportOf};
+pub use day::gritstrut_reconcile;
 use hessian_call::Hessian;
 use hessian_packed_call::Packed;
 use householder_call::Qr;

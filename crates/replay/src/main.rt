@@ -1,5 +1,6 @@
 // Replays the stored calls that standard input holds, and writes a line for each: its operation, its number, and the
 // digest of all that it left. The stored lines are the answers of the Rust.
+mod day;
 mod run;
 
 ghost use mathlib.Core.Path.{_≡_};
@@ -55,7 +56,7 @@ fn no_call() -> Call
 // Reads a call of an operation and n bytes and replays it, if it is one.
 fn replay_next(operation: u64, n: usize) -> bool {
     let mut call = no_call();
-    if 16 < operation {
+    if 17 < operation {
         return false;
     }
     if 12288 < n {

@@ -1,4 +1,5 @@
 // Runs a stored call through the C interface on memory full of junk.
+use crate::day::run_day;
 use libc::STDOUT_FILENO;
 use replay_list::Call;
 use replay_list::Values;
@@ -83,8 +84,8 @@ fn told_counts(number: u32, rounds: u32, factorings: u32) -> u64 {
     mix_mark(mix_mark(told(number), rounds), factorings)
 }
 
-// The number of LSI or LSEI, and the place.
-fn told_place(number: u32, place: u32) -> u64 {
+// The number of LSI, of LSEI or of a day, and the place.
+pub fn told_place(number: u32, place: u32) -> u64 {
     mix_mark(told(number), place)
 }
 
@@ -237,6 +238,7 @@ fn run_any(
         6 => run_lsi(call, values, x, y, w, iw),
         7 => run_lsei(call, values, x, y, w, iw),
         12 => run_step(call, values, x, y, w, iw),
+        17 => run_day(call, values, x, w, iw),
         _ => run_hessian(operation, call, values, x, w, iw),
     }
 }

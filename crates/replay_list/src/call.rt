@@ -49,7 +49,7 @@ pub fn tally(call: &Call) -> [u64; 2] {
 }
 
 // The last half of a word.
-fn low(x: u64) -> u32 {
+pub fn low(x: u64) -> u32 {
     (x % 4294967296) as u32
 }
 
@@ -75,7 +75,7 @@ pub fn length_at(call: &Call, i: usize, most: usize) -> usize
 }
 
 // How many values stand before input i.
-fn start(call: &Call, i: usize) -> usize
+pub fn start(call: &Call, i: usize) -> usize
     requires { ⌜ i < 7 ⌝ }
     ensures { λ r. ⌜ r ≤ 65536 * i ⌝ }
 {

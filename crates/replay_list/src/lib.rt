@@ -1,6 +1,7 @@
 // The stored calls: where their parts stand in the list, the memory that they are lent, and the digest of what they left
 // (oracle/README.md, "The stored calls").
 mod call;
+mod day;
 mod digest;
 mod little;
 mod memory;
@@ -16,6 +17,9 @@ pub use call::part;
 pub use call::size;
 pub use call::tally;
 pub use call::values_of;
+pub use day::lent_marks;
+pub use day::mix_named;
+pub use day::readings;
 pub use digest::digest_of;
 pub use digest::mix_count;
 pub use digest::mix_float;

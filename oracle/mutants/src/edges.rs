@@ -1,5 +1,5 @@
 //! Slips around the Rust files: in part 1, in the tests, in the round limit, in what is cleared, in
-//! places and reports.
+//! places and reports, in the reading of a day.
 
 use peer::{Library, library};
 use reference::Rust;
@@ -236,5 +236,46 @@ edges! {
         fn passes(call: &Call, test: u32) -> bool {
             if passes(call, 3) { passes(call, test) } else { passes_reported(call, test) }
         }
+    }
+    RolloverLost "a day's rollover not added" {
+        fn volume(old: u32, new: u32) -> f64 { f64::from(new) - f64::from(old) }
+    }
+    FullTurn "a day's equal readings a full turn" {
+        fn volume(old: u32, new: u32) -> f64 {
+            if old == new { 1e6 } else { Sound::volume(old, new) }
+        }
+    }
+    NotInverted "a day's E of spreads" {
+        fn scale(spread: f64) -> f64 { spread }
+    }
+    TwiceRounded "a day's f rounded twice" {
+        fn target(volume: f64, spread: f64) -> f64 { volume * (1.0 / spread) }
+    }
+    SpreadFirst "a day's 13 before 12" {
+        fn fault(old: u32, new: u32, spread: f64) -> Option<u32> {
+            Sound::fault(0, 0, spread).or(Sound::fault(old, new, spread))
+        }
+    }
+    LargestRefused "a day's reading of 999,999 refused" {
+        fn fault(old: u32, new: u32, spread: f64) -> Option<u32> {
+            Sound::fault(old.saturating_add(1), new.saturating_add(1), spread)
+        }
+    }
+    InfiniteSpread "a day's infinite spread taken" {
+        fn fault(old: u32, new: u32, spread: f64) -> Option<u32> {
+            Sound::fault(old, new, spread.min(f64::MAX))
+        }
+    }
+    Clipped "a day's negative volume clipped" {
+        fn told(volume: f64) -> f64 { if volume < 0.0 { 0.0 } else { volume } }
+    }
+    ZeroNamed "a day's -0 named" {
+        fn is_named(volume: f64) -> bool { volume.is_sign_negative() || volume.is_nan() }
+    }
+    NanNotNamed "a day's NaN not named" {
+        fn is_named(volume: f64) -> bool { volume < 0.0 }
+    }
+    DayCleared "workspaces of a day cleared after 12 and 13" {
+        fn clears(number: u32) -> bool { number >= 12 || Sound::clears(number) }
     }
 }

@@ -3,6 +3,7 @@
 
 use crate::lent::{Lent, read, serve};
 use reference::call::{Edge, Kernels};
+use reference::day;
 use reference::shape::Op;
 
 /// Hands the table of the lent operations to a macro. A row: the operation, its function, its
@@ -43,6 +44,10 @@ macro_rules! interface {
                 (values values_len read) (jacobian jacobian_len read) (lower lower_len read)
                 (upper upper_len read) (d d_len write) (multipliers l_len write)
                 {relaxation real} [report report_len index] <tally>;
+            Reconcile reconcile "gritstrut_reconcile" [n m]
+                (before before_len reading) (after after_len reading) (spreads spreads_len read)
+                (balances balances_len read) (volumes volumes_len write) (named named_len mark)
+                {place count};
         }
     };
 }
@@ -52,6 +57,8 @@ macro_rules! interface {
 macro_rules! pointer {
     (read) => { *const f64 };
     (kind) => { *const u8 };
+    (reading) => { *const u32 };
+    (mark) => { *mut u8 };
     (write) => { *mut f64 };
     (both) => { *mut f64 };
     (index) => { *mut u32 };
@@ -72,6 +79,8 @@ pub trait Lender {
     fn size(&mut self) -> usize;
     fn read(&mut self) -> (*const f64, usize);
     fn kind(&mut self) -> (*const u8, usize);
+    fn reading(&mut self) -> (*const u32, usize);
+    fn mark(&mut self) -> (*mut u8, usize);
     fn write(&mut self) -> (*mut f64, usize);
     fn both(&mut self) -> (*mut f64, usize);
     fn index(&mut self) -> (*mut u32, usize);
@@ -89,6 +98,7 @@ struct Arguments {
     kinds: Vec<u8>,
     outputs: Vec<(*mut f64, usize)>,
     words: Option<(*mut u32, usize)>,
+    marks: Option<(*mut u8, usize)>,
     counts: Vec<*mut u32>,
     value: Option<*mut f64>,
     tally: Option<*mut [u64; 2]>,
@@ -100,6 +110,13 @@ impl Arguments {
     }
     unsafe fn kind(&mut self, data: *const u8, len: usize) {
         self.kinds = unsafe { read(data, len) };
+    }
+    unsafe fn reading(&mut self, data: *const u32, len: usize) {
+        let readings = unsafe { read(data, len) };
+        self.inputs.push(readings.into_iter().map(day::stored).collect());
+    }
+    unsafe fn mark(&mut self, data: *mut u8, len: usize) {
+        self.marks = Some((data, len));
     }
     unsafe fn write(&mut self, data: *mut f64, len: usize) {
         self.outputs.push((data, len));
@@ -130,6 +147,7 @@ impl Arguments {
     ) -> u32 {
         let mut lent = Lent::new(&self.outputs, w, iw);
         lent.words = self.words.unwrap_or(lent.words);
+        lent.marks = self.marks;
         (lent.counts, lent.value, lent.tally) = (self.counts, self.value, self.tally);
         unsafe { serve::<K, E>(op, sizes, self.inputs, self.kinds, lent) }
     }

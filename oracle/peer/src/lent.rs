@@ -12,6 +12,7 @@ const BROKEN: u32 = 99;
 pub struct Lent {
     pub outputs: Vec<(*mut f64, usize)>,
     pub words: (*mut u32, usize),
+    pub marks: Option<(*mut u8, usize)>,
     pub counts: Vec<*mut u32>,
     pub value: Option<*mut f64>,
     pub tally: Option<*mut [u64; 2]>,
@@ -23,7 +24,8 @@ impl Lent {
     /// Outputs and workspaces alone.
     pub fn new(outputs: &[(*mut f64, usize)], w: (*mut f64, usize), iw: (*mut u32, usize)) -> Self {
         let words = (std::ptr::NonNull::dangling().as_ptr(), 0);
-        Self { outputs: outputs.to_vec(), words, counts: vec![], value: None, tally: None, w, iw }
+        let (outputs, counts) = (outputs.to_vec(), vec![]);
+        Self { outputs, words, marks: None, counts, value: None, tally: None, w, iw }
     }
 }
 
@@ -66,7 +68,7 @@ pub unsafe fn serve<K: Kernels, E: Edge>(
             _ if op.is_update() => vec![],
             _ => lent.outputs.iter().map(|output| output.1).collect(),
         },
-        words: lent.words.1,
+        words: lent.marks.map_or(lent.words.1, |marks| marks.1),
         work: [lent.w.1, lent.iw.1],
     };
     let run = panic::catch_unwind(|| answer::<K, E>(&call));
@@ -80,7 +82,13 @@ unsafe fn settle<E: Edge>(answer: &Answer, lent: &Lent) {
         for (output, values) in lent.outputs.iter().zip(&answer.outputs) {
             write(*output, values);
         }
-        write(lent.words, &answer.words);
+        match lent.marks {
+            Some(marks) => {
+                let values: Vec<u8> = answer.words.iter().map(|&mark| mark as u8).collect();
+                write(marks, &values);
+            }
+            None => write(lent.words, &answer.words),
+        }
         for (place, count) in lent.counts.iter().zip(&answer.counts) {
             place.write(*count);
         }

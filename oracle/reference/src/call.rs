@@ -1,5 +1,6 @@
 //! A call of a public operation and the full answer that it is owed.
 
+use crate::day;
 use crate::shape::{Lengths, Op, REPORT, WORKSPACES};
 use crate::stand_in::{self, Failure};
 use crate::tally::{self, Spent, Tally};
@@ -11,13 +12,15 @@ pub struct Call {
     pub op: Op,
     /// The sizes, and k for NNLS.
     pub sizes: Vec<usize>,
-    /// The slices of f64 that are read, in the order of the C interface.
+    /// The slices of f64 that are read, in the order of the C interface; a day's readings among them
+    /// (`day::stored`).
     pub inputs: Vec<Vec<f64>>,
     /// The kinds of the constraints.
     pub kinds: Vec<u8>,
     /// The lengths of the slices of f64 that are written.
     pub outputs: Vec<usize>,
-    /// The length of the slice of u32 that is written: QR's permutation, a step's report.
+    /// The length of the slice of u32 that is written: QR's permutation, a step's report; or of u8, a
+    /// day's marks.
     pub words: usize,
     /// The lengths of the workspaces.
     pub work: [usize; 2],
@@ -49,9 +52,9 @@ pub struct Answer {
     /// The slices of f64 that are written; for `update` the matrix afterwards.
     pub outputs: Vec<Vec<f64>>,
     /// The permutation, or the report of a step: exact number and place, relaxed number and place,
-    /// rounds, factorings.
+    /// rounds, factorings; or the marks of a day.
     pub words: Vec<u32>,
-    /// The rank; the rounds and the factorings; or the place where rank was lost.
+    /// The rank; the rounds and the factorings; the place where rank was lost; or a meter.
     pub counts: Vec<u32>,
     /// The relaxation, or the value of a root, sum or norm.
     pub value: Option<f64>,
@@ -146,11 +149,35 @@ pub trait Edge: 'static {
     }
     /// Whether a number leaves the workspaces cleared.
     fn clears(number: u32) -> bool {
-        number == 0 || number >= 5
+        matches!(number, 0 | 5..=8 | 11)
     }
     /// Whether LSI and LSEI store a place with a number.
     fn places(number: u32) -> bool {
         matches!(number, 5 | 11)
+    }
+    /// The volume between two readings.
+    fn volume(old: u32, new: u32) -> f64 {
+        day::volume(old, new)
+    }
+    /// Why a meter is refused.
+    fn fault(old: u32, new: u32, spread: f64) -> Option<u32> {
+        day::fault(old, new, spread)
+    }
+    /// A meter's entry of E.
+    fn scale(spread: f64) -> f64 {
+        1.0 / spread
+    }
+    /// A meter's entry of f.
+    fn target(volume: f64, spread: f64) -> f64 {
+        volume / spread
+    }
+    /// A corrected volume as it is written.
+    fn told(volume: f64) -> f64 {
+        volume
+    }
+    /// Whether a meter is named.
+    fn is_named(volume: f64) -> bool {
+        day::is_named(volume)
     }
     /// Whether a step writes its report with a number.
     fn reports(number: u32) -> bool {
@@ -239,7 +266,9 @@ pub fn answer<K: Kernels, E: Edge>(call: &Call) -> Answer {
     let number = answer.number;
     match call.op {
         Op::Nnls if number == 0 => answer.counts.push(answer.tally.total().factorings),
-        Op::Lsi | Op::Lsei if E::places(number) => answer.counts.push(answer.tally.short().place),
+        Op::Lsi | Op::Lsei | Op::Reconcile if E::places(number) => {
+            answer.counts.push(answer.tally.short().place);
+        }
         Op::Step if E::reports(number) => answer.words = E::report(&answer.tally).to_vec(),
         _ => {}
     }
@@ -278,6 +307,7 @@ fn arithmetic<K: Kernels, E: Edge>(call: &Call) -> Answer {
         Op::PackedIdentity | Op::PackedTimes | Op::PackedCholesky | Op::PackedUpdate => {
             on_square::<K, E>(call)
         }
+        Op::Reconcile => reconciled::<K, E>(call),
         Op::Step => match K::step(&call.kinds, inputs) {
             Ok((solution, relaxation)) => {
                 Answer { value: Some(relaxation), ..solved(Ok(solution)) }
@@ -297,6 +327,21 @@ fn on_square<K: Kernels, E: Edge>(call: &Call) -> Answer {
     let mut answer = arithmetic::<K, E>(&square);
     if matches!(call.op, Op::PackedIdentity | Op::PackedUpdate) {
         answer.outputs[0] = triangle::packed(n, &answer.outputs[0]);
+    }
+    answer
+}
+
+/// The tests of the meters, then LSEI's answer: its x, and the marks.
+fn reconciled<K: Kernels, E: Edge>(call: &Call) -> Answer {
+    if let Some((number, meter)) = day::refused::<E>(call) {
+        return Answer { counts: vec![meter], ..Answer::refused(number) };
+    }
+    let (sizes, inputs) = day::problem::<E>(call);
+    let mut answer = solved(K::lsei(&sizes, &inputs));
+    answer.outputs.truncate(1);
+    for volume in answer.outputs.iter_mut().flatten() {
+        answer.words.push(u32::from(E::is_named(*volume)));
+        *volume = E::told(*volume);
     }
     answer
 }

@@ -22,10 +22,11 @@ pub enum Op {
     PackedTimes,
     PackedCholesky,
     PackedUpdate,
+    Reconcile,
 }
 
 /// Every public operation, in the order of the port.
-pub const OPS: [Op; 17] = [
+pub const OPS: [Op; 18] = [
     Op::Sqrt,
     Op::Sum,
     Op::Norm,
@@ -43,6 +44,7 @@ pub const OPS: [Op; 17] = [
     Op::PackedTimes,
     Op::PackedCholesky,
     Op::PackedUpdate,
+    Op::Reconcile,
 ];
 
 /// How many f64 and u32 the workspaces hold at least.
@@ -54,13 +56,13 @@ pub const REPORT: usize = 6;
 /// The lengths of an operation's slices, each group in the order of the C interface.
 #[derive(Debug, Clone, PartialEq, Eq, Default)]
 pub struct Lengths {
-    /// Slices of f64 that are read; the first of `update` is written too.
+    /// Slices of f64 that are read, and the readings of a day; the first of `update` is written too.
     pub inputs: Vec<usize>,
     /// Kinds of constraints.
     pub kinds: usize,
     /// Slices of f64 that are written.
     pub outputs: Vec<usize>,
-    /// The slice of u32 that is written: QR's permutation, a step's report.
+    /// The slice of u32 that is written: QR's permutation, a step's report; and of u8, a day's marks.
     pub words: usize,
 }
 
@@ -90,6 +92,7 @@ impl Op {
             Op::PackedTimes => "packed_times",
             Op::PackedCholesky => "packed_cholesky",
             Op::PackedUpdate => "packed_update",
+            Op::Reconcile => "reconcile",
         }
     }
 
@@ -134,6 +137,7 @@ impl Op {
                 &[(1, 16)]
             }
             Op::Step => &[(1, 16), (0, 16)],
+            Op::Reconcile => &[(0, 16), (0, 16)],
         }
     }
 
@@ -176,11 +180,13 @@ impl Op {
                 let (n, m) = (first, second);
                 (vec![n * n, n, m, m * n, n, n], vec![n, m])
             }
+            Op::Reconcile => (vec![first, first, first, second * first], vec![first]),
         };
         let kinds = if self == Op::Step { second } else { 0 };
         let words = match self {
             Op::Qr => second,
             Op::Step => REPORT,
+            Op::Reconcile => first,
             _ => 0,
         };
         Lengths { inputs, kinds, outputs, words }

@@ -61,7 +61,7 @@ fn room(which: usize, number: u32, before: u64) -> Vec<u64> {
     words
 }
 
-/// The memory of the permutation, or of the report.
+/// The memory of the permutation, of the report, or of the marks.
 fn places(owed: &Answer, mark: u32) -> Vec<u64> {
     let mut words = vec![u64::from(mark); ROOMS[1]];
     for (to, &word) in words.iter_mut().zip(&owed.words) {
@@ -81,7 +81,8 @@ fn tally(stored: &Stored, owed: &Answer) -> [u64; 2] {
     owed.spent.map_or(before, |spent| Sound::raised(before, spent))
 }
 
-/// The single results, the last output and the permutation of QR, the report and kinds of a step.
+/// The single results, the last output and the permutation of QR, the report and kinds of a step,
+/// the marks of a day.
 fn mix_own(digest: &mut Digest, stored: &Stored, owed: &Answer) {
     let Stored { call, fill: Fill { output, mark, .. } } = stored;
     let counts = |i: usize| u64::from(owed.counts.get(i).copied().unwrap_or(*mark));
@@ -93,6 +94,10 @@ fn mix_own(digest: &mut Digest, stored: &Stored, owed: &Answer) {
         }
         Op::Nnls => digest.mix_all([counts(0), counts(1)]),
         Op::Lsi | Op::Lsei => digest.mix(counts(0)),
+        Op::Reconcile => {
+            digest.mix_all([counts(0), ROOMS[1] as u64]);
+            digest.mix_all(places(owed, mark % 128 + 128));
+        }
         Op::Step => {
             digest.mix(owed.value.map_or(pattern(f64::from_bits(*output)), pattern));
             digest.mix_all(tally(stored, owed).map(halves).into_iter().flatten());

@@ -3,6 +3,7 @@
 use crate::draw::Draw;
 use peer::{Lender, Library};
 use reference::call::{Answer, Call, Edge, Sound};
+use reference::day;
 use reference::shape::{Op, WORKSPACES};
 
 /// Entries on either side of each buffer that no call may touch.
@@ -123,6 +124,9 @@ struct Buffers {
     sizes: Vec<usize>,
     inputs: Vec<Held<f64>>,
     kinds: Held<u8>,
+    /// A day's readings, before and after, which stand for its first two inputs.
+    readings: Vec<Held<u32>>,
+    marks: Held<u8>,
     outputs: Vec<Held<f64>>,
     words: Held<u32>,
     counts: Vec<Held<u32>>,
@@ -130,8 +134,8 @@ struct Buffers {
     tally: Held<u64>,
     w: Held<f64>,
     iw: Held<u32>,
-    /// How many sizes, inputs, outputs and counts were handed out.
-    given: [usize; 4],
+    /// How many sizes, inputs, outputs, counts and readings were handed out.
+    given: [usize; 5],
 }
 
 impl Buffers {
@@ -139,18 +143,29 @@ impl Buffers {
         let inputs = call.inputs.iter().map(|values| Held::of(values, junk, draw)).collect();
         let outputs = call.outputs.iter().map(|&len| Held::junk(len, junk, draw)).collect();
         let counts = (0..2).map(|_| Held::junk(1, junk, draw)).collect();
+        let (days, words, marks) = match call.op {
+            Op::Reconcile => (&call.inputs[..2], 0, call.words),
+            _ => (&[][..], call.words, 0),
+        };
+        let readings = days.iter().map(|values: &Vec<f64>| {
+            let readings: Vec<u32> = values.iter().map(|&value| day::reading(value)).collect();
+            Held::of(&readings, junk, draw)
+        });
+        let readings: Vec<Held<u32>> = readings.collect();
         Self {
             sizes: call.sizes.clone(),
             inputs,
             kinds: Held::of(&call.kinds, junk, draw),
+            given: [0, readings.len(), 0, 0, 0],
+            readings,
+            marks: Held::junk(marks, junk, draw),
             outputs,
-            words: Held::junk(call.words, junk, draw),
+            words: Held::junk(words, junk, draw),
             counts,
             value: Held::junk(1, junk, draw),
             tally: Held::of(tally, junk, draw),
             w: Held::junk(call.work[0], junk, draw),
             iw: Held::junk(call.work[1], junk, draw),
-            given: [0; 4],
         }
     }
 
@@ -172,6 +187,14 @@ impl Lender for Buffers {
     fn kind(&mut self) -> (*const u8, usize) {
         let (data, len) = self.kinds.pointer();
         (data, len)
+    }
+    fn reading(&mut self) -> (*const u32, usize) {
+        let next = self.next(4);
+        let (data, len) = self.readings[next].pointer();
+        (data, len)
+    }
+    fn mark(&mut self) -> (*mut u8, usize) {
+        self.marks.pointer()
     }
     fn write(&mut self) -> (*mut f64, usize) {
         let next = self.next(2);
@@ -296,11 +319,14 @@ fn compare_inputs(buffers: &Buffers, updated: bool, found: &mut Vec<String>) {
     if let Some(entry) = buffers.kinds.changed(0) {
         found.push(format!("kinds changed at {entry}"));
     }
+    if let Some(entry) = buffers.readings.iter().find_map(|held| held.changed(0)) {
+        found.push(format!("readings changed at {entry}"));
+    }
 }
 
 /// Entries of a workspace that are cleared by a call of the number that is owed.
 fn cleared(number: u32, entries: usize) -> usize {
-    if number == 0 || number >= 5 { entries } else { 0 }
+    if matches!(number, 0 | 5..=8 | 11) { entries } else { 0 }
 }
 
 fn compare_workspaces(buffers: &Buffers, number: u32, found: &mut Vec<String>) {
@@ -334,12 +360,25 @@ fn compare_outputs(buffers: &Buffers, op: Op, owed: &Answer, found: &mut Vec<Str
         }
         compare_rest(&format!("output {i}"), held, values.is_some(), found);
     }
+    if op == Op::Reconcile {
+        return compare_marks(&buffers.marks, owed, found);
+    }
     let reported = !owed.words.is_empty();
     if reported && buffers.words.body() != owed.words {
         let name = if op == Op::Step { "report" } else { "perm" };
         found.push(format!("{name}: owed {:?}, found {:?}", owed.words, buffers.words.body()));
     }
     compare_rest("perm or report", &buffers.words, reported, found);
+}
+
+/// The marks of a day: as owed where it is done, else untouched.
+fn compare_marks(marks: &Held<u8>, owed: &Answer, found: &mut Vec<String>) {
+    let done = owed.number == 0;
+    let told: Vec<u32> = marks.body().iter().map(|&mark| u32::from(mark)).collect();
+    if done && told != owed.words {
+        found.push(format!("marks: owed {:?}, found {told:?}", owed.words));
+    }
+    compare_rest("marks", marks, done, found);
 }
 
 /// Rank, counts, place and relaxation: as owed where the answer has them, else untouched.

@@ -5,7 +5,7 @@ use reference::shape::Op;
 use reference::tally::{NOWHERE, Stage};
 
 /// Numbers that a call can be owed, from 0.
-pub const NUMBERS: usize = 12;
+pub const NUMBERS: usize = 14;
 
 /// The numbers that a stage of a step can end with.
 const ENDS: [u32; 5] = [0, 5, 6, 7, 11];
@@ -29,10 +29,12 @@ pub enum Aim {
     Moved,
     /// An answer where the plain norm takes the rank away.
     Ranked,
-    /// Rank lost, with this number, at a place other than 0: of LSI, of LSEI, or of a stage.
+    /// A place other than 0 with this number: where rank was lost, or a meter.
     Place(u32),
     /// A step whose exact and relaxed stage end with these numbers.
     Stages(u32, u32),
+    /// A day in which a meter is named.
+    Named,
 }
 
 /// The counts of one kind.
@@ -51,6 +53,8 @@ pub struct Counts {
     pub placed: [u64; NUMBERS],
     /// Steps by the ends of their stages, in the order of `ENDS`.
     pub stages: [[u64; ENDS.len()]; ENDS.len()],
+    /// Days in which a meter is named.
+    pub named: u64,
     pub different: u64,
 }
 
@@ -74,6 +78,10 @@ impl Counts {
         for Stage { number, place } in owed.tally.stages {
             self.placed[number as usize] += u64::from(place != 0 && place != NOWHERE);
         }
+        if matches!(owed.number, 12 | 13) {
+            self.placed[owed.number as usize] += u64::from(owed.counts.first() > Some(&0));
+        }
+        self.named += u64::from(op == Op::Reconcile && owed.words.contains(&1));
         if op == Op::Step && !owed.words.is_empty() {
             let [exact, relaxed] = owed.tally.stages;
             self.stages[end(exact.number)][end(relaxed.number)] += 1;
@@ -104,6 +112,7 @@ impl Counts {
         self.not_comparable += other.not_comparable;
         self.moved += other.moved;
         self.ranked += other.ranked;
+        self.named += other.named;
         self.different += other.different;
         for (mine, theirs) in self.placed.iter_mut().zip(other.placed) {
             *mine += theirs;
@@ -126,6 +135,7 @@ impl Counts {
             Aim::Moved => self.moved,
             Aim::Ranked => self.ranked,
             Aim::Place(number) => self.placed[number as usize],
+            Aim::Named => self.named,
             Aim::Stages(exact, relaxed) => self.stages[end(exact)][end(relaxed)],
         }
     }
@@ -144,6 +154,8 @@ impl Counts {
             n[7],
             n[8],
             n[11],
+            n[12],
+            n[13],
             self.relaxed,
             self.nan,
             self.blocked,
@@ -153,13 +165,14 @@ impl Counts {
             self.ranked,
             self.placed.iter().sum(),
             self.both(),
+            self.named,
             self.different,
         ]
     }
 }
 
 /// Columns of the table.
-const COLUMNS: usize = 21;
+const COLUMNS: usize = 24;
 
 const HEADS: [&str; COLUMNS] = [
     "calls",
@@ -173,6 +186,8 @@ const HEADS: [&str; COLUMNS] = [
     "7",
     "8",
     "11",
+    "12",
+    "13",
     "relaxed",
     "nan",
     "blocked",
@@ -182,6 +197,7 @@ const HEADS: [&str; COLUMNS] = [
     "ranked",
     "placed",
     "both",
+    "named",
     "differ",
 ];
 

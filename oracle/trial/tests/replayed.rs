@@ -5,12 +5,13 @@
 use peer::{Lender, Library, library};
 use reference::Rust;
 use reference::call::Sound;
+use reference::day;
 use reference::shape::Op;
 use trial::digest::Digest;
 use trial::replay::list;
 use trial::stored::{BYTES, HEADER, Rest, Stored, next, pattern};
 
-/// The memory of a call; `given` counts the sizes, inputs, outputs and counts handed out.
+/// The memory of a call; `given` counts the sizes, inputs, outputs, counts and readings handed out.
 struct Memory<'a> {
     stored: &'a Stored,
     outputs: [Vec<f64>; 3],
@@ -20,7 +21,9 @@ struct Memory<'a> {
     tally: [u64; 2],
     w: Vec<f64>,
     iw: Vec<u32>,
-    given: [usize; 4],
+    readings: [Vec<u32>; 2],
+    marks: Vec<u8>,
+    given: [usize; 5],
 }
 
 impl<'a> Memory<'a> {
@@ -28,6 +31,10 @@ impl<'a> Memory<'a> {
         let (call, fill) = (&stored.call, stored.fill);
         let output = || vec![f64::from_bits(fill.output); 1_200];
         let mut outputs = [output(), output(), output()];
+        let readings = |i: usize| match call.op {
+            Op::Reconcile => call.inputs[i].iter().map(|&value| day::reading(value)).collect(),
+            _ => vec![],
+        };
         if call.op.is_update() {
             outputs[0][..call.inputs[0].len()].copy_from_slice(&call.inputs[0]);
         }
@@ -40,7 +47,9 @@ impl<'a> Memory<'a> {
             tally: [fill.output, fill.room],
             w: vec![f64::from_bits(fill.room); 8_231],
             iw: vec![fill.mark; 551],
-            given: [0; 4],
+            given: [0, if call.op == Op::Reconcile { 2 } else { 0 }, 0, 0, 0],
+            readings: [readings(0), readings(1)],
+            marks: vec![(fill.mark % 128 + 128) as u8; 551],
         }
     }
 
@@ -63,6 +72,13 @@ impl Lender for Memory<'_> {
     fn kind(&mut self) -> (*const u8, usize) {
         let kinds = &self.stored.call.kinds;
         (kinds.as_ptr(), kinds.len())
+    }
+    fn reading(&mut self) -> (*const u32, usize) {
+        let next = self.next(4);
+        (self.readings[next].as_ptr(), self.readings[next].len())
+    }
+    fn mark(&mut self) -> (*mut u8, usize) {
+        (self.marks.as_mut_ptr(), self.stored.call.words)
     }
     fn write(&mut self) -> (*mut f64, usize) {
         let next = self.next(2);
@@ -115,6 +131,10 @@ fn replay_lent(library: &Library, stored: &Stored, digest: &mut Digest) -> u32 {
         }
         Op::Nnls => digest.mix_all(longs(&memory.counts)),
         Op::Lsi | Op::Lsei => digest.mix(u64::from(memory.counts[0])),
+        Op::Reconcile => {
+            digest.mix_all([u64::from(memory.counts[0]), memory.marks.len() as u64]);
+            digest.mix_all(memory.marks.iter().map(|&mark| u64::from(mark)));
+        }
         Op::Step => {
             digest.mix(pattern(memory.value));
             let halves = |count: u64| [count >> 32, count & 0xffff_ffff];

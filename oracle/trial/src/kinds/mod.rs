@@ -1,5 +1,6 @@
 //! The kinds of calls, by operation.
 
+mod day;
 mod hessian;
 mod lsei;
 mod nnls;
@@ -90,6 +91,7 @@ fn own(op: Op) -> Vec<Row> {
         Op::PackedTimes => hessian::TIMES.to_vec(),
         Op::PackedCholesky => hessian::CHOLESKY.to_vec(),
         Op::PackedUpdate => hessian::UPDATE.to_vec(),
+        Op::Reconcile => day::ROWS.to_vec(),
     }
 }
 

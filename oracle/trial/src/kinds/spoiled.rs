@@ -107,7 +107,7 @@ fn other_length(len: usize, draw: &mut Draw) -> usize {
 fn bad_length(call: &mut Call, draw: &mut Draw) {
     let (inputs, outputs) = (call.inputs.len(), call.outputs.len());
     let extra = match call.op {
-        Op::Qr => 1,
+        Op::Qr | Op::Reconcile => 1,
         Op::Step => 2,
         _ => 0,
     };

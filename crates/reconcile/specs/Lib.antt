@@ -1,0 +1,4 @@
+-- The day's reconciliation. Definitions only.
+pub mod Claims
+pub mod Day
+pub mod inner

@@ -1,0 +1,3 @@
+-- Totalisers of six digits. Definitions only.
+pub mod Claims
+pub mod Volume
