@@ -1,10 +1,10 @@
--- `push_negated`: a copied row negated, one coefficient more, and the side.
+-- `push_row_negated`: a copied row negated, and its side.
 use native.Mathlib.Omega.{arith}
 use lib.ListN.{length-set}
 use Rattle.step_rows.proofs.Coefficients.{negated-is}
-use Rattle.step_rows.proofs.Pushing.{pushed-wide}
-use Rattle.step_rows.proofs.push_negated.Statement.{statement}
-use Rattle.step_rows.proofs.push_negated.Tie as tie
+use Rattle.step_rows.proofs.Pushing.{pushed-row}
+use Rattle.step_rows.proofs.push_row_negated.Statement.{statement}
+use Rattle.step_rows.proofs.push_row_negated.Tie as tie
 
 mul-p : tie.Need-mul-p
 mul-p c = omega arith
@@ -27,27 +27,15 @@ mul-w c = omega arith
 slice-write-w : tie.Need-slice-write-w
 slice-write-w c = omega arith
 
-add-w-2 : tie.Need-add-w-2
-add-w-2 c = omega arith
-
-add-w-3 : tie.Need-add-w-3
-add-w-3 c = omega arith
-
-mul-w-2 : tie.Need-mul-w-2
-mul-w-2 c = omega arith
-
-slice-write-w-2 : tie.Need-slice-write-w-2
-slice-write-w-2 c = simp length-set (omega arith)
-
 same-length : tie.Need-same-length
 same-length c = simp length-set (omega arith)
 
 returns : tie.Need-returns
 returns c = let a = c .before .before .before .before .before .before .args in
-    pushed-wide _ _ _ _ _ _ _ _ _ (omega arith) (omega arith) (negated-is (a .n) (a .j) (a .a .now)) (c .before .before .copy-negated .ensures)
+    pushed-row _ _ _ _ _ _ _ _ (omega arith) (omega arith) (negated-is (a .n) (a .j) (a .a .now)) (c .before .before .copy-negated .ensures)
 
-pub push-negated-spec : {M : Type 1} → statement M
-push-negated-spec =
+pub push-row-negated-spec : {M : Type 1} → statement M
+push-row-negated-spec =
     tie.close
     (tie.spec
     mul-p
@@ -57,9 +45,5 @@ push-negated-spec =
     add-w
     mul-w
     slice-write-w
-    add-w-2
-    add-w-3
-    mul-w-2
-    slice-write-w-2
     same-length
     returns)

@@ -1,6 +1,6 @@
 use Rattle.workspace.proofs.Readings.{lit-+0}
-use Rattle.step_rows.proofs.loosening.Statement.{statement}
-use Rattle.step_rows.proofs.loosening.Tie as tie
+use Rattle.step_rows.proofs.relaxed.loosening.Statement.{statement}
+use Rattle.step_rows.proofs.relaxed.loosening.Tie as tie
 
 returns : tie.Need-returns
 returns c = rw (← lit-+0, c .if1 .taken)
