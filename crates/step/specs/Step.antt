@@ -35,14 +35,16 @@ inOrder (k ∷ ks) e i l = byKind k (at l e) (at l i) (at l i ⊖ at l (i + 1)) 
 unfoldable pub exactStep : Problem → ℕ → Solution → Step
 exactStep p equalities s = record { d = s .x; multipliers = inOrder (p .kinds) 0 equalities (s .multipliers); relaxation = +0 }
 
-unfoldable pub exact : Problem → List Float → Counted Step
-exact p f =
+-- its solution, with a multiplier for each row
+abbrev pub exactSolution : Problem → List Float → Counted Solution
+exactSolution p f =
     let n = p .n in
     let eqs = equalityRows p in
     let ineqs = inequalityRows p in
-    let c = length eqs in
-    andThen (lsei n c n (length ineqs) (matrixOf eqs) (sidesOf eqs) (transposed n n (p .factor)) f (matrixOf ineqs) (sidesOf ineqs))
-    (λ s. done (exactStep p c s))
+    lsei n (length eqs) n (length ineqs) (matrixOf eqs) (sidesOf eqs) (transposed n n (p .factor)) f (matrixOf ineqs) (sidesOf ineqs)
+
+unfoldable pub exact : Problem → List Float → Counted Step
+exact p f = andThen (exactSolution p f) (λ s. done (exactStep p (length (equalityRows p)) s))
 
 -- ---- the relaxed problem: E is the upper triangle of L', and in the corner the root of the weight of delta
 
@@ -70,10 +72,13 @@ clamped v = cond (lt v +0) +0 (cond (lt one v) one v)
 unfoldable pub relaxedStep : Problem → Solution → Step
 relaxedStep p s = record { d = take (p .n) (s .x); multipliers = paired (p .kinds) 0 (s .multipliers); relaxation = clamped (at (s .x) (p .n)) }
 
-unfoldable pub relaxed : Problem → List Float → Counted Step
-relaxed p f =
+abbrev pub relaxedSolution : Problem → List Float → Counted Solution
+relaxedSolution p f =
     let rs = relaxedRows p in
-    andThen (lsi (p .n + 1) (p .n + 1) (length rs) (relaxedMatrix (p .n) rootWeight (p .factor)) (f ++ (+0 ∷ [])) (matrixOf rs) (sidesOf rs)) (λ s. done (relaxedStep p s))
+    lsi (p .n + 1) (p .n + 1) (length rs) (relaxedMatrix (p .n) rootWeight (p .factor)) (f ++ (+0 ∷ [])) (matrixOf rs) (sidesOf rs)
+
+unfoldable pub relaxed : Problem → List Float → Counted Step
+relaxed p f = andThen (relaxedSolution p f) (λ s. done (relaxedStep p s))
 
 -- ---- the step
 
