@@ -169,7 +169,7 @@ fn tell_relaxed() {
     let jacobian = [0.0, 0.0];
     let mut multipliers = [0.0, 0.0];
     let mut w = record_answer::float_room();
-    let stepped = calls::step(&kinds, &values, &jacobian, &mut multipliers, &mut w);
+    let stepped = calls::step(&kinds, &values, &values, &jacobian, &mut multipliers, &mut w);
     tell_stepped(
         b"step, two equalities on one variable, zero Jacobian",
         stepped,
@@ -179,7 +179,7 @@ fn tell_relaxed() {
 
 // No constraint, in a workspace of the length that is tried.
 fn tell_room(name: &[u8], w: &mut [f64]) {
-    let stepped = calls::step(&[], &[], &[], &mut [], w);
+    let stepped = calls::step(&[], &[], &[], &[], &mut [], w);
     tell_stepped(name, stepped, &[]);
 }
 

@@ -6,7 +6,8 @@ use mathlib.Core.List.{List, [], _∷_}
 use lib.Dec.{eqb}
 use Prim.Native.Nat.{ℕ}
 use lib.Ieee.{Float}
-use Rattle.workspace.specs.Tables.{Answer, number, output, placeOf, nowhere, call, isDimension, isConstraints, isRoom, has}
+use Rattle.workspace.specs.declared.Refusal.the-variants.{Width}
+use Rattle.workspace.specs.Tables.{Answer, number, output, placeOf, nowhere, call, test, isDimension, isConstraints, isRoom, has}
 use Rattle.workspace.specs.declared.Outcome.{Outcome}
 use Rattle.workspace.specs.declared.Outcome.the-variants.{Done, Refused}
 use Rattle.workspace.specs.Tables as Tables
@@ -62,7 +63,7 @@ entriesOf t = stageNumber (t .exact) ∷ stagePlace (t .exact) ∷ stageNumber (
 -- the whole call: the report's length is one of those that number 2 tests
 abbrev pub stepReportCall : Problem → (d multipliers : List Float) (report : List ℕ) (w : List Float) (iw : List ℕ) → Answer Step
 stepReportCall p d l r w iw =
-    call (isDimension (p .n) && isConstraints (p .m)) (Step.areLengths p d l && has r 6) (isRoom w iw) (Step.areKinds (p .kinds)) (step p .answer)
+    call (isDimension (p .n) && isConstraints (p .m)) (Step.areLengths p d l && has r 6) (isRoom w iw) (Step.areKinds (p .kinds)) (test (Step.areWidths (p .kinds) (p .widths) (p .m)) Width (step p .answer))
 
 -- the report is written unless a test before the arithmetic refuses
 abbrev pub reportLeft : Told.Outcome → List ℕ → List ℕ

@@ -4,8 +4,9 @@ use mathlib.Core.Bool.{Bool, true, false}
 use mathlib.Core.List.{List, _++_}
 use Prim.Native.Nat.{ℕ}
 use native.Mathlib.Omega.{arith}
-use lib.ListN.{drop}
+use lib.ListN.{drop, replicate}
 use lib.Ieee.{Float}
+use Rattle.numbers.specs.Numbers.{+0}
 use Rattle.workspace.specs.Tables.{Answer, done, refused, isLate, numberOf}
 use Rattle.workspace.specs.declared.Refusal.{Refusal}
 use Rattle.step.specs.Step.{Step}
@@ -33,11 +34,11 @@ answer-is (done s) t e d d' l l' w w' iw iw' h = rw (h .the-outcome) (ap done (r
 answer-is (refused k) t e d d' l l' w w' iw iw' h = refusal-is (isLate k) k t e d' l' (h .the-outcome)
 
 -- the parts that the step is lent
-pub parts-are : (m n k : ℕ) (marks : List ℕ) (vals factor gradient : List Float) (kinds : List ℕ) (values jacobian lower upper : List Float)
-    → factor ≡ factorIn n vals → gradient ≡ gradientIn n vals → kinds ≡ kindsIn k marks → k ≡ m → values ≡ valuesIn m vals → jacobian ≡ jacobianIn m n vals
-    → lower ≡ lowerIn n vals → upper ≡ upperIn n vals → problemOf n m factor gradient kinds values jacobian lower upper ≡ problemIn m n marks vals
+pub parts-are : (m n k : ℕ) (marks : List ℕ) (vals factor gradient : List Float) (kinds : List ℕ) (values widths jacobian lower upper : List Float)
+    → factor ≡ factorIn n vals → gradient ≡ gradientIn n vals → kinds ≡ kindsIn k marks → k ≡ m → values ≡ valuesIn m vals → widths ≡ replicate m +0 → jacobian ≡ jacobianIn m n vals
+    → lower ≡ lowerIn n vals → upper ≡ upperIn n vals → problemOf n m factor gradient kinds values widths jacobian lower upper ≡ problemIn m n marks vals
 unfolding problemIn
-parts-are m n k marks vals factor gradient kinds values jacobian lower upper f g s z v j l u = rw (f, g, s, z, v, j, l, u)
+parts-are m n k marks vals factor gradient kinds values widths jacobian lower upper f g s z v x j l u = rw (f, g, s, z, v, x, j, l, u)
 
 -- ---- its text
 

@@ -114,6 +114,7 @@ fn solve(
     let mut iw = word_room();
     let mut space = [0u8; 16];
     let ks = &mut space[..m];
+    let widths = [0.0; 16];
     tables::load_kinds(marks, ks);
     step_call::Step::solve(
         n,
@@ -122,6 +123,7 @@ fn solve(
         tables::gradient(n, vals),
         ks,
         tables::values(m, vals),
+        &widths[..m],
         tables::jacobian(m, n, vals),
         tables::lower(n, vals),
         tables::upper(n, vals),

@@ -6,7 +6,7 @@ use mathlib.Core.Option.{Option, none, some}
 use Prim.Native.Nat.{ℕ, zero, suc, _+_, _-_, _*_, _/_, _%_}
 use Prim.Native.Char.{Char, code}
 use lib.Dec.{ltb, leb, eqb}
-use lib.ListN.{length, getD, take, drop}
+use lib.ListN.{length, getD, take, drop, replicate}
 use lib.Ieee.{Float, inf, binary64, ofBits}
 use Rattle.numbers.specs.Numbers.{+0, one, tab, grid}
 use Rattle.endian.specs.Little.{numberAt}
@@ -100,6 +100,7 @@ givenProblem m n rs =
     (tab n (λ j. orElse (given rs (code "G") 0 j) +0))
     (tab m (λ i. kindOf (given rs (code "E") i 0)))
     (tab m (λ i. orElse (given rs (code "E") i 0) +0))
+    (replicate m +0)
     (grid m n (λ i j. orElse (given rs (code "A") i j) +0))
     (tab n (λ j. orElse (given rs (code "B") 0 j) (inf true)))
     (tab n (λ j. orElse (given rs (code "T") 0 j) (inf false)))

@@ -160,12 +160,20 @@ unfolding areKinds NoBands.areKinds
 kinds-same [] h = refl
 kinds-same (k ∷ ks) h = rw (one-kind k (h zero), kinds-same ks (λ j. h (suc j)))
 
+-- kinds of before are kinds
+pub kinds-true : (ks : List ℕ) → NoBands.areKinds ks ≡ true → areKinds ks ≡ true
+unfolding areKinds
+kinds-true [] h = refl
+kinds-true (k ∷ ks) h =
+    let p = kinds-rest k ks h in
+    rw (le-leb k 2 (let q = p .0 in omega (arith, q)), kinds-true ks (p .1))
+
 width-true : (k : ℕ) (w : Float) → k ≤ 1 → isWidth (constraintOf k w) ≡ true
 width-true zero w h = refl
 width-true (suc zero) w h = refl
 width-true (suc (suc k)) w h = absurd (omega arith)
 
-widths-true : (ks : List ℕ) (ws : List Float) → NoBands.areKinds ks ≡ true → (j : ℕ) → areWidths ks ws j ≡ true
+pub widths-true : (ks : List ℕ) (ws : List Float) → NoBands.areKinds ks ≡ true → (j : ℕ) → areWidths ks ws j ≡ true
 unfolding areWidths
 widths-true ks ws h zero = refl
 widths-true ks ws h (suc j) = rw (widths-true ks ws h j, width-true (nth ks j) (at ws j) (kinds-le ks h j))

@@ -117,7 +117,7 @@ kindsIn m marks = tab m (kindAt marks)
 
 unfoldable pub problemIn : (m n : ℕ) → List ℕ → List Float → Problem
 problemIn m n marks vals =
-    problemOf n m (factorIn n vals) (gradientIn n vals) (kindsIn m marks) (valuesIn m vals) (jacobianIn m n vals) (lowerIn n vals) (upperIn n vals)
+    problemOf n m (factorIn n vals) (gradientIn n vals) (kindsIn m marks) (valuesIn m vals) (replicate m +0) (jacobianIn m n vals) (lowerIn n vals) (upperIn n vals)
 
 -- what is decoded: the code's answer, with the problem that stands in the tables
 abbrev pub decodedIn : Input → List ℕ → List Float → Decoded
