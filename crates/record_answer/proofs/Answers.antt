@@ -1,14 +1,15 @@
 -- The step's answer, from its promise, and the problem, from the parts of the tables.
-use mathlib.Core.Path.{_≡_, sym, ap, _∙_}
+use mathlib.Core.Path.{_≡_, refl, sym, ap, _∙_}
 use mathlib.Core.Bool.{Bool, true, false}
-use mathlib.Core.List.{List, _++_}
-use Prim.Native.Nat.{ℕ}
+use mathlib.Core.List.{List, _∷_, _++_}
+use Prim.Native.Nat.{ℕ, zero, suc, _≤_}
 use native.Mathlib.Omega.{arith}
-use lib.ListN.{drop, replicate}
-use lib.Ieee.{Float}
+use lib.ListN.{drop, replicate, take}
+use lib.Ieee.{Float, binary64, ofBits}
 use Rattle.numbers.specs.Numbers.{+0}
 use Rattle.workspace.specs.Tables.{Answer, done, refused, isLate, numberOf}
 use Rattle.workspace.specs.declared.Refusal.{Refusal}
+use Rattle.workspace.proofs.Readings.{lit-+0}
 use Rattle.step.specs.Step.{Step}
 use Rattle.step.specs.declared.Report.{Report}
 use Rattle.step_call.specs.Promise.{refusedBy, Steps}
@@ -39,6 +40,15 @@ pub parts-are : (m n k : ℕ) (marks : List ℕ) (vals factor gradient : List Fl
     → lower ≡ lowerIn n vals → upper ≡ upperIn n vals → problemOf n m factor gradient kinds values widths jacobian lower upper ≡ problemIn m n marks vals
 unfolding problemIn
 parts-are m n k marks vals factor gradient kinds values widths jacobian lower upper f g s z v x j l u = rw (f, g, s, z, v, x, j, l, u)
+
+-- the widths, none of which can be read
+take-replicate : (m k : ℕ) (v : Float) → m ≤ k → take m (replicate k v) ≡ replicate m v
+take-replicate zero k v h = refl
+take-replicate (suc m) zero v h = absurd (omega arith)
+take-replicate (suc m) (suc k) v h = ap (λ (l : List Float). v ∷ l) (take-replicate m k v (omega arith))
+
+pub blank-widths : (m : ℕ) → m ≤ 16 → take m (replicate 16 (ofBits binary64 0)) ≡ replicate m +0
+blank-widths m h = rw lit-+0 (take-replicate m 16 +0 h)
 
 -- ---- its text
 
