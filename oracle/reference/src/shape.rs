@@ -174,7 +174,7 @@ impl Op {
             Op::PackedUpdate => (vec![triangle::count(first), first, first], vec![]),
             Op::Step => {
                 let (n, m) = (first, second);
-                (vec![n * n, n, m, m * n, n, n], vec![n, m])
+                (vec![n * n, n, m, m, m * n, n, n], vec![n, m])
             }
         };
         let kinds = if self == Op::Step { second } else { 0 };

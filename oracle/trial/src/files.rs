@@ -54,7 +54,8 @@ fn entries(call: &Call, draw: &mut Draw) -> Vec<[u8; RECORD]> {
     let (n, keep) = (call.sizes[0], draw.one_in(2));
     let mut records = vec![];
     let tags = [(b'L', n), (b'G', n), (b'E', 1), (b'A', n), (b'B', n), (b'T', n)];
-    for ((tag, width), values) in tags.into_iter().zip(&call.inputs) {
+    let lists = [0, 1, 2, 4, 5, 6].map(|at| &call.inputs[at]);
+    for ((tag, width), values) in tags.into_iter().zip(lists) {
         for (at, value) in values.iter().enumerate() {
             let (row, column) = (at / width, at % width);
             let missing = match tag {
@@ -89,7 +90,8 @@ fn sound(draw: &mut Draw) -> Vec<[u8; RECORD]> {
     let kind = draw.pick(&kinds);
     let index = draw.bits() >> 40;
     let index = if let Share::All(count) = kind.share { index % count } else { index };
-    let (call, _) = kind.call(draw.bits(), index);
+    let (mut call, _) = kind.call(draw.bits(), index);
+    call.kinds.iter_mut().for_each(|kind| *kind = (*kind).min(1));
     of(&call, draw)
 }
 
@@ -105,8 +107,8 @@ fn largest(draw: &mut Draw) -> Vec<[u8; RECORD]> {
     let inputs = lengths.into_iter().map(|len| draw.reals(Palette::Smooth, len)).collect();
     let mut call = Call::new(Op::Step, &[16, 16], inputs);
     call.inputs[0].iter_mut().step_by(17).for_each(|entry| *entry = entry.abs() + 0.5);
-    call.inputs[4].iter_mut().for_each(|bound| *bound -= 3.0);
-    call.inputs[5].iter_mut().for_each(|bound| *bound += 3.0);
+    call.inputs[5].iter_mut().for_each(|bound| *bound -= 3.0);
+    call.inputs[6].iter_mut().for_each(|bound| *bound += 3.0);
     call.kinds = (0..16).map(|_| draw.pick(&[0, 1, 1, 1])).collect();
     of(&call, draw)
 }

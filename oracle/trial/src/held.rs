@@ -262,7 +262,7 @@ fn compare_inputs(buffers: &Buffers, updated: bool, found: &mut Vec<String>) {
 
 /// Entries of a workspace that are cleared by a call of the number that is owed.
 fn cleared(number: u32, entries: usize) -> usize {
-    if number == 0 || number >= 5 { entries } else { 0 }
+    if matches!(number, 0 | 5..=8 | 11) { entries } else { 0 }
 }
 
 fn compare_workspaces(buffers: &Buffers, number: u32, found: &mut Vec<String>) {

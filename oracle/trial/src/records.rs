@@ -103,6 +103,7 @@ impl Problem {
             factor,
             vec![0.0; n],
             vec![0.0; m],
+            vec![0.0; m],
             vec![0.0; m * n],
             vec![-bound; n],
             vec![bound; n],
@@ -119,9 +120,9 @@ impl Problem {
             b'L' => (0, n, n),
             b'G' => (1, 1, n),
             b'E' | b'I' => (2, m, 1),
-            b'A' => (3, m, n),
-            b'B' => (4, 1, n),
-            b'T' => (5, 1, n),
+            b'A' => (4, m, n),
+            b'B' => (5, 1, n),
+            b'T' => (6, 1, n),
             _ => return None,
         };
         let above = record.tag == b'L' && row < column && slip != Slip::AboveDiagonal;

@@ -5,7 +5,7 @@ use reference::shape::Op;
 use reference::tally::{NOWHERE, Stage};
 
 /// Numbers that a call can be owed, from 0.
-pub const NUMBERS: usize = 12;
+pub const NUMBERS: usize = 15;
 
 /// The numbers that a stage of a step can end with.
 const ENDS: [u32; 5] = [0, 5, 6, 7, 11];
