@@ -169,7 +169,14 @@ fn tell_relaxed() {
     let jacobian = [0.0, 0.0];
     let mut multipliers = [0.0, 0.0];
     let mut w = record_answer::float_room();
-    let stepped = calls::step(&kinds, &values, &values, &jacobian, &mut multipliers, &mut w);
+    let stepped = calls::step(
+        &kinds,
+        &values,
+        &values,
+        &jacobian,
+        &mut multipliers,
+        &mut w,
+    );
     tell_stepped(
         b"step, two equalities on one variable, zero Jacobian",
         stepped,
@@ -185,7 +192,14 @@ fn tell_band() {
     let jacobian = [-1.0];
     let mut multipliers = [0.0];
     let mut w = record_answer::float_room();
-    let stepped = calls::step(&kinds, &values, &widths, &jacobian, &mut multipliers, &mut w);
+    let stepped = calls::step(
+        &kinds,
+        &values,
+        &widths,
+        &jacobian,
+        &mut multipliers,
+        &mut w,
+    );
     tell_stepped(b"step, a band whose ceiling holds", stepped, &multipliers);
 }
 

@@ -116,14 +116,14 @@ fn ordered_of(kind: u8, w: &[f64], e: usize, i: usize) -> f64
     requires { ⌜ (e ≤ 16) × (i ≤ 64) × (EXACT_MULTIPLIERS + 66 ≤ length (now w)) ⌝ }
     ensures { λ v. ⌜ v ≡ byKind kind (at (now (w .entry)) (EXACT_EQUALITY_MULTIPLIERS + e)) (at (now (w .entry)) (EXACT_MULTIPLIERS + i)) (at (now (w .entry)) (EXACT_MULTIPLIERS + i) ⊖ at (now (w .entry)) (EXACT_MULTIPLIERS + i + 1)) ⌝ }
 {
-    let p = crate::EXACT_MULTIPLIERS + i;
+    let q = crate::EXACT_MULTIPLIERS + i;
     if kind == 0 {
         return w[crate::EXACT_EQUALITY_MULTIPLIERS + e];
     }
     if kind == 1 {
-        return w[p];
+        return w[q];
     }
-    w[p] - w[p + 1]
+    w[q] - w[q + 1]
 }
 
 // How many equalities are passed after a constraint.

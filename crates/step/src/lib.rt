@@ -139,7 +139,18 @@ fn write_exact(
     assembly::gather_sides(w, c, n);
     workspace::load_matrix(factor, w, EXACT_E, n, n);
     workspace::copy_up(w, 0, EXACT_F, n);
-    let g = step_rows::push_inequalities(kinds, values, widths, jacobian, lower, upper, w, EXACT_G, n, m);
+    let g = step_rows::push_inequalities(
+        kinds,
+        values,
+        widths,
+        jacobian,
+        lower,
+        upper,
+        w,
+        EXACT_G,
+        n,
+        m,
+    );
     Sizes {
         equalities: c,
         inequalities: g,
@@ -172,7 +183,18 @@ fn try_exact(
     requires { ⌜ StepReady n m (now factor) (now kinds) (now values) (now widths) (now jacobian) (now lower) (now upper) (now w) × (STEP_WORDS ≤ length (now iw)) ⌝ }
     ensures { λ r. ⌜ Tries (exact (problemOf n m (now (factor .entry)) [] (now (kinds .entry)) (now (values .entry)) (now (widths .entry)) (now (jacobian .entry)) (now (lower .entry)) (now (upper .entry))) (vec 0 n (now (w .entry)))) n m r (now (w .entry)) (now (w .exit)) ⌝ }
 {
-    let s = write_exact(factor, kinds, values, widths, jacobian, lower, upper, w, n, m);
+    let s = write_exact(
+        factor,
+        kinds,
+        values,
+        widths,
+        jacobian,
+        lower,
+        upper,
+        w,
+        n,
+        m,
+    );
     let c = s.equalities;
     let g = s.inequalities;
     let e = lsei_nullspace::solve_lsei(&mut w[STEP_LENT..], iw, n, c, n, g);
@@ -208,7 +230,18 @@ fn write_relaxed(
     let root = numbers::sqrt(Step::RELAXATION_WEIGHT);
     assembly::write_matrix(factor, w, n, root);
     assembly::write_side(w, n);
-    step_rows::push_relaxed_rows(kinds, values, widths, jacobian, lower, upper, w, RELAXED_G, n, m)
+    step_rows::push_relaxed_rows(
+        kinds,
+        values,
+        widths,
+        jacobian,
+        lower,
+        upper,
+        w,
+        RELAXED_G,
+        n,
+        m,
+    )
 }
 
 // From LSI's answer: the multipliers in constraint order, the step, and the relaxation.
@@ -239,7 +272,18 @@ fn try_relaxed(
     requires { ⌜ StepReady n m (now factor) (now kinds) (now values) (now widths) (now jacobian) (now lower) (now upper) (now w) × (STEP_WORDS ≤ length (now iw)) ⌝ }
     ensures { λ r. ⌜ Tries (relaxed (problemOf n m (now (factor .entry)) [] (now (kinds .entry)) (now (values .entry)) (now (widths .entry)) (now (jacobian .entry)) (now (lower .entry)) (now (upper .entry))) (vec 0 n (now (w .entry)))) n m r (now (w .entry)) (now (w .exit)) ⌝ }
 {
-    let g = write_relaxed(factor, kinds, values, widths, jacobian, lower, upper, w, n, m);
+    let g = write_relaxed(
+        factor,
+        kinds,
+        values,
+        widths,
+        jacobian,
+        lower,
+        upper,
+        w,
+        n,
+        m,
+    );
     let e = lsei::solve_lsi(&mut w[STEP_LENT..], iw, n + 1, n + 1, g);
     let ending = e.ending;
     let told = ending.outcome();
@@ -300,7 +344,19 @@ pub fn solve_step(
     ensures { λ r. ⌜ EndsStep n m r (now (w .exit)) (problemOf n m (now (factor .entry)) (now (gradient .entry)) (now (kinds .entry)) (now (values .entry)) (now (widths .entry)) (now (jacobian .entry)) (now (lower .entry)) (now (upper .entry))) ⌝ }
 {
     assembly::write_target(factor, gradient, w, n);
-    let first = try_exact(factor, kinds, values, widths, jacobian, lower, upper, w, iw, n, m);
+    let first = try_exact(
+        factor,
+        kinds,
+        values,
+        widths,
+        jacobian,
+        lower,
+        upper,
+        w,
+        iw,
+        n,
+        m,
+    );
     match first {
         Tried::Done(relaxation, rounds, factorings) => Stepped::Done(
             relaxation,
@@ -312,7 +368,19 @@ pub fn solve_step(
             },
         ),
         Tried::Refused(why, rounds, factorings) => {
-            let second = try_relaxed(factor, kinds, values, widths, jacobian, lower, upper, w, iw, n, m);
+            let second = try_relaxed(
+                factor,
+                kinds,
+                values,
+                widths,
+                jacobian,
+                lower,
+                upper,
+                w,
+                iw,
+                n,
+                m,
+            );
             after(why, rounds, factorings, second)
         }
     }

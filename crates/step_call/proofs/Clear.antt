@@ -41,8 +41,7 @@ rows-clear p f =
     let n = p .n in
     let eqs = equalityRows p in
     let ineqs = inequalityRows p in
-    let rs = relaxedRows p in
-    (
+    let rs = relaxedRows p in (
       lsei-clear n (length eqs) n (length ineqs) (matrixOf eqs) (sidesOf eqs) (transposed n n (p .factor)) f (matrixOf ineqs) (sidesOf ineqs),
       lsi-clear (n + 1) (n + 1) (length rs) (relaxedMatrix n rootWeight (p .factor)) (f ++ (+0 ∷ [])) (matrixOf rs) (sidesOf rs),
     )

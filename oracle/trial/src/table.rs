@@ -144,6 +144,7 @@ impl Counts {
             n[7],
             n[8],
             n[11],
+            n[14],
             self.relaxed,
             self.nan,
             self.blocked,
@@ -159,7 +160,7 @@ impl Counts {
 }
 
 /// Columns of the table.
-const COLUMNS: usize = 21;
+const COLUMNS: usize = 22;
 
 const HEADS: [&str; COLUMNS] = [
     "calls",
@@ -173,6 +174,7 @@ const HEADS: [&str; COLUMNS] = [
     "7",
     "8",
     "11",
+    "14",
     "relaxed",
     "nan",
     "blocked",
@@ -187,7 +189,7 @@ const HEADS: [&str; COLUMNS] = [
 
 /// Prints one line of the table.
 fn line(op: &str, kind: &str, columns: &[String; COLUMNS]) {
-    print!("{op:<16}{kind:<20}");
+    print!("{op:<16}{kind:<22}");
     for column in columns {
         print!("{column:>9}");
     }

@@ -60,8 +60,8 @@ pub const ROWS: [Row; 37] = [
     ("some special", Share::Weight(4), &[Number(0), Nan], |_, _, draw| strewn(draw, 4)),
     ("specials", Share::Weight(3), &[Number(0)], |_, _, draw| loose(draw, Palette::Special)),
     ("bits", Share::Weight(3), &[Number(5)], |_, _, draw| loose(draw, Palette::Bits)),
-    ("one band", Share::All(3 * 2401), &[Number(0), Number(6), Relaxed], one_band),
-    ("two bands", Share::All(4 * 729), &[Number(0), Number(6), Relaxed], two_bands),
+    ("one band", Share::All(3 * 2401), &[Number(0), Relaxed], one_band),
+    ("two bands", Share::All(4 * 729), &[Number(0), Relaxed], two_bands),
     ("bands", Share::Weight(12), &[Number(0), Relaxed, Blocked], |_, _, draw| {
         let palette = draw.pick(&[Palette::Smooth, Palette::Smooth, Palette::Whole]);
         banded(draw, palette, wide_enough)

@@ -3,8 +3,8 @@ use Rattle.step_rows.proofs.Bytes.{kind-equality, kind-floor, kind-band}
 use Rattle.step.proofs.assembly.ordered_of.Statement.{statement}
 use Rattle.step.proofs.assembly.ordered_of.Tie as tie
 
-add-p : tie.Need-add-p
-add-p c = omega arith
+add-q : tie.Need-add-q
+add-q c = omega arith
 
 add-result : tie.Need-add-result
 add-result c = omega arith
@@ -49,7 +49,7 @@ pub ordered-of-spec : {M : Type 1} → statement M
 ordered-of-spec =
     tie.close
     (tie.spec
-    add-p
+    add-q
     add-result
     mul-result
     shared-slice-read-result
