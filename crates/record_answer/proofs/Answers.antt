@@ -1,21 +1,18 @@
 -- The step's answer, from its promise, and the problem, from the parts of the tables.
-use mathlib.Core.Path.{_≡_, refl, sym, ap, _∙_}
+use mathlib.Core.Path.{_≡_, sym, ap, _∙_}
 use mathlib.Core.Bool.{Bool, true, false}
-use mathlib.Core.List.{List, _∷_, _++_}
-use Prim.Native.Nat.{ℕ, zero, suc, _≤_}
-use native.Mathlib.Omega.{arith}
-use lib.ListN.{drop, replicate, take}
-use lib.Ieee.{Float, binary64, ofBits}
-use Rattle.numbers.specs.Numbers.{+0}
+use mathlib.Core.List.{List, _++_}
+use Prim.Native.Nat.{ℕ}
+use lib.ListN.{drop}
+use lib.Ieee.{Float}
 use Rattle.workspace.specs.Tables.{Answer, done, refused, isLate, numberOf}
 use Rattle.workspace.specs.declared.Refusal.{Refusal}
-use Rattle.workspace.proofs.Readings.{lit-+0}
 use Rattle.step.specs.Step.{Step}
 use Rattle.step.specs.declared.Report.{Report}
 use Rattle.step_call.specs.Promise.{refusedBy, Steps}
-use Rattle.record_read.specs.inner.Tables.{factorIn, gradientIn, kindsIn, valuesIn, jacobianIn, lowerIn, upperIn, problemIn, decodedIn}
+use Rattle.record_read.specs.inner.Tables.{factorIn, gradientIn, kindsIn, valuesIn, widthsIn, jacobianIn, lowerIn, upperIn, problemIn, decodedIn}
 use Rattle.record_read.specs.declared.Input.{Input}
-use Rattle.record_read.specs.Input.{decode}
+use Rattle.record_read.specs.Input.{readNumbers}
 use Rattle.step_call.specs.declared.Outcome.{Outcome}
 use Rattle.step_call.specs.declared.Outcome.the-variants.{Done, Failed, Refused}
 use Rattle.step_rows.specs.Problem.{problemOf}
@@ -36,19 +33,10 @@ answer-is (refused k) t e d d' l l' w w' iw iw' h = refusal-is (isLate k) k t e 
 
 -- the parts that the step is lent
 pub parts-are : (m n k : ℕ) (marks : List ℕ) (vals factor gradient : List Float) (kinds : List ℕ) (values widths jacobian lower upper : List Float)
-    → factor ≡ factorIn n vals → gradient ≡ gradientIn n vals → kinds ≡ kindsIn k marks → k ≡ m → values ≡ valuesIn m vals → widths ≡ replicate m +0 → jacobian ≡ jacobianIn m n vals
+    → factor ≡ factorIn n vals → gradient ≡ gradientIn n vals → kinds ≡ kindsIn k marks → k ≡ m → values ≡ valuesIn m vals → widths ≡ widthsIn m vals → jacobian ≡ jacobianIn m n vals
     → lower ≡ lowerIn n vals → upper ≡ upperIn n vals → problemOf n m factor gradient kinds values widths jacobian lower upper ≡ problemIn m n marks vals
 unfolding problemIn
 parts-are m n k marks vals factor gradient kinds values widths jacobian lower upper f g s z v x j l u = rw (f, g, s, z, v, x, j, l, u)
-
--- the widths, none of which can be read
-take-replicate : (m k : ℕ) (v : Float) → m ≤ k → take m (replicate k v) ≡ replicate m v
-take-replicate zero k v h = refl
-take-replicate (suc m) zero v h = absurd (omega arith)
-take-replicate (suc m) (suc k) v h = ap (λ (l : List Float). v ∷ l) (take-replicate m k v (omega arith))
-
-pub blank-widths : (m : ℕ) → m ≤ 16 → take m (replicate 16 (ofBits binary64 0)) ≡ replicate m +0
-blank-widths m h = rw lit-+0 (take-replicate m 16 +0 h)
 
 -- ---- its text
 
@@ -63,7 +51,7 @@ refused-text e k d l q = ap (λ (x : Outcome). stepText (stepAnswerOf x d l)) (s
 
 -- ---- the whole output, from what `decode` answers
 
-pub output-is : (bs : List ℕ) (r q : Input) (marks : List ℕ) (vals : List Float) → r ≡ q → decodedIn r marks vals ≡ decode bs → decodedText (decodedIn q marks vals) ≡ programText bs
+pub output-is : (bs : List ℕ) (r q : Input) (marks : List ℕ) (vals : List Float) → r ≡ q → decodedIn r marks vals ≡ readNumbers bs → decodedText (decodedIn q marks vals) ≡ programText bs
 unfolding programText
 output-is bs r q marks vals e h = ap decodedText (sym (ap (λ (x : Input). decodedIn x marks vals) e) ∙ h)
 

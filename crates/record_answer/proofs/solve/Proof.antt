@@ -5,7 +5,7 @@ use lib.Seq.{length-take-le}
 use Rattle.step_rows.specs.Problem.{Problem}
 use Rattle.step_call.specs.Promise.{stepCall}
 use Rattle.record_answer.proofs.Passes.{passes}
-use Rattle.record_answer.proofs.Answers.{answer-is, parts-are, blank-widths}
+use Rattle.record_answer.proofs.Answers.{answer-is, parts-are}
 use Rattle.record_answer.proofs.solve.Statement.{statement}
 use Rattle.record_answer.proofs.solve.Tie as tie
 
@@ -33,11 +33,8 @@ gradient-requires c κs = let s = c .before .before .before .before .before .bef
 values-requires : tie.Need-values-requires
 values-requires c κs = let s = c .before .before .before .before .before .before .before .before .before .before .before .before .before .before in (s .pre .0 .0, s .pre .0 .4)
 
-array-share-prefix-widths : tie.Need-array-share-prefix-widths
-array-share-prefix-widths c = c .before .before .before .before .before .before .before .before .before .before .before .before .before .before .before .pre .0 .0
-
-slice-aggregate-solve : tie.Need-slice-aggregate-solve
-slice-aggregate-solve c = let s = c .before .before .before .before .before .before .before .before .before .before .before .before .before .before .before .before in sym (length-take-le (s .args .m) _ (s .pre .0 .0))
+widths-requires : tie.Need-widths-requires
+widths-requires c κs = let s = c .before .before .before .before .before .before .before .before .before .before .before .before .before .before .before in (s .pre .0 .0, s .pre .0 .4)
 
 jacobian-requires : tie.Need-jacobian-requires
 jacobian-requires c κs = let s = c .before .before .before .before .before .before .before .before .before .before .before .before .before .before .before .before in (s .pre .0 .0, s .pre .0 .2, s .pre .0 .4)
@@ -48,11 +45,11 @@ lower-requires c κs = let s = c .before .before .before .before .before .before
 upper-requires : tie.Need-upper-requires
 upper-requires c κs = let s = c .before .before .before .before .before .before .before .before .before .before .before .before .before .before .before .before .before .before in (s .pre .0 .2, s .pre .0 .4)
 
-slice-aggregate-solve-2 : tie.Need-slice-aggregate-solve-2
-slice-aggregate-solve-2 c = c .before .before .before .before .before .before .before .before .before .before .before .before .before .before .before .before .before .float-room .ensures
+slice-aggregate-solve : tie.Need-slice-aggregate-solve
+slice-aggregate-solve c = c .before .before .before .before .before .before .before .before .before .before .before .before .before .before .before .before .before .float-room .ensures
 
-slice-aggregate-solve-3 : tie.Need-slice-aggregate-solve-3
-slice-aggregate-solve-3 c = c .before .before .before .before .before .before .before .before .before .before .before .before .before .before .before .before .before .word-room .ensures
+slice-aggregate-solve-2 : tie.Need-slice-aggregate-solve-2
+slice-aggregate-solve-2 c = c .before .before .before .before .before .before .before .before .before .before .before .before .before .before .before .before .before .word-room .ensures
 
 solve-requires : tie.Need-solve-requires
 solve-requires c κs = tt
@@ -64,7 +61,8 @@ same-length-2 : tie.Need-same-length-2
 same-length-2 c = omega arith
 
 returns : tie.Need-returns
-returns c = let s = c .before .before .before .before .before .before .before .before .before .before .before .before .before .before .before .before .before .before .before .before .before .before .before .before .before .before .before .before .before .before .before in
+returns c =
+    let s = c .before .before .before .before .before .before .before .before .before .before .before .before .before .before .before .before .before .before .before .before .before .before .before .before .before .before .before .before .before .before .before in
     let a = s .args in
     let k = c .before .before .before .before .before .before .before .solve in
     let w = c .before .before .before .before .before .before .before .before .before .before .before .before .before .before .before .before .before .before .before .before .before .before .before .before .before .before .float-room in
@@ -72,7 +70,7 @@ returns c = let s = c .before .before .before .before .before .before .before .b
     answer-is _ _ (k .result) (a .d .now) _ (a .multipliers .now) _ _ _ _ _ (k .ensures)
     ∙ ap (λ (p : Problem). stepCall p (a .d .now) (a .multipliers .now) (w .result) (iw .result))
     (parts-are (a .m) (a .n) _ (a .marks .now) (a .vals .now) _ _ _ _ _ _ _ _ (c .before .before .before .before .before .before .before .before .before .before .before .before .before .before .before .before .before .before .before .factor .ensures) (c .before .before .before .before .before .before .before .before .before .before .before .before .before .before .before .before .before .before .gradient .ensures) (c .before .before .before .before .before .before .before .before .before .before .before .before .before .before .before .before .before .before .before .before .before .before .load-kinds .ensures) (length-take-le (a .m) _ (s .pre .0 .0))
-    (c .before .before .before .before .before .before .before .before .before .before .before .before .before .before .before .before .values .ensures) (blank-widths (a .m) (s .pre .0 .0)) (c .before .before .before .before .before .before .before .before .before .before .before .before .before .before .jacobian .ensures) (c .before .before .before .before .before .before .before .before .before .before .before .before .before .lower .ensures) (c .before .before .before .before .before .before .before .before .before .before .before .before .upper .ensures))
+    (c .before .before .before .before .before .before .before .before .before .before .before .before .before .before .before .before .values .ensures) (c .before .before .before .before .before .before .before .before .before .before .before .before .before .before .before .widths .ensures) (c .before .before .before .before .before .before .before .before .before .before .before .before .before .before .jacobian .ensures) (c .before .before .before .before .before .before .before .before .before .before .before .before .before .lower .ensures) (c .before .before .before .before .before .before .before .before .before .before .before .before .upper .ensures))
     ∙ passes (a .m) (a .n) (a .marks .now) (a .vals .now) (a .d .now) (a .multipliers .now) (w .result) (iw .result) (record { few = s .pre .0 .0; some = s .pre .0 .1; most = s .pre .0 .2 })
     (s .pre .0 .4) (s .pre .1 .0) (s .pre .1 .1) (omega (arith, w .ensures)) (omega (arith, iw .ensures))
 
@@ -88,13 +86,12 @@ solve-spec =
     factor-requires
     gradient-requires
     values-requires
-    array-share-prefix-widths
-    slice-aggregate-solve
+    widths-requires
     jacobian-requires
     lower-requires
     upper-requires
+    slice-aggregate-solve
     slice-aggregate-solve-2
-    slice-aggregate-solve-3
     solve-requires
     same-length
     same-length-2
