@@ -24,7 +24,7 @@ enum bounds { OPEN, AROUND, CROSSED, OPPOSED };
 /* A step of the largest sizes, and what it answered. */
 struct step {
     size_t n, m;
-    double factor[256], gradient[16], values[16], jacobian[256], lower[16], upper[16];
+    double factor[256], gradient[16], values[16], widths[16], jacobian[256], lower[16], upper[16];
     uint8_t kinds[16];
     double d[16], multipliers[16], relaxation;
     uint32_t report[GRITSTRUT_REPORT];
@@ -79,9 +79,9 @@ static void call(struct step *p)
 {
     size_t n = p->n, m = p->m;
     p->number = gritstrut_step(n, m, p->factor, n * n, p->gradient, n, p->kinds, m, p->values, m,
-                               p->jacobian, m * n, p->lower, n, p->upper, n, p->d, n,
-                               p->multipliers, m, &p->relaxation, p->report, GRITSTRUT_REPORT,
-                               &tally, workspace, GRITSTRUT_FLOATS, words, GRITSTRUT_WORDS);
+                               p->widths, m, p->jacobian, m * n, p->lower, n, p->upper, n,
+                               p->d, n, p->multipliers, m, &p->relaxation, p->report,
+                               GRITSTRUT_REPORT, &tally, workspace, GRITSTRUT_FLOATS, words, GRITSTRUT_WORDS);
 }
 
 /* Paints what lies below its own frame, makes the call, and looks how deep the paint is gone. It

@@ -5,7 +5,7 @@
  *
  * The corrections d of the measured flows are the least squares, each weighed by its meter's
  * spread, such that the corrected flows balance and none is below zero. With any word after
- * target/meters the header's balance is entered twice, behind a floor on vessel 2, to show what the
+ * target/meters the header's balance is entered twice, behind a band on vessel 2, to show what the
  * report then says. */
 #include <stdio.h>
 
@@ -20,7 +20,7 @@ static uint32_t iw[GRITSTRUT_WORDS];
 static size_t constraint(const uint8_t *kinds, size_t m, uint32_t place)
 {
     size_t j = 0;
-    while (j < m && (kinds[j] != 0 || place-- != 0))
+    while (j < m && (kinds[j] != GRITSTRUT_EQUALITY || place-- != 0))
         j++;
     return j;
 }
@@ -32,16 +32,17 @@ int main(int argc, char **argv)
     const double measured[METERS] = {120.4, 79.1, 131.9, 70.2};
     const double spread[METERS] = {1.0, 1.0, 2.0, 0.5};
 
-    /* The header; and beside it, where it is to be entered twice, a floor of 50 on vessel 2 and the
-     * header again. A row's value is what it comes to as measured. */
-    const char *rows[ROWS] = {"header", "floor of vessel 2", "header, second entry"};
+    /* The header; and beside it, where it is to be entered twice, a band from 50 to 90 on vessel 2,
+     * whose width is 40, and the header again. A row's value is what it comes to as measured. */
+    const char *rows[ROWS] = {"header", "band of vessel 2", "header, second entry"};
     const double coefficients[ROWS * METERS] = {
         1.0, 1.0, -1.0, -1.0,
         0.0, 0.0, 0.0, 1.0,
         1.0, 1.0, -1.0, -1.0,
     };
     const double offsets[ROWS] = {0.0, -50.0, 0.0};
-    const uint8_t kinds[ROWS] = {0, 1, 0};
+    const uint8_t kinds[ROWS] = {GRITSTRUT_EQUALITY, GRITSTRUT_BAND, GRITSTRUT_EQUALITY};
+    const double widths[ROWS] = {0.0, 40.0, 0.0};
     const size_t m = argc > 1 ? ROWS : 1;
 
     double factor[METERS * METERS] = {0};
@@ -62,11 +63,11 @@ int main(int argc, char **argv)
             values[j] += coefficients[j * METERS + i] * measured[i];
     }
     uint32_t number = gritstrut_step(METERS, m, factor, METERS * METERS, gradient, METERS, kinds, m,
-                                     values, m, coefficients, m * METERS, lower, METERS, upper, METERS,
-                                     d, METERS, multipliers, m, &relaxation, report, GRITSTRUT_REPORT,
-                                     &tally, w, GRITSTRUT_FLOATS, iw, GRITSTRUT_WORDS);
+                                     values, m, widths, m, coefficients, m * METERS, lower, METERS,
+                                     upper, METERS, d, METERS, multipliers, m, &relaxation, report,
+                                     GRITSTRUT_REPORT, &tally, w, GRITSTRUT_FLOATS, iw, GRITSTRUT_WORDS);
     /* The report is written with 0, 5, 6 and 7: a step can come out although a balance stands twice. */
-    int reported = number == GRITSTRUT_DONE || number >= GRITSTRUT_DEFICIENT;
+    int reported = number == GRITSTRUT_DONE || (number >= GRITSTRUT_DEFICIENT && number <= GRITSTRUT_CAPPED);
     if (reported && report[GRITSTRUT_EXACT_NUMBER] == GRITSTRUT_DEPENDENT) {
         size_t j = constraint(kinds, m, report[GRITSTRUT_EXACT_PLACE]);
         printf("\"%s\" (row %zu, balance %u) follows from the other balances: was one entered twice?\n",

@@ -19,7 +19,7 @@
  *   and any bit pattern as a double, NaN and infinities too.
  * - w is a workspace of at least GRITSTRUT_FLOATS doubles (64 KiB) and iw one of at least
  *   GRITSTRUT_WORDS uint32_t (2 KiB). What they hold before a call does not matter.
- * - The result is a number of the table below. Tests are made in the order of the numbers 1 to 4.
+ * - The result is a number of the table below. Tests are made in the order 1, 2, 3, 4, 14.
  *
  *     number                                 outputs      workspaces
  *     0  GRITSTRUT_DONE                      all written  first 8192 and 512 entries zero
@@ -30,7 +30,7 @@
  *     3  GRITSTRUT_ROOM: a workspace that    untouched    untouched
  *        is too short
  *     4  GRITSTRUT_KIND: a kind other than   untouched    untouched
- *        0 and 1
+ *        0, 1 and 2
  *     5  GRITSTRUT_DEFICIENT: the rank of    untouched    first 8192 and 512 entries zero
  *        E too low
  *     6  GRITSTRUT_INFEASIBLE                untouched    first 8192 and 512 entries zero
@@ -44,6 +44,9 @@
  *        999,999
  *     13 GRITSTRUT_SPREAD: a spread that is  untouched    untouched
  *        not finite and positive
+ *     14 GRITSTRUT_WIDTH: a band's width     untouched    untouched
+ *        that is NaN, infinite or below
+ *        zero
  *
  *   Zero is +0. Untouched means the same bits. (Of an entry that is a NaN it is proved that it
  *   stays a NaN; that its bits stay is compared, not proved: docs/TRUST.md.) Entries of a
@@ -90,6 +93,7 @@ extern "C" {
 #define GRITSTRUT_DEPENDENT 11
 #define GRITSTRUT_READING 12
 #define GRITSTRUT_SPREAD 13
+#define GRITSTRUT_WIDTH 14
 
 /* The place of a stage that has none. */
 #define GRITSTRUT_NOWHERE UINT32_MAX
@@ -211,6 +215,13 @@ enum {
     GRITSTRUT_REPORT          /* how many entries a report has */
 };
 
+/* What a constraint asks of the step d: of its row a and value c, and of a band's width w. */
+enum {
+    GRITSTRUT_EQUALITY, /* a'd + c = 0 */
+    GRITSTRUT_FLOOR,    /* a'd + c >= 0 */
+    GRITSTRUT_BAND      /* 0 <= a'd + c <= w, of which w is at least zero and finite */
+};
+
 /* A running tally of what steps took: set both counts to 0 at first. A count that would pass the
  * range stays at UINT64_MAX. */
 typedef struct gritstrut_tally {
@@ -221,12 +232,13 @@ typedef struct gritstrut_tally {
 /* Raises a tally by counts from elsewhere; gritstrut_step raises its own. */
 void gritstrut_tally_raise(gritstrut_tally *tally, uint64_t rounds, uint64_t factorings);
 
-/* The step d that minimizes d'Bd / 2 + g'd, where B = L L', under m constraints and under bounds:
- * a_j'd + c_j = 0 where kinds[j] is 0, a_j'd + c_j >= 0 where it is 1, lower <= d <= upper, where
- * a bound that is not finite is open. n variables, from 1 to 16; m constraints, from 0 to 16.
- * In: factor L (n * n), gradient g (n), kinds (m), values c (m), jacobian (m * n, a row for each
- * constraint), lower (n), upper (n). Out: d (n), multipliers (m, in constraint order), and the
- * relaxation: 0 where the problem was solved as stated, else the share, up to 1, by which its
+/* The step d that minimizes d'Bd / 2 + g'd, where B = L L', under m constraints, each of a kind
+ * above, and under bounds lower <= d <= upper, where a bound that is not finite is open.
+ * n variables, from 1 to 16; m constraints, from 0 to 16.
+ * In: factor L (n * n), gradient g (n), kinds (m), values c (m), widths (m; those of other kinds
+ * are not read), jacobian (m * n, a row for each constraint), lower (n), upper (n).
+ * Out: d (n), multipliers (m, in constraint order; a band's is its floor's less its ceiling's, so
+ * below zero where the ceiling holds), and the relaxation: 0 where the problem was solved as stated, else the share, up to 1, by which its
  * constraints were relaxed: then they need not hold at d. The number is 0, or that of the relaxed
  * stage: 5, 6 or 7.
  * report (GRITSTRUT_REPORT entries, as above) is written with 0, 5, 6 and 7. Look at it even where
@@ -243,6 +255,7 @@ uint32_t gritstrut_step(size_t n, size_t m, const double *factor, size_t factor_
                         const double *gradient, size_t gradient_len,
                         const uint8_t *kinds, size_t kinds_len,
                         const double *values, size_t values_len,
+                        const double *widths, size_t widths_len,
                         const double *jacobian, size_t jacobian_len,
                         const double *lower, size_t lower_len,
                         const double *upper, size_t upper_len,

@@ -14,6 +14,7 @@ A readable line names a kind of entry, its indices and its value; '#' starts a c
     factor 2 2 0.5         row, column (row >= column), value
     gradient 0 1.5         variable, value
     equality 0 -2.6        constraint, value        inequality 1 3
+    band 1 9.5 20          constraint, value, width: an inequality and, behind it,    width 1 20
     jacobian 0 3 -1        constraint, variable, value
     lower 2 -131.9         variable, value          upper 2 inf
 
@@ -33,6 +34,7 @@ KINDS = {
     "gradient": (b"G", False, True),
     "equality": (b"E", True, False),
     "inequality": (b"I", True, False),
+    "width": (b"W", True, False),
     "jacobian": (b"A", True, True),
     "lower": (b"B", False, True),
     "upper": (b"T", False, True),
@@ -58,6 +60,9 @@ def words_of(bits):
 
 def record_of(line):
     name, *words = line.split()
+    if name == "band":
+        row, value, width = words
+        return record_of(f"inequality {row} {value}") + record_of(f"width {row} {width}")
     tag, has_row, has_column = KINDS[name]
     row = int(words.pop(0)) if has_row else 0
     column = int(words.pop(0)) if has_column else 0
@@ -85,7 +90,12 @@ def write(text):
 
 
 def read(data):
-    return "".join(line_of(data[at:at + 16]) + "\n" for at in range(0, len(data), 16))
+    lines = [line_of(data[at:at + 16]) for at in range(0, len(data), 16)]
+    for at in range(len(lines) - 1, 0, -1):
+        first, second = lines[at - 1].split(), lines[at].split()
+        if [first[0], second[0]] == ["inequality", "width"] and first[1] == second[1]:
+            lines[at - 1:at + 1] = [" ".join(["band"] + first[1:] + second[2:])]
+    return "".join(line + "\n" for line in lines)
 
 
 def damaged(words):
@@ -165,6 +175,9 @@ def test():
     told = show("ok\nrelaxation 0000000000000000\nd 0 bff0000000000000\nm 0 nan\n")
     if told != "ok\nrelaxation 0000000000000000  0.0\nd 0 bff0000000000000  -1.0\nm 0 nan\n":
         sys.exit("a result is shown wrong:\n" + told)
+    band = "sizes 1 1\nband 0 9.5 20.0\n"
+    if read(write(band)) != band or write(band) != write("sizes 1 1\ninequality 0 9.5\nwidth 0 20\n"):
+        sys.exit("a band does not come back")
     print("2000 problems come back as they were")
     root = os.path.join(os.path.dirname(os.path.abspath(__file__)), "..")
     path = os.path.join(root, "examples", "cases.txt")

@@ -49,7 +49,8 @@ unsafe extern "C" {
     fn gritstrut_step(
         n: usize, m: usize, factor: *const f64, factor_len: usize,
         gradient: *const f64, gradient_len: usize, kinds: *const u8, kinds_len: usize,
-        values: *const f64, values_len: usize, jacobian: *const f64, jacobian_len: usize,
+        values: *const f64, values_len: usize, widths: *const f64, widths_len: usize,
+        jacobian: *const f64, jacobian_len: usize,
         lower: *const f64, lower_len: usize, upper: *const f64, upper_len: usize,
         d: *mut f64, d_len: usize, multipliers: *mut f64, multipliers_len: usize,
         relaxation: *mut f64, report: *mut u32, report_len: usize, tally: *mut [u64; 2],
@@ -93,12 +94,15 @@ impl Lent {
 
     pub fn step(&mut self, p: &Step) -> u32 {
         let (mut relaxation, mut report) = (0.0, [0; 6]);
+        // no band: the widths are not read
+        let widths = &p.values;
         #[rustfmt::skip]
         let number = unsafe {
             gritstrut_step(
                 p.gradient.len(), p.values.len(), p.factor.as_ptr(), p.factor.len(),
                 p.gradient.as_ptr(), p.gradient.len(), p.kinds.as_ptr(), p.kinds.len(),
-                p.values.as_ptr(), p.values.len(), p.jacobian.as_ptr(), p.jacobian.len(),
+                p.values.as_ptr(), p.values.len(), widths.as_ptr(), widths.len(),
+                p.jacobian.as_ptr(), p.jacobian.len(),
                 p.lower.as_ptr(), p.lower.len(), p.upper.as_ptr(), p.upper.len(),
                 self.first.as_mut_ptr(), p.gradient.len(), self.second.as_mut_ptr(), p.values.len(),
                 &mut relaxation, report.as_mut_ptr(), report.len(), &mut self.tally,

@@ -89,6 +89,7 @@ pub fn update(b: &mut [f64], s: f64, y: f64) -> u32 {
 pub fn step(
     kinds: &[u8],
     values: &[f64],
+    widths: &[f64],
     jacobian: &[f64],
     multipliers: &mut [f64],
     w: &mut [f64],
@@ -108,6 +109,7 @@ pub fn step(
         &one,
         kinds,
         values,
+        widths,
         jacobian,
         &lower,
         &upper,

@@ -169,7 +169,14 @@ fn tell_relaxed() {
     let jacobian = [0.0, 0.0];
     let mut multipliers = [0.0, 0.0];
     let mut w = record_answer::float_room();
-    let stepped = calls::step(&kinds, &values, &jacobian, &mut multipliers, &mut w);
+    let stepped = calls::step(
+        &kinds,
+        &values,
+        &values,
+        &jacobian,
+        &mut multipliers,
+        &mut w,
+    );
     tell_stepped(
         b"step, two equalities on one variable, zero Jacobian",
         stepped,
@@ -177,9 +184,28 @@ fn tell_relaxed() {
     );
 }
 
+// A band 0 <= -d <= 1/4, whose ceiling holds: its multiplier is below zero.
+fn tell_band() {
+    let kinds = [2u8];
+    let values = [0.0];
+    let widths = [0.25];
+    let jacobian = [-1.0];
+    let mut multipliers = [0.0];
+    let mut w = record_answer::float_room();
+    let stepped = calls::step(
+        &kinds,
+        &values,
+        &widths,
+        &jacobian,
+        &mut multipliers,
+        &mut w,
+    );
+    tell_stepped(b"step, a band whose ceiling holds", stepped, &multipliers);
+}
+
 // No constraint, in a workspace of the length that is tried.
 fn tell_room(name: &[u8], w: &mut [f64]) {
-    let stepped = calls::step(&[], &[], &[], &mut [], w);
+    let stepped = calls::step(&[], &[], &[], &[], &mut [], w);
     tell_stepped(name, stepped, &[]);
 }
 
@@ -211,5 +237,6 @@ pub fn tell_all() {
     tell_too_large();
     tell_updates();
     tell_relaxed();
+    tell_band();
     tell_rooms();
 }

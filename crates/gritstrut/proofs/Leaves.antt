@@ -9,8 +9,8 @@ use lib.Dec.{leb, eqb}
 use lib.ListN.{length, set}
 use lib.Ieee.{Float}
 use borrow.Author.Tests.{leb-true, eq-eqb}
-use Rattle.workspace.specs.Tables.{Answer, done, refused, call, number, numberOf, placeOf, nowhere, outcomeOf, outcomeNumber, output, isMatrix, isDimension, isConstraints, isRoom, has}
-use Rattle.workspace.specs.declared.Refusal.the-variants.{Length}
+use Rattle.workspace.specs.Tables.{Answer, done, refused, call, test, number, numberOf, placeOf, nowhere, outcomeOf, outcomeNumber, output, isMatrix, isDimension, isConstraints, isRoom, has}
+use Rattle.workspace.specs.declared.Refusal.the-variants.{Length, Width}
 use Rattle.workspace.specs.declared.Refusal.{Refusal}
 use Rattle.workspace.specs.declared.Outcome.{Outcome}
 use Rattle.workspace.specs.declared.Outcome.the-variants.{Refused}
@@ -205,8 +205,8 @@ module _ (p : Problem) (d d' l l' : List Float) (r : List ℕ) (w w' : List Floa
 
     same : Step.stepCall p d l w iw ≡ c
     same =
-        sym (reported (isDimension (p .n) && isConstraints (p .m)) (Step.areLengths p d l) (isRoom w iw) (Step.areKinds (p .kinds)) (step p .answer))
-        ∙ ap (λ (b : Bool). call (isDimension (p .n) && isConstraints (p .m)) (Step.areLengths p d l && b) (isRoom w iw) (Step.areKinds (p .kinds)) (step p .answer))
+        sym (reported (isDimension (p .n) && isConstraints (p .m)) (Step.areLengths p d l) (isRoom w iw) (Step.areKinds (p .kinds)) (test (Step.areWidths (p .kinds) (p .widths) (p .m)) Width (step p .answer)))
+        ∙ ap (λ (b : Bool). call (isDimension (p .n) && isConstraints (p .m)) (Step.areLengths p d l && b) (isRoom w iw) (Step.areKinds (p .kinds)) (test (Step.areWidths (p .kinds) (p .widths) (p .m)) Width (step p .answer)))
         (sym (eq-eqb (length r) 6 six))
 
     pub step-leaves : (o : StepTold.Outcome) (k : ℕ) (x : Float) (r' y y' : List ℕ) → Step.Steps (Step.stepCall p d l w iw) (reportOf p) o d d' l l' w w' iw iw'
@@ -226,7 +226,7 @@ module _ (p : Problem) (d l : List Float) (r : List ℕ) (w : List Float) (iw : 
 
   pub no-report : isDimension (p .n) && isConstraints (p .m) ≡ true → (k : ℕ) (y : List ℕ) → k ≡ 2 → StepLeaves (stepReportCall p d l r w iw) (reportOf p) k old old r r y y d d l l w w iw iw
   no-report s k y h =
-      rw (other, h, shut (isDimension (p .n) && isConstraints (p .m)) (Step.areLengths p d l) (Step.areKinds (p .kinds)) (step p .answer) (isRoom w iw) s)
+      rw (other, h, shut (isDimension (p .n) && isConstraints (p .m)) (Step.areLengths p d l) (Step.areKinds (p .kinds)) (test (Step.areWidths (p .kinds) (p .widths) (p .m)) Width (step p .answer)) (isRoom w iw) s)
       (record {
         the-call = record { the-outcome = refl; the-d = refl; the-multipliers = refl; the-floats = refl; the-words = refl };
         told = record { the-number = refl; the-relaxation = refl; the-report = refl; the-tally = refl };

@@ -8,7 +8,8 @@ use Prim.Native.Nat.{ℕ}
 use lib.Ieee.{Float}
 use Rattle.numbers.specs.Numbers.{nth}
 use Rattle.tally.specs.Tally.{saturated}
-use Rattle.workspace.specs.Tables.{Answer, number, numberOf, output, placeOf, nowhere, call, isDimension, isConstraints, isRoom, has}
+use Rattle.workspace.specs.declared.Refusal.the-variants.{Width}
+use Rattle.workspace.specs.Tables.{Answer, number, numberOf, output, placeOf, nowhere, call, test, isDimension, isConstraints, isRoom, has}
 use Rattle.workspace.specs.declared.Outcome.{Outcome}
 use Rattle.workspace.specs.declared.Outcome.the-variants.{Done, Refused}
 use Rattle.workspace.specs.Tables as Tables
@@ -68,7 +69,7 @@ raisedCounts y r f = saturated (nth y 0) r ∷ saturated (nth y 1) f ∷ []
 -- the whole call: the report's length is one of those that number 2 tests
 abbrev pub stepReportCall : Problem → (d multipliers : List Float) (report : List ℕ) (w : List Float) (iw : List ℕ) → Answer Step
 stepReportCall p d l r w iw =
-    call (isDimension (p .n) && isConstraints (p .m)) (Step.areLengths p d l && has r 6) (isRoom w iw) (Step.areKinds (p .kinds)) (step p .answer)
+    call (isDimension (p .n) && isConstraints (p .m)) (Step.areLengths p d l && has r 6) (isRoom w iw) (Step.areKinds (p .kinds)) (test (Step.areWidths (p .kinds) (p .widths) (p .m)) Width (step p .answer))
 
 -- From an outcome: the number; the relaxation, stored where the step is done; report and tally, which move unless a test before the arithmetic refuses.
 abbrev pub numberTold : Told.Outcome → ℕ

@@ -386,6 +386,7 @@ pub extern "C" fn gritstrut_step(
     gradient: &[f64],
     kinds: &[u8],
     values: &[f64],
+    widths: &[f64],
     jacobian: &[f64],
     lower: &[f64],
     upper: &[f64],
@@ -397,7 +398,7 @@ pub extern "C" fn gritstrut_step(
     w: &mut [f64],
     iw: &mut [u32],
 ) -> u32
-    ensures { λ k. ⌜ StepLeaves (stepReportCall (problemOf n m (now (factor .entry)) (now (gradient .entry)) (now (kinds .entry)) (now (values .entry)) (now (jacobian .entry)) (now (lower .entry)) (now (upper .entry))) (now (d .entry)) (now (multipliers .entry)) (now (report .entry)) (now (w .entry)) (now (iw .entry))) (reportOf (problemOf n m (now (factor .entry)) (now (gradient .entry)) (now (kinds .entry)) (now (values .entry)) (now (jacobian .entry)) (now (lower .entry)) (now (upper .entry)))) k (now (relaxation .entry)) (now (relaxation .exit))
+    ensures { λ k. ⌜ StepLeaves (stepReportCall (problemOf n m (now (factor .entry)) (now (gradient .entry)) (now (kinds .entry)) (now (values .entry)) (now (widths .entry)) (now (jacobian .entry)) (now (lower .entry)) (now (upper .entry))) (now (d .entry)) (now (multipliers .entry)) (now (report .entry)) (now (w .entry)) (now (iw .entry))) (reportOf (problemOf n m (now (factor .entry)) (now (gradient .entry)) (now (kinds .entry)) (now (values .entry)) (now (widths .entry)) (now (jacobian .entry)) (now (lower .entry)) (now (upper .entry)))) k (now (relaxation .entry)) (now (relaxation .exit))
         (now (report .entry)) (now (report .exit)) (now (tally .entry)) (now (tally .exit)) (now (d .entry)) (now (d .exit)) (now (multipliers .entry)) (now (multipliers .exit)) (now (w .entry)) (now (w .exit)) (now (iw .entry)) (now (iw .exit)) ⌝ }
 {
     if report.len() != REPORT {
@@ -413,6 +414,7 @@ pub extern "C" fn gritstrut_step(
         gradient,
         kinds,
         values,
+        widths,
         jacobian,
         lower,
         upper,

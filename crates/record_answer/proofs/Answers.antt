@@ -3,7 +3,6 @@ use mathlib.Core.Path.{_≡_, sym, ap, _∙_}
 use mathlib.Core.Bool.{Bool, true, false}
 use mathlib.Core.List.{List, _++_}
 use Prim.Native.Nat.{ℕ}
-use native.Mathlib.Omega.{arith}
 use lib.ListN.{drop}
 use lib.Ieee.{Float}
 use Rattle.workspace.specs.Tables.{Answer, done, refused, isLate, numberOf}
@@ -11,9 +10,9 @@ use Rattle.workspace.specs.declared.Refusal.{Refusal}
 use Rattle.step.specs.Step.{Step}
 use Rattle.step.specs.declared.Report.{Report}
 use Rattle.step_call.specs.Promise.{refusedBy, Steps}
-use Rattle.record_read.specs.inner.Tables.{factorIn, gradientIn, kindsIn, valuesIn, jacobianIn, lowerIn, upperIn, problemIn, decodedIn}
+use Rattle.record_read.specs.inner.Tables.{factorIn, gradientIn, kindsIn, valuesIn, widthsIn, jacobianIn, lowerIn, upperIn, problemIn, decodedIn}
 use Rattle.record_read.specs.declared.Input.{Input}
-use Rattle.record_read.specs.Input.{decode}
+use Rattle.record_read.specs.Input.{readNumbers}
 use Rattle.step_call.specs.declared.Outcome.{Outcome}
 use Rattle.step_call.specs.declared.Outcome.the-variants.{Done, Failed, Refused}
 use Rattle.step_rows.specs.Problem.{problemOf}
@@ -33,11 +32,11 @@ answer-is (done s) t e d d' l l' w w' iw iw' h = rw (h .the-outcome) (ap done (r
 answer-is (refused k) t e d d' l l' w w' iw iw' h = refusal-is (isLate k) k t e d' l' (h .the-outcome)
 
 -- the parts that the step is lent
-pub parts-are : (m n k : ℕ) (marks : List ℕ) (vals factor gradient : List Float) (kinds : List ℕ) (values jacobian lower upper : List Float)
-    → factor ≡ factorIn n vals → gradient ≡ gradientIn n vals → kinds ≡ kindsIn k marks → k ≡ m → values ≡ valuesIn m vals → jacobian ≡ jacobianIn m n vals
-    → lower ≡ lowerIn n vals → upper ≡ upperIn n vals → problemOf n m factor gradient kinds values jacobian lower upper ≡ problemIn m n marks vals
+pub parts-are : (m n k : ℕ) (marks : List ℕ) (vals factor gradient : List Float) (kinds : List ℕ) (values widths jacobian lower upper : List Float)
+    → factor ≡ factorIn n vals → gradient ≡ gradientIn n vals → kinds ≡ kindsIn k marks → k ≡ m → values ≡ valuesIn m vals → widths ≡ widthsIn m vals → jacobian ≡ jacobianIn m n vals
+    → lower ≡ lowerIn n vals → upper ≡ upperIn n vals → problemOf n m factor gradient kinds values widths jacobian lower upper ≡ problemIn m n marks vals
 unfolding problemIn
-parts-are m n k marks vals factor gradient kinds values jacobian lower upper f g s z v j l u = rw (f, g, s, z, v, j, l, u)
+parts-are m n k marks vals factor gradient kinds values widths jacobian lower upper f g s z v x j l u = rw (f, g, s, z, v, x, j, l, u)
 
 -- ---- its text
 
@@ -52,7 +51,7 @@ refused-text e k d l q = ap (λ (x : Outcome). stepText (stepAnswerOf x d l)) (s
 
 -- ---- the whole output, from what `decode` answers
 
-pub output-is : (bs : List ℕ) (r q : Input) (marks : List ℕ) (vals : List Float) → r ≡ q → decodedIn r marks vals ≡ decode bs → decodedText (decodedIn q marks vals) ≡ programText bs
+pub output-is : (bs : List ℕ) (r q : Input) (marks : List ℕ) (vals : List Float) → r ≡ q → decodedIn r marks vals ≡ readNumbers bs → decodedText (decodedIn q marks vals) ≡ programText bs
 unfolding programText
 output-is bs r q marks vals e h = ap decodedText (sym (ap (λ (x : Input). decodedIn x marks vals) e) ∙ h)
 

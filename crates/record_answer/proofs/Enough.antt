@@ -1,4 +1,4 @@
--- The first 9,248 bytes decide what the program writes.
+-- The first 9,504 bytes decide what the program writes.
 use mathlib.Core.Path.{ap}
 use Rattle.record_answer.specs.Program.{decodedText, programText}
 use Rattle.record_answer.specs.Claims.{FirstBytesDecide}

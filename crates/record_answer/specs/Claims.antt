@@ -1,4 +1,4 @@
--- What is promised of the program: the first 9,248 bytes that it reads decide what it writes; and of `respond`: its promise allows one answer only.
+-- What is promised of the program: the first 9,504 bytes that it reads decide what it writes; and of `respond`: its promise allows one answer only.
 -- Definitions only.
 use mathlib.Core.Path.{_≡_}
 use mathlib.Core.List.{List, _++_}
@@ -8,7 +8,7 @@ use Rattle.record_answer.specs.Program.{programText}
 use Rattle.record_answer.specs.Promise.{Responds}
 
 abbrev pub FirstBytesDecide : Type 0
-FirstBytesDecide = (p q : List ℕ) → length p ≡ 9248 → programText (p ++ q) ≡ programText p
+FirstBytesDecide = (p q : List ℕ) → length p ≡ 9504 → programText (p ++ q) ≡ programText p
 
 -- two calls on the same bytes and buffer answer and leave the same
 abbrev pub OneResponse : Type 0

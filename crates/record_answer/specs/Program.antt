@@ -2,9 +2,13 @@
 use mathlib.Core.List.{List, _++_}
 use Prim.Native.Nat.{ℕ}
 use Prim.Native.Char.{code}
-use Rattle.workspace.specs.Tables.{Answer, done, refused, numberOf}
+use Rattle.workspace.specs.Tables.{Answer, done, refused, numberOf, test}
+use Rattle.workspace.specs.declared.Refusal.the-variants.{Width}
+use Rattle.nnls.specs.Counted.{Counted}
+use Rattle.step_rows.specs.Problem.{Problem}
 use Rattle.step.specs.Step.{Step, step}
-use Rattle.record_read.specs.Input.{Decoded, fault, tooLarge, problem, decode}
+use Rattle.step_call.specs.Promise.{areWidths}
+use Rattle.record_read.specs.Input.{Decoded, fault, tooLarge, problem, readNumbers}
 use Rattle.record_answer.specs.Text.{ascii, decimalText, floatText, linesText}
 
 -- `refused 9 at K`
@@ -25,11 +29,15 @@ abbrev pub stepText : Answer Step → List ℕ
 stepText (done s) = doneText s
 stepText (refused r) = refusedText (numberOf r)
 
-abbrev pub decodedText : Decoded → List ℕ
+-- the step on a problem that was read: its sizes, lengths and kinds are right, so of the tests before the arithmetic that of the widths is left
+abbrev pub stepAnswer : Problem → Answer Step
+stepAnswer p = test (areWidths (p .kinds) (p .widths) (p .m)) Width (step p .answer)
+
+abbrev pub decodedText : Decoded Problem → List ℕ
 decodedText (fault k) = faultText k
 decodedText tooLarge = refusedText 1
-decodedText (problem p) = stepText (step p .answer)
+decodedText (problem p) = stepText (stepAnswer p)
 
 -- the program: the bytes written for the bytes read
 unfoldable pub programText : List ℕ → List ℕ
-programText bs = decodedText (decode bs)
+programText bs = decodedText (readNumbers bs)

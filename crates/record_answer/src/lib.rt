@@ -6,12 +6,10 @@ ghost use mathlib.Core.Path.{_≡_};
 ghost use mathlib.Core.List.{[], _∷_, _++_};
 ghost use Prim.Native.Nat.{_+_, _≤_, _<_};
 ghost use lib.ListN.{length, take};
-ghost use Rattle.nnls.specs.Counted.{Counted};
 ghost use Rattle.workspace.specs.Tables.{numberOf};
-ghost use Rattle.step.specs.Step.{step};
 ghost use Rattle.record_read.specs.inner.Tables.{PLACES, problemIn};
 ghost use Rattle.record_answer.specs.Text.{decimalText};
-ghost use Rattle.record_answer.specs.Program.{faultText, refusedText, doneText, stepText};
+ghost use Rattle.record_answer.specs.Program.{faultText, refusedText, doneText, stepText, stepAnswer};
 ghost use Rattle.record_answer.specs.Promise.{Responds};
 ghost use Rattle.record_answer.specs.inner.Work.{Wrote, stepAnswerOf, stepFrom};
 use crate::text::put_byte;
@@ -108,7 +106,7 @@ fn solve(
 ) -> step_call::Outcome
     requires { ⌜ (m ≤ 16) × (0 < n) × (n ≤ 16) × (length (now marks) ≡ PLACES) × (length (now vals) ≡ PLACES) ⌝ }
     requires { ⌜ (length (now d) ≡ n) × (length (now multipliers) ≡ m) ⌝ }
-    ensures { λ r. ⌜ stepAnswerOf r (now (d .exit)) (now (multipliers .exit)) ≡ step (problemIn m n (now (marks .entry)) (now (vals .entry))) .answer ⌝ }
+    ensures { λ r. ⌜ stepAnswerOf r (now (d .exit)) (now (multipliers .exit)) ≡ stepAnswer (problemIn m n (now (marks .entry)) (now (vals .entry))) ⌝ }
 {
     let mut w = float_room();
     let mut iw = word_room();
@@ -122,6 +120,7 @@ fn solve(
         tables::gradient(n, vals),
         ks,
         tables::values(m, vals),
+        tables::widths(m, vals),
         tables::jacobian(m, n, vals),
         tables::lower(n, vals),
         tables::upper(n, vals),
@@ -142,7 +141,7 @@ fn sixteen() -> [f64; 16]
 // What the step answers, as text.
 fn put_step(m: usize, n: usize, marks: &[u8], vals: &[f64], out: &mut [u8]) -> usize
     requires { ⌜ (m ≤ 16) × (0 < n) × (n ≤ 16) × (length (now marks) ≡ PLACES) × (length (now vals) ≡ PLACES) × (2048 ≤ length (now out)) ⌝ }
-    ensures { λ r. ⌜ Wrote (now (out .entry)) 0 (stepText (step (problemIn m n (now (marks .entry)) (now (vals .entry))) .answer)) (now (out .exit)) r ⌝ }
+    ensures { λ r. ⌜ Wrote (now (out .entry)) 0 (stepText (stepAnswer (problemIn m n (now (marks .entry)) (now (vals .entry))))) (now (out .exit)) r ⌝ }
 {
     let mut d = sixteen();
     let mut l = sixteen();

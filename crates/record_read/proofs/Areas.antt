@@ -22,12 +22,12 @@ spot-rest m n tag row col e = simp e
 
 -- an area that lies in the tables
 pub record Room (b : Area) : Type 0 where
-  pub base : b .base ≤ 576
+  pub base : b .base ≤ 592
   pub rows : b .rows ≤ 16
   pub cols : b .cols ≤ 16
-  pub all : b .base + b .rows * b .cols ≤ 576
+  pub all : b .base + b .rows * b .cols ≤ 592
 
-fits : (base rows cols : ℕ) → base ≤ 576 → rows ≤ 16 → cols ≤ 16 → base + rows * cols ≤ 576 → Room (area base rows cols)
+fits : (base rows cols : ℕ) → base ≤ 592 → rows ≤ 16 → cols ≤ 16 → base + rows * cols ≤ 592 → Room (area base rows cols)
 fits base rows cols a b c d = record { base = a; rows = b; cols = c; all = d }
 
 room-either : (b : Bool) {x y : Area} → Room x → Room y → Room (either b x y)
@@ -44,10 +44,11 @@ room m n tag hm hn =
     (room-either (eqb tag 71) (fits 256 1 n (omega arith) (omega arith) hn (omega arith))
     (room-either (eqb tag 69) (fits 272 m 1 (omega arith) hm (omega arith) (omega arith))
     (room-either (eqb tag 73) (fits 272 m 1 (omega arith) hm (omega arith) (omega arith))
+    (room-either (eqb tag 87) (fits 576 m 1 (omega arith) hm (omega arith) (omega arith))
     (room-either (eqb tag 65) (fits 288 m n (omega arith) hm hn (omega arith))
     (room-either (eqb tag 66) (fits 544 1 n (omega arith) (omega arith) hn (omega arith))
     (room-either (eqb tag 84) (fits 560 1 n (omega arith) (omega arith) hn (omega arith))
-    (fits 0 0 0 (omega arith) (omega arith) (omega arith) (omega arith))))))))
+    (fits 0 0 0 (omega arith) (omega arith) (omega arith) (omega arith)))))))))
 
 never : {A : Type 0} (p : ℕ) → Outside ≡ At p → A
 never p e = let z : _≡_ {A = ℕ} 0 1 = cc in absurd (omega arith)
@@ -56,7 +57,7 @@ pub if-spot : (b : Bool) (s : Spot) (p : ℕ) → ifSpot b s ≡ At p → (b ≡
 if-spot true s p e = (refl, e)
 if-spot false s p e = never p e
 
-pub within-in : (b : Area) (row col p : ℕ) → Room b → spotIn b row col ≡ At p → p < 576
+pub within-in : (b : Area) (row col p : ℕ) → Room b → spotIn b row col ≡ At p → p < 592
 unfolding spotIn
 within-in b row col p h e =
     let x = if-spot (ltb row (b .rows)) _ p e in
@@ -66,7 +67,7 @@ within-in b row col p h e =
     omega (arith, h .all)
 
 -- the place that a record names lies in the tables
-pub entry-in : (m n : ℕ) (r : List ℕ) (p : ℕ) → m ≤ 16 → n ≤ 16 → entryOf m n r ≡ At p → p < 576
+pub entry-in : (m n : ℕ) (r : List ℕ) (p : ℕ) → m ≤ 16 → n ≤ 16 → entryOf m n r ≡ At p → p < 592
 unfolding entryOf spotOf
 entry-in m n r p hm hn e =
     let x = if-spot (spareZero r) _ p e in

@@ -14,36 +14,37 @@ use Rattle.record_read.specs.declared.Input.the-variants.{Whole}
 use Rattle.record_read.specs.inner.Tables.{problemIn, decodedIn}
 use Rattle.record_read.specs.inner.Filling.{Filling, filling}
 use Rattle.record_read.specs.Claims.{OneDecoding}
-use Rattle.record_read.specs.Input.{recordRow, recordColumn, recordAt, isSound, givenProblem, isComplete, fault, tooLarge, problem, walk, isHead, decode}
+use Rattle.record_read.specs.Input.{recordRow, recordColumn, recordAt, isSound, givenBits, isComplete, Decoded, fault, tooLarge, problem, walk, isHead, decode, inNumbers, readNumbers}
+use Rattle.record_read.specs.Bits.{numbersOf}
 use Rattle.record_read.proofs.Heads.{InTable, sizes-in}
 
-fault-not : {A : Type 0} (k : ℕ) (p : Problem) → fault k ≡ problem p → A
+fault-not : {A : Type 0} (k : ℕ) (p : Problem) → _≡_ {A = Decoded Problem} (fault k) (problem p) → A
 fault-not k p e = let z : _≡_ {A = ℕ} 0 1 = cc in absurd (omega arith)
 
-large-not : {A : Type 0} (p : Problem) → tooLarge ≡ problem p → A
+large-not : {A : Type 0} (p : Problem) → _≡_ {A = Decoded Problem} tooLarge (problem p) → A
 large-not p e = let z : _≡_ {A = ℕ} 0 1 = cc in absurd (omega arith)
 
 module _ (m n : ℕ) (bs : List ℕ) (p : Problem) where
-  walk-sizes : (left k : ℕ) (rs : List (List ℕ)) → walk m n bs left k rs ≡ problem p → (m ≡ p .m) × (n ≡ p .n)
-  unfolding walk givenProblem
+  walk-sizes : (left k : ℕ) (rs : List (List ℕ)) → inNumbers (walk m n bs left k rs) ≡ problem p → (m ≡ p .m) × (n ≡ p .n)
+  unfolding walk givenBits numbersOf
   walk-sizes zero k rs e = go (eqb (length bs % 16) 0 && isComplete m rs) e
     where
-      go : (b : Bool) → cond b (problem (givenProblem m n rs)) (fault k) ≡ problem p → (m ≡ p .m) × (n ≡ p .n)
-      go true q = let z : givenProblem m n rs ≡ p = cc in (ap (λ (x : Problem). x .m) z, ap (λ (x : Problem). x .n) z)
+      go : (b : Bool) → inNumbers (cond b (problem (givenBits m n rs)) (fault k)) ≡ problem p → (m ≡ p .m) × (n ≡ p .n)
+      go true q = let z : numbersOf (givenBits m n rs) ≡ p = cc in (ap (λ (x : Problem). x .m) z, ap (λ (x : Problem). x .n) z)
       go false q = fault-not k p q
   walk-sizes (suc left) k rs e = go (isSound m n rs (recordAt bs k)) (λ q. walk-sizes left (k + 1) (recordAt bs k ∷ rs) q) e
     where
-      go : (b : Bool) → (walk m n bs left (k + 1) (recordAt bs k ∷ rs) ≡ problem p → (m ≡ p .m) × (n ≡ p .n))
-          → cond b (walk m n bs left (k + 1) (recordAt bs k ∷ rs)) (fault k) ≡ problem p → (m ≡ p .m) × (n ≡ p .n)
+      go : (b : Bool) → (inNumbers (walk m n bs left (k + 1) (recordAt bs k ∷ rs)) ≡ problem p → (m ≡ p .m) × (n ≡ p .n))
+          → inNumbers (cond b (walk m n bs left (k + 1) (recordAt bs k ∷ rs)) (fault k)) ≡ problem p → (m ≡ p .m) × (n ≡ p .n)
       go true ih q = ih q
       go false ih q = fault-not k p q
 
-pub problem-sizes : (bs : List ℕ) (p : Problem) → decode bs ≡ problem p → InTable (p .m) (p .n)
-unfolding decode
+pub problem-sizes : (bs : List ℕ) (p : Problem) → readNumbers bs ≡ problem p → InTable (p .m) (p .n)
+unfolding readNumbers decode
 problem-sizes bs p e = go (leb 16 (length bs) && isHead (recordAt bs 0)) (isDimension (recordColumn (recordAt bs 0)) && isConstraints (recordRow (recordAt bs 0))) refl e
   where
     go : (s t : Bool) → (isDimension (recordColumn (recordAt bs 0)) && isConstraints (recordRow (recordAt bs 0))) ≡ t
-        → cond s (cond t (walk (recordRow (recordAt bs 0)) (recordColumn (recordAt bs 0)) bs (length bs / 16 - 1) 1 []) tooLarge) (fault 0) ≡ problem p → InTable (p .m) (p .n)
+        → inNumbers (cond s (cond t (walk (recordRow (recordAt bs 0)) (recordColumn (recordAt bs 0)) bs (length bs / 16 - 1) 1 []) tooLarge) (fault 0)) ≡ problem p → InTable (p .m) (p .n)
     go true true h q =
         let w = sizes-in (recordRow (recordAt bs 0)) (recordColumn (recordAt bs 0)) h in
         let s = walk-sizes (recordRow (recordAt bs 0)) (recordColumn (recordAt bs 0)) bs p (length bs / 16 - 1) 1 [] q in
@@ -52,7 +53,7 @@ problem-sizes bs p e = go (leb 16 (length bs) && isHead (recordAt bs 0)) (isDime
     go false t h q = fault-not 0 p q
 
 -- of the code's answer, where it says that there is a problem
-pub whole-sizes : (bs : List ℕ) (r : Input) (m n : ℕ) (marks : List ℕ) (vals : List Float) → r ≡ Whole m n → decodedIn r marks vals ≡ decode bs → InTable m n
+pub whole-sizes : (bs : List ℕ) (r : Input) (m n : ℕ) (marks : List ℕ) (vals : List Float) → r ≡ Whole m n → decodedIn r marks vals ≡ readNumbers bs → InTable m n
 unfolding problemIn
 whole-sizes bs r m n marks vals e h = problem-sizes bs (problemIn m n marks vals) (sym h ∙ ap (λ (q : Input). decodedIn q marks vals) e)
 

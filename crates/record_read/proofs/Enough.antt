@@ -1,4 +1,4 @@
--- Each record taken marks a place that was free, so an input has at most 577 sound records, and the first 578 records decide.
+-- Each record taken marks a place that was free, so an input has at most 593 sound records, and the first 594 records decide.
 use mathlib.Core.Path.{_≡_, refl, sym, ap, _∙_}
 use mathlib.Core.Bool.{Bool, true, false, cond}
 use mathlib.Core.List.{List, [], _∷_, _++_}
@@ -63,7 +63,7 @@ put-marks p k v marks marks′ vals vals′ h n e = go (eqb (getD marks p 0) 0) 
         record { size = ap length (sym s) ∙ length-set marks p k; more = ap used (sym s) ∙ used-set marks p k h (eqb-true _ _ t) n }
     go false t q = kept-not marks′ marks vals′ vals q
 
-entered-marks : (m n : ℕ) (r marks marks′ : List ℕ) (vals vals′ : List Float) → m ≤ 16 → n ≤ 16 → length marks ≡ 576
+entered-marks : (m n : ℕ) (r marks marks′ : List ℕ) (vals vals′ : List Float) → m ≤ 16 → n ≤ 16 → length marks ≡ 592
     → entered m n r marks vals ≡ added marks′ vals′ → Marked marks marks′
 unfolding entered putAt
 entered-marks m n r marks marks′ vals vals′ hm hn l e = go (entryOf m n r) refl e
@@ -71,14 +71,14 @@ entered-marks m n r marks marks′ vals vals′ hm hn l e = go (entryOf m n r) r
     go : (s : Spot) → entryOf m n r ≡ s → putAt s (tagMark (recordTag r)) (ofBits binary64 (recordBits r)) marks vals ≡ added marks′ vals′ → Marked marks marks′
     go Outside t q = kept-not marks′ marks vals′ vals q
     go (At p) t q =
-        let h : p < 576 = entry-in m n r p hm hn t in
+        let h : p < 592 = entry-in m n r p hm hn t in
         put-marks p (tagMark (recordTag r)) (ofBits binary64 (recordBits r)) marks marks′ vals vals′ (omega arith) (mark-some (recordTag r)) q
 
 -- ---- the walk: at record k there are k - 1 marks
 
--- two inputs whose first 578 records are the same
-walk-same : (m n : ℕ) (p q : List ℕ) (left more k : ℕ) (marks : List ℕ) (vals : List Float) → m ≤ 16 → n ≤ 16 → length marks ≡ 576
-    → used marks + 1 ≡ k → length p ≡ 9248 → left + k ≡ 578 → 578 ≤ more + k
+-- two inputs whose first 594 records are the same
+walk-same : (m n : ℕ) (p q : List ℕ) (left more k : ℕ) (marks : List ℕ) (vals : List Float) → m ≤ 16 → n ≤ 16 → length marks ≡ 592
+    → used marks + 1 ≡ k → length p ≡ 9504 → left + k ≡ 594 → 594 ≤ more + k
     → walkTables m n (p ++ q) more k marks vals ≡ walkTables m n p left k marks vals
 unfolding walkTables
 walk-same m n p q zero more k marks vals hm hn l u lp e f = absurd (omega (arith, used-le marks))
@@ -93,7 +93,7 @@ walk-same m n p q (suc left) (suc more) k marks vals hm hn l u lp e f =
     (λ marks′ vals′ l′ u′. walk-same m n p q left more (k + 1) marks′ vals′ hm hn l′ u′ lp (omega arith) (omega arith)))
   where
     go : (s : Entered) → entered m n (recordAt p k) marks vals ≡ s
-        → ((marks′ : List ℕ) (vals′ : List Float) → length marks′ ≡ 576 → used marks′ + 1 ≡ k + 1
+        → ((marks′ : List ℕ) (vals′ : List Float) → length marks′ ≡ 592 → used marks′ + 1 ≡ k + 1
         → walkTables m n (p ++ q) more (k + 1) marks′ vals′ ≡ walkTables m n p left (k + 1) marks′ vals′)
         → onEntered s k (λ marks′ vals′. walkTables m n (p ++ q) more (k + 1) marks′ vals′)
         ≡ onEntered s k (λ marks′ vals′. walkTables m n p left (k + 1) marks′ vals′)
@@ -107,12 +107,12 @@ unfolding used
 used-none zero = refl
 used-none (suc k) = let w = used-none k in omega arith
 
-no-marks : (length noMarks ≡ 576) × (used noMarks + 1 ≡ 1)
+no-marks : (length noMarks ≡ 592) × (used noMarks + 1 ≡ 1)
 unfolding noMarks
-no-marks = (length-replicate {A = ℕ} 576 0, omega (arith, used-none 576))
+no-marks = (length-replicate {A = ℕ} 592 0, omega (arith, used-none 592))
 
--- the first 9,248 bytes decide what the tables hold
-enough : (p q : List ℕ) → length p ≡ 9248 → decodeTables (p ++ q) [] [] ≡ decodeTables p [] []
+-- the first 9,504 bytes decide what the tables hold
+enough : (p q : List ℕ) → length p ≡ 9504 → decodeTables (p ++ q) [] [] ≡ decodeTables p [] []
 unfolding decodeTables
 enough p q lp =
     let h : 16 ≤ length p = omega arith in

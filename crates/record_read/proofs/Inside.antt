@@ -47,25 +47,27 @@ lower-at n i j =
 
 pub inside-at : (m n t i j : ℕ) → isAt (spotOf m n t i j) ≡ isInside m n t i j
 unfolding spotOf areaOf isInside
-inside-at m n t i j = go (is "L" t) (is "G" t) (is "E" t) (is "I" t) (is "A" t) (is "B" t) (is "T" t)
+inside-at m n t i j = go (is "L" t) (is "G" t) (is "E" t) (is "I" t) (is "W" t) (is "A" t) (is "B" t) (is "T" t)
   where
-    go : (l g e k a b u : Bool)
+    go : (l g e k w a b u : Bool)
         → isAt
         (ifSpot (not (l && ltb i j))
         (spotIn
         (either l (area 0 n n)
         (either g (area 256 1 n)
-        (either e (area 272 m 1) (either k (area 272 m 1) (either a (area 288 m n) (either b (area 544 1 n) (either u (area 560 1 n) (area 0 0 0))))))))
+        (either e (area 272 m 1)
+        (either k (area 272 m 1) (either w (area 576 m 1) (either a (area 288 m n) (either b (area 544 1 n) (either u (area 560 1 n) (area 0 0 0)))))))))
         i
         j))
         ≡ cond l (ltb i n && leb j i)
         (cond g (eqb i 0 && ltb j n)
-        (cond (e || k) (ltb i m && eqb j 0) (cond a (ltb i m && ltb j n) (cond (b || u) (eqb i 0 && ltb j n) false))))
-    go true g e k a b u = lower-at n i j
-    go false true e k a b u = within-at (area 256 1 n) i j ∙ rw (first-only i)
-    go false false true k a b u = within-at (area 272 m 1) i j ∙ rw (first-only j)
-    go false false false true a b u = within-at (area 272 m 1) i j ∙ rw (first-only j)
-    go false false false false true b u = within-at (area 288 m n) i j
-    go false false false false false true u = within-at (area 544 1 n) i j ∙ rw (first-only i)
-    go false false false false false false true = within-at (area 560 1 n) i j ∙ rw (first-only i)
-    go false false false false false false false = within-at (area 0 0 0) i j ∙ rw (le-ltb i 0 (omega arith))
+        (cond (e || k || w) (ltb i m && eqb j 0) (cond a (ltb i m && ltb j n) (cond (b || u) (eqb i 0 && ltb j n) false))))
+    go true g e k w a b u = lower-at n i j
+    go false true e k w a b u = within-at (area 256 1 n) i j ∙ rw (first-only i)
+    go false false true k w a b u = within-at (area 272 m 1) i j ∙ rw (first-only j)
+    go false false false true w a b u = within-at (area 272 m 1) i j ∙ rw (first-only j)
+    go false false false false true a b u = within-at (area 576 m 1) i j ∙ rw (first-only j)
+    go false false false false false true b u = within-at (area 288 m n) i j
+    go false false false false false false true u = within-at (area 544 1 n) i j ∙ rw (first-only i)
+    go false false false false false false false true = within-at (area 560 1 n) i j ∙ rw (first-only i)
+    go false false false false false false false false = within-at (area 0 0 0) i j ∙ rw (le-ltb i 0 (omega arith))

@@ -2,6 +2,7 @@ pub mod Bytes
 pub mod Areas
 pub mod Entries
 pub mod Marks
+pub mod Patterns
 pub mod Heads
 pub mod Walks
 pub mod Places

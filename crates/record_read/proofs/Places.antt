@@ -38,7 +38,8 @@ areaAt m n p =
     (either (ltb p 272) (area 256 1 n)
     (either (ltb p 288) (area 272 m 1)
     (either (ltb p 544) (area 288 m n)
-    (either (ltb p 560) (area 544 1 n) (area 560 1 n)))))
+    (either (ltb p 560) (area 544 1 n)
+    (either (ltb p 576) (area 560 1 n) (area 576 m 1))))))
 
 module _ (m n row col p : ℕ) (hm : m ≤ 16) (hn : n ≤ 16) where
   abbrev Fixed : Area → Type 0
@@ -57,10 +58,11 @@ module _ (m n row col p : ℕ) (hm : m ≤ 16) (hn : n ≤ 16) where
       (fixed-either (eqb tag 71) {x = area 256 1 n} (λ h. let a : 256 ≤ p = omega (arith, h .place) in let b : p < 272 = omega (arith, h .end) in simp (le-ltb _ _ a, lt-ltb _ _ b))
       (fixed-either (eqb tag 69) {x = area 272 m 1} (λ h. let a : 256 ≤ p = omega (arith, h .place) in let b : 272 ≤ p = omega (arith, h .place) in let d : p < 288 = omega (arith, h .end) in simp (le-ltb _ _ a, le-ltb _ _ b, lt-ltb _ _ d))
       (fixed-either (eqb tag 73) {x = area 272 m 1} (λ h. let a : 256 ≤ p = omega (arith, h .place) in let b : 272 ≤ p = omega (arith, h .place) in let d : p < 288 = omega (arith, h .end) in simp (le-ltb _ _ a, le-ltb _ _ b, lt-ltb _ _ d))
+      (fixed-either (eqb tag 87) {x = area 576 m 1} (λ h. let a : 256 ≤ p = omega (arith, h .place) in let b : 272 ≤ p = omega (arith, h .place) in let d : 288 ≤ p = omega (arith, h .place) in let e : 544 ≤ p = omega (arith, h .place) in let f : 560 ≤ p = omega (arith, h .place) in let g : 576 ≤ p = omega (arith, h .place) in simp (le-ltb _ _ a, le-ltb _ _ b, le-ltb _ _ d, le-ltb _ _ e, le-ltb _ _ f, le-ltb _ _ g))
       (fixed-either (eqb tag 65) {x = area 288 m n} (λ h. let a : 256 ≤ p = omega (arith, h .place) in let b : 272 ≤ p = omega (arith, h .place) in let d : 288 ≤ p = omega (arith, h .place) in let e : p < 544 = omega (arith, h .end) in simp (le-ltb _ _ a, le-ltb _ _ b, le-ltb _ _ d, lt-ltb _ _ e))
       (fixed-either (eqb tag 66) {x = area 544 1 n} (λ h. let a : 256 ≤ p = omega (arith, h .place) in let b : 272 ≤ p = omega (arith, h .place) in let d : 288 ≤ p = omega (arith, h .place) in let e : 544 ≤ p = omega (arith, h .place) in let f : p < 560 = omega (arith, h .end) in simp (le-ltb _ _ a, le-ltb _ _ b, le-ltb _ _ d, le-ltb _ _ e, lt-ltb _ _ f))
-      (fixed-either (eqb tag 84) {x = area 560 1 n} {y = area 0 0 0} (λ h. let a : 256 ≤ p = omega (arith, h .place) in let b : 272 ≤ p = omega (arith, h .place) in let d : 288 ≤ p = omega (arith, h .place) in let e : 544 ≤ p = omega (arith, h .place) in let f : 560 ≤ p = omega (arith, h .place) in simp (le-ltb _ _ a, le-ltb _ _ b, le-ltb _ _ d, le-ltb _ _ e, le-ltb _ _ f))
-      (λ h. absurd (omega (arith, h .low)))))))))
+      (fixed-either (eqb tag 84) {x = area 560 1 n} {y = area 0 0 0} (λ h. let a : 256 ≤ p = omega (arith, h .place) in let b : 272 ≤ p = omega (arith, h .place) in let d : 288 ≤ p = omega (arith, h .place) in let e : 544 ≤ p = omega (arith, h .place) in let f : 560 ≤ p = omega (arith, h .place) in let g : p < 576 = omega (arith, h .end) in simp (le-ltb _ _ a, le-ltb _ _ b, le-ltb _ _ d, le-ltb _ _ e, le-ltb _ _ f, lt-ltb _ _ g))
+      (λ h. absurd (omega (arith, h .low))))))))))
 
 same-cell : (b : Area) (row col row′ col′ p : ℕ) → Held b row col p → Held b row′ col′ p → (row ≡ row′) × (col ≡ col′)
 same-cell b row col row′ col′ p h k =
@@ -97,7 +99,7 @@ area-field m n t = go (is "I" t) refl
     go false e = refl
 
 fieldAt : ℕ → ℕ
-fieldAt base = cond (eqb base 0) 76 (cond (eqb base 256) 71 (cond (eqb base 272) 69 (cond (eqb base 288) 65 (cond (eqb base 544) 66 84))))
+fieldAt base = cond (eqb base 0) 76 (cond (eqb base 256) 71 (cond (eqb base 272) 69 (cond (eqb base 288) 65 (cond (eqb base 544) 66 (cond (eqb base 560) 84 87)))))
 
 module _ (t row col p : ℕ) where
   abbrev Named : Area → Type 0
@@ -117,10 +119,11 @@ module _ (t row col p : ℕ) where
       (named-either 71 (area 256 1 n) _ (λ e h. rw e)
       (named-either 69 (area 272 m 1) _ (λ e h. rw e)
       (named-either 73 (area 272 m 1) _ (λ e h. rw e)
+      (named-either 87 (area 576 m 1) _ (λ e h. rw e)
       (named-either 65 (area 288 m n) _ (λ e h. rw e)
       (named-either 66 (area 544 1 n) _ (λ e h. rw e)
       (named-either 84 (area 560 1 n) (area 0 0 0) (λ e h. rw e)
-      (λ h. absurd (omega (arith, held (area 0 0 0) row col p h .low)))))))))
+      (λ h. absurd (omega (arith, held (area 0 0 0) row col p h .low))))))))))
 
 -- so entries with one place are of one field
 pub one-field : (m n tag row col tag′ row′ col′ p : ℕ) → m ≤ 16 → n ≤ 16 → spotIn (areaOf m n tag) row col ≡ At p → spotIn (areaOf m n tag′) row′ col′ ≡ At p

@@ -11,9 +11,9 @@ use lib.Ieee.{Float}
 use Rattle.record_read.specs.declared.Head.the-variants.{Unsound, TooLarge, Sizes}
 use Rattle.record_read.specs.declared.Input.{Input}
 use Rattle.record_read.specs.declared.Input.the-variants.{Fault, Large, Whole}
-use Rattle.record_read.specs.Input.{recordAt}
-use Rattle.record_read.specs.inner.Tables.{VALUES, noMarks, defaultValues}
-use Rattle.record_read.specs.inner.Filling.{filling, Filling, kept, added, entered, enteredBy, allMarked, closing, walkTables, decodeTables, headOf, stated}
+use Rattle.record_read.specs.Input.{recordAt, allBelow}
+use Rattle.record_read.specs.inner.Tables.{noMarks, defaultValues, wholeAt}
+use Rattle.record_read.specs.inner.Filling.{filling, Filling, kept, added, entered, enteredBy, closing, walkTables, decodeTables, headOf, stated}
 use Rattle.record_read.specs.Promise.{Decodes}
 use Rattle.record_read.proofs.Agreement.{agreement}
 
@@ -54,11 +54,11 @@ module _ (m n : ℕ) (bs : List ℕ) where
     unfolding closing
     walk-short h = simp (ne-eqb _ _ h) at walk-end
 
-    pub walk-missing : length bs % 16 ≡ 0 → allMarked (take m (drop VALUES marks)) ≡ false → filling (Fault k) marks vals ≡ walkTables m n bs (whole - k) k marks vals
+    pub walk-missing : length bs % 16 ≡ 0 → allBelow m (wholeAt marks) ≡ false → filling (Fault k) marks vals ≡ walkTables m n bs (whole - k) k marks vals
     unfolding closing
     walk-missing h e = simp (eq-eqb _ _ h, e) at walk-end
 
-    pub walk-done : length bs % 16 ≡ 0 → allMarked (take m (drop VALUES marks)) ≡ true → filling (Whole m n) marks vals ≡ walkTables m n bs (whole - k) k marks vals
+    pub walk-done : length bs % 16 ≡ 0 → allBelow m (wholeAt marks) ≡ true → filling (Whole m n) marks vals ≡ walkTables m n bs (whole - k) k marks vals
     unfolding closing
     walk-done h e = simp (eq-eqb _ _ h, e) at walk-end
 

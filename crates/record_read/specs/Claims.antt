@@ -1,4 +1,4 @@
--- What is promised of the input: its first 9,248 bytes, 578 records, decide what it says; and of `decode`: its promise allows one answer only.
+-- What is promised of the input: its first 9,504 bytes, 594 records, decide what it says in numbers; and of `decode`: its promise allows one answer only.
 -- Definitions only.
 use mathlib.Core.Path.{_≡_}
 use mathlib.Core.List.{List, _++_}
@@ -6,11 +6,11 @@ use Prim.Native.Nat.{ℕ}
 use lib.ListN.{length}
 use lib.Ieee.{Float}
 use Rattle.record_read.specs.declared.Input.{Input}
-use Rattle.record_read.specs.Input.{decode}
+use Rattle.record_read.specs.Input.{readNumbers}
 use Rattle.record_read.specs.Promise.{Decodes}
 
 abbrev pub FirstBytesSay : Type 0
-FirstBytesSay = (p q : List ℕ) → length p ≡ 9248 → decode (p ++ q) ≡ decode p
+FirstBytesSay = (p q : List ℕ) → length p ≡ 9504 → readNumbers (p ++ q) ≡ readNumbers p
 
 -- two calls on the same bytes and tables answer and leave the same
 abbrev pub OneDecoding : Type 0

@@ -1,4 +1,5 @@
 -- What the record program reads. Definitions only.
+pub mod Bits
 pub mod Input
 pub mod Promise
 pub mod Claims

@@ -7,11 +7,11 @@ pub use floats::is_same;
 pub use floats::value;
 ghost use mathlib.Core.Path.{_≡_};
 ghost use Prim.Native.Nat.{_+_, _-_, _*_, _/_, _≤_, _<_};
-ghost use lib.ListN.{length, take, drop};
-ghost use Rattle.record_read.specs.Input.{spareZero};
+ghost use lib.ListN.{length};
+ghost use Rattle.record_read.specs.Input.{spareZero, allBelow};
 ghost use Rattle.record_read.specs.Promise.{Decodes};
-ghost use Rattle.record_read.specs.inner.Tables.{PLACES, VALUES, area, areaOf, spotIn, spotOf, tagMark, defaultAt, noMarks, defaultValues};
-ghost use Rattle.record_read.specs.inner.Filling.{entryOf, putAt, entered, enteredBy, headOf, sizesOf, allMarked, walkTables, filling};
+ghost use Rattle.record_read.specs.inner.Tables.{PLACES, area, areaOf, spotIn, spotOf, tagMark, defaultAt, noMarks, defaultValues, areWhole, wholeAt};
+ghost use Rattle.record_read.specs.inner.Filling.{entryOf, putAt, entered, enteredBy, headOf, sizesOf, walkTables, filling};
 
 // Where the areas of the tables start, after the factor's at 0, and how many places a table has.
 const GRADIENT: usize = 256;
@@ -24,7 +24,9 @@ const LOWER: usize = JACOBIAN + 256;
 
 const UPPER: usize = LOWER + 16;
 
-const PLACES: usize = UPPER + 16;
+const WIDTHS: usize = UPPER + 16;
+
+const PLACES: usize = WIDTHS + 16;
 
 // An area of the tables: where it starts, and its shape.
 pub struct Area {
@@ -86,6 +88,7 @@ fn area_of(m: usize, n: usize, tag: u8) -> Area
         b'G' => make_area(GRADIENT, 1, n),
         b'E' => make_area(VALUES, m, 1),
         b'I' => make_area(VALUES, m, 1),
+        b'W' => make_area(WIDTHS, m, 1),
         b'A' => make_area(JACOBIAN, m, n),
         b'B' => make_area(LOWER, 1, n),
         b'T' => make_area(UPPER, 1, n),
@@ -228,7 +231,10 @@ fn default_at(n: usize, p: usize) -> f64
     if p < UPPER {
         return f64::from_bits(0xfff0_0000_0000_0000);
     }
-    f64::from_bits(0x7ff0_0000_0000_0000)
+    if p < WIDTHS {
+        return f64::from_bits(0x7ff0_0000_0000_0000);
+    }
+    0.0
 }
 
 // Every place at its default.
@@ -241,13 +247,26 @@ fn defaults(n: usize, vals: &mut [f64])
     }
 }
 
-// Whether each of m constraints has its mark.
+// Whether a constraint's value is marked, and its width only beside an inequality's.
+fn is_whole(value: u8, width: u8) -> bool
+    ensures { λ r. ⌜ r ≡ areWhole value width ⌝ }
+{
+    if value == 0 {
+        return false;
+    }
+    if width == 0 {
+        return true;
+    }
+    value == 2
+}
+
+// Whether each of m constraints is whole.
 fn complete(m: usize, marks: &[u8]) -> bool
     requires { ⌜ (m ≤ 16) × (length (now marks) ≡ PLACES) ⌝ }
-    ensures { λ r. ⌜ r ≡ allMarked (take m (drop VALUES (now (marks .entry)))) ⌝ }
+    ensures { λ r. ⌜ r ≡ allBelow m (wholeAt (now (marks .entry))) ⌝ }
 {
     for i in 0..m {
-        if marks[VALUES + i] == 0 {
+        if !is_whole(marks[VALUES + i], marks[WIDTHS + i]) {
             return false;
         }
     }

@@ -2,7 +2,7 @@
 ghost use mathlib.Core.Path.{_≡_};
 ghost use Prim.Native.Nat.{_+_, _≤_, _<_};
 ghost use lib.ListN.{length, take, drop};
-ghost use Rattle.record_read.specs.inner.Tables.{PLACES, factorIn, gradientIn, valuesIn, jacobianIn, lowerIn, upperIn, kindAt, kindsIn};
+ghost use Rattle.record_read.specs.inner.Tables.{PLACES, factorIn, gradientIn, valuesIn, widthsIn, jacobianIn, lowerIn, upperIn, kindAt, kindsIn};
 
 // A table with no mark.
 pub fn blank_marks() -> [u8; crate::PLACES]
@@ -50,6 +50,14 @@ pub fn values(m: usize, vals: &[f64]) -> &[f64]
     part(vals, crate::VALUES, m)
 }
 
+// The widths of m constraints, +0 where there is none.
+pub fn widths(m: usize, vals: &[f64]) -> &[f64]
+    requires { ⌜ (m ≤ 16) × (length (now vals) ≡ PLACES) ⌝ }
+    ensures { λ r. ⌜ now r ≡ widthsIn m (now (vals .entry)) ⌝ }
+{
+    part(vals, crate::WIDTHS, m)
+}
+
 // The Jacobian, m by n.
 pub fn jacobian(m: usize, n: usize, vals: &[f64]) -> &[f64]
     requires { ⌜ (m ≤ 16) × (n ≤ 16) × (length (now vals) ≡ PLACES) ⌝ }
@@ -74,12 +82,15 @@ pub fn upper(n: usize, vals: &[f64]) -> &[f64]
     part(vals, crate::UPPER, n)
 }
 
-// The kind of constraint i, by its mark.
+// The kind of constraint i, by the marks of its value and its width.
 fn kind(marks: &[u8], i: usize) -> u8
     requires { ⌜ (length (now marks) ≡ PLACES) × (i < 16) ⌝ }
     ensures { λ r. ⌜ r ≡ kindAt (now (marks .entry)) i ⌝ }
 {
-    if marks[crate::VALUES + i] == 2 { 1 } else { 0 }
+    if marks[crate::VALUES + i] != 2 {
+        return 0;
+    }
+    if marks[crate::WIDTHS + i] == 0 { 1 } else { 2 }
 }
 
 // The kinds of as many constraints as `kinds` has room for.

@@ -1,4 +1,4 @@
-// The record program: standard input to standard output. The first 9,248 bytes decide the answer (`FirstBytesDecide` of
+// The record program: standard input to standard output. The first 9,504 bytes decide the answer (`FirstBytesDecide` of
 // report's specs/Claims.antt), so no more is read. A read or a write that fails is told on standard error.
 use libc::STDERR_FILENO;
 use libc::STDIN_FILENO;
@@ -13,11 +13,11 @@ enum Reading {
     Failed,
 }
 
-// 9,248 zeros, for the input.
-fn input_room() -> [u8; 9248]
-    ensures { λ r. ⌜ 9248 ≡ length r ⌝ }
+// 9,504 zeros, for the input.
+fn input_room() -> [u8; 9504]
+    ensures { λ r. ⌜ 9504 ≡ length r ⌝ }
 {
-    [0; 9248]
+    [0; 9504]
 }
 
 // 2,048 zeros, for the output.

@@ -113,6 +113,7 @@ fn run_step(
         part(call, values, 3),
         part(call, values, 4),
         part(call, values, 5),
+        part(call, values, 6),
         d,
         multipliers,
         &mut relaxation,

@@ -76,7 +76,7 @@ pub fn length_at(call: &Call, i: usize, most: usize) -> usize
 
 // How many values stand before input i.
 pub fn start(call: &Call, i: usize) -> usize
-    requires { ⌜ i < 7 ⌝ }
+    requires { ⌜ i < 10 ⌝ }
     ensures { λ r. ⌜ r ≤ 65536 * i ⌝ }
 {
     let mut sum = 0;
@@ -95,7 +95,7 @@ fn between(values: &[f64], from: usize, to: usize) -> &[f64]
 
 // Input i.
 pub fn part<'a>(call: &Call, values: &'a Values, i: usize) -> &'a [f64]
-    requires { ⌜ i < 6 ⌝ }
+    requires { ⌜ i < 9 ⌝ }
 {
     let from = least(start(call, i), 1525);
     between(values, from, from + length_at(call, 7 + i, 1525 - from))
@@ -110,7 +110,7 @@ fn among(bytes: &[u8], from: usize, to: usize) -> &[u8]
 
 // The kinds.
 pub fn kinds(call: &Call) -> &[u8] {
-    let from = least(88 + 8 * start(call, 6), 12288);
+    let from = least(88 + 8 * start(call, 9), 12288);
     among(call, from, from + length_at(call, 6, 12288 - from))
 }
 
@@ -135,7 +135,7 @@ pub fn is_whole(call: &Call, n: usize) -> bool {
     if !fits(call) {
         return false;
     }
-    88 + 8 * start(call, 6) + length_of(call, 6) == n
+    88 + 8 * start(call, 9) + length_of(call, 6) == n
 }
 
 // Room for the values.

@@ -39,25 +39,25 @@ late-later k a b (Refused i c f) h = h
 -- ---- the step
 
 -- neither problem reads the gradient
-module _ (n m : ℕ) (factor gradient : List Float) (kinds : List ℕ) (values jacobian lower upper : List Float) where
-  exact-bare : (f : List Float) → exact (problemOf n m factor [] kinds values jacobian lower upper) f ≡ exact (problemOf n m factor gradient kinds values jacobian lower upper) f
+module _ (n m : ℕ) (factor gradient : List Float) (kinds : List ℕ) (values widths jacobian lower upper : List Float) where
+  exact-bare : (f : List Float) → exact (problemOf n m factor [] kinds values widths jacobian lower upper) f ≡ exact (problemOf n m factor gradient kinds values widths jacobian lower upper) f
   unfolding exact exactStep equalityRows inequalityRows boundRows
   exact-bare f = refl
 
-  relaxed-bare : (f : List Float) → relaxed (problemOf n m factor [] kinds values jacobian lower upper) f ≡ relaxed (problemOf n m factor gradient kinds values jacobian lower upper) f
+  relaxed-bare : (f : List Float) → relaxed (problemOf n m factor [] kinds values widths jacobian lower upper) f ≡ relaxed (problemOf n m factor gradient kinds values widths jacobian lower upper) f
   unfolding relaxed relaxedStep relaxedRows boundRows
   relaxed-bare f = refl
 
-  target-is : map neg (downward n (transposed n n factor) n gradient) ≡ target (problemOf n m factor gradient kinds values jacobian lower upper)
+  target-is : map neg (downward n (transposed n n factor) n gradient) ≡ target (problemOf n m factor gradient kinds values widths jacobian lower upper)
   unfolding target
   target-is = refl
 
   abbrev p : Problem
-  p = problemOf n m factor gradient kinds values jacobian lower upper
+  p = problemOf n m factor gradient kinds values widths jacobian lower upper
 
   -- the exact problem is done
   pub step-first : (x : Float) (a b : ℕ) (w w′ : List Float) → vec 0 n w ≡ map neg (downward n (transposed n n factor) n gradient)
-      → Tries (exact (problemOf n m factor [] kinds values jacobian lower upper) (vec 0 n w)) n m (Done x a b) w w′
+      → Tries (exact (problemOf n m factor [] kinds values widths jacobian lower upper) (vec 0 n w)) n m (Done x a b) w w′
       → EndsStep n m (Stepped.Done x (record { exact = Passed; relaxed = Passed; rounds = a; factorings = b })) w′ p
   unfolding step reportOf
   step-first x a b w w′ e t =
@@ -71,8 +71,8 @@ module _ (n m : ℕ) (factor gradient : List Float) (kinds : List ℕ) (values j
 
   -- it is refused, and the relaxed one answers
   pub step-second : (k : Refusal) (a b : ℕ) (r : Tried) (w w′ w″ : List Float) → vec 0 n w ≡ map neg (downward n (transposed n n factor) n gradient)
-      → Tries (exact (problemOf n m factor [] kinds values jacobian lower upper) (vec 0 n w)) n m (Refused k a b) w w′
-      → Tries (relaxed (problemOf n m factor [] kinds values jacobian lower upper) (vec 0 n w′)) n m r w′ w″
+      → Tries (exact (problemOf n m factor [] kinds values widths jacobian lower upper) (vec 0 n w)) n m (Refused k a b) w w′
+      → Tries (relaxed (problemOf n m factor [] kinds values widths jacobian lower upper) (vec 0 n w′)) n m r w′ w″
       → EndsStep n m (later k a b r) w″ p
   unfolding step reportOf
   step-second k a b r w w′ w″ e t u =

@@ -1,13 +1,11 @@
 -- The exact problem: what is written for LSEI, and what its answer becomes.
 use mathlib.Core.Path.{_≡_, refl, sym, ap, ap₂, _∙_}
-use mathlib.Core.Bool.{true}
 use mathlib.Core.List.{List, [], _∷_, _++_}
 use Prim.Native.Nat.{ℕ, _+_, _*_, _-_, _≤_, _<_}
 use native.Mathlib.Nat.{mul-le-mul}
 use native.Mathlib.Omega.{arith}
-use lib.Dec.{eqb}
 use lib.ListN.{length, drop}
-use lib.Ieee.{Float, neg}
+use lib.Ieee.{Float}
 use borrow.Rule.Slice.PartMut.{midOf, putMid}
 use Rattle.numbers.specs.Numbers.{+0, at, nth, row, transposed}
 use Rattle.workspace.specs.Tables.{outcomeOf}
@@ -21,9 +19,9 @@ use Rattle.nnls.specs.Counted.{Counted}
 use Rattle.lsei.specs.Lsei.{Solution, lsei}
 use Rattle.lsei.proofs.Costs.{lsei-most}
 use Rattle.lsei.proofs.Together.{sides-part}
-use Rattle.step_rows.specs.Problem.{problemOf, Problem, rowOf, matrixOf, sidesOf, each, boundRows, equalityRows, inequalityRows}
+use Rattle.step_rows.specs.Problem.{problemOf, Problem, constraintOf, matrixOf, sidesOf, each, boundRows, equationOf, equalityRows, inequalityRows}
 use Rattle.step.specs.Step.{Step, inOrder, exactStep, exact}
-use Rattle.step_rows.specs.inner.Work.{Pushed, picked, equalitiesAmong, inequalitiesAmong}
+use Rattle.step_rows.specs.inner.Work.{Pushed, equalitiesAmong, floorsAmong}
 use Rattle.step_rows.proofs.Pushing.{pushed-count, pushed-matrix, pushed-sides}
 use Rattle.step_rows.proofs.Among.{all-equal, enough-exact}
 use Rattle.lsei.specs.inner.Work.{endingAnswer, endedSolution, sides}
@@ -38,20 +36,20 @@ use Rattle.step.proofs.Parts.{stack-mat, vec-back, front-back}
 
 -- ---- what is written: C, d, E, f and G with h, one behind the other
 
-module _ (n m c g : ℕ) (factor : List Float) (kinds : List ℕ) (values jacobian lower upper w w₁ w₂ w₃ w₄ w₅ : List Float) (n16 : n ≤ 16) (m16 : m ≤ 16) (cm : c ≤ m) (g48 : g ≤ 48)
-    (C : Pushed 444 n 0 c (each m (λ j. picked true (eqb (nth kinds j) 0) (rowOf (row n j jacobian) (neg (at values j))))) w w₁)
+module _ (n m c g : ℕ) (factor : List Float) (kinds : List ℕ) (values widths jacobian lower upper w w₁ w₂ w₃ w₄ w₅ : List Float) (n16 : n ≤ 16) (m16 : m ≤ 16) (cm : c ≤ m) (g64 : g ≤ 64)
+    (C : Pushed 444 n 0 c (each m (λ j. equationOf (constraintOf (nth kinds j) (at widths j)) (row n j jacobian) (at values j))) w w₁)
     (D : Block 732 c (λ t. at w₁ (444 + t * 18 + n)) w₁ w₂)
     (E : Loaded 750 n n factor w₂ w₃)
     (F : Block 1056 n (λ t. at w₃ (0 + t)) w₃ w₄)
-    (G : Pushed 1074 n 0 g (inequalityRows (problemOf n m [] [] kinds values jacobian lower upper)) w₄ w₅) where
+    (G : Pushed 1074 n 0 g (inequalityRows (problemOf n m [] [] kinds values widths jacobian lower upper)) w₄ w₅) where
   abbrev whole : Problem
-  whole = problemOf n m factor [] kinds values jacobian lower upper
+  whole = problemOf n m factor [] kinds values widths jacobian lower upper
 
-  equalities-are : each m (λ j. picked true (eqb (nth kinds j) 0) (rowOf (row n j jacobian) (neg (at values j)))) ≡ equalityRows whole
+  equalities-are : each m (λ j. equationOf (constraintOf (nth kinds j) (at widths j)) (row n j jacobian) (at values j)) ≡ equalityRows whole
   unfolding equalityRows
   equalities-are = refl
 
-  inequalities-are : inequalityRows (problemOf n m [] [] kinds values jacobian lower upper) ≡ inequalityRows whole
+  inequalities-are : inequalityRows (problemOf n m [] [] kinds values widths jacobian lower upper) ≡ inequalityRows whole
   unfolding inequalityRows boundRows
   inequalities-are = refl
 
@@ -82,7 +80,7 @@ module _ (n m c g : ℕ) (factor : List Float) (kinds : List ℕ) (values jacobi
   pub exact-in : ExactIn whole (vec 0 n w) (record { equalities = c; inequalities = g }) w₅
   exact-in = record {
     few = omega arith;
-    several = g48;
+    several = g64;
     equalities = pushed-count 444 n c _ w w₁ C ∙ ap length equalities-are;
     inequalities = pushed-count 1074 n g _ w₄ w₅ G ∙ ap length inequalities-are;
     the-c =
@@ -141,7 +139,7 @@ module _ (p : Problem) (f : List Float) (c g : ℕ) (w v : List Float) (e : Ende
       let a = factorings-are e (solutionIn (p .n) c g v) eqs (exactStep p (length (equalityRows p))) solved in
       let b = lsei-most (p .n) (length (equalityRows p)) (p .n) (length (inequalityRows p)) (matrixOf (equalityRows p)) (sidesOf (equalityRows p))
       (transposed (p .n) (p .n) (p .factor)) f (matrixOf (inequalityRows p)) (sidesOf (inequalityRows p)) in
-      let k : length (inequalityRows p) ≤ 48 = omega (arith, X .inequalities, X .several) in
+      let k : length (inequalityRows p) ≤ 64 = omega (arith, X .inequalities, X .several) in
       omega (arith, a, b, mul-le-mul k k, k)
 
   front-left : vec 0 (p .n) left ≡ f
@@ -177,5 +175,5 @@ module _ (p : Problem) (f : List Float) (c g : ℕ) (w v : List Float) (e : Ende
 
 -- the kinds, as its answer is read
 pub exact-counts : (p : Problem) (f : List Float) (c g : ℕ) (w : List Float) → length (p .kinds) ≡ p .m → ExactIn p f (record { equalities = c; inequalities = g }) w
-    → (c ≡ equalitiesAmong (p .kinds)) × (inequalitiesAmong (p .kinds) ≤ g)
-exact-counts p f c g w e X = (X .equalities ∙ all-equal p e, omega (arith, enough-exact p e, X .inequalities))
+    → (c ≡ equalitiesAmong (p .kinds)) × (floorsAmong (p .kinds) ≤ g) × (g ≤ 64)
+exact-counts p f c g w e X = (X .equalities ∙ all-equal p e, omega (arith, enough-exact p e, X .inequalities), X .several)

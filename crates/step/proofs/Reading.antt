@@ -1,7 +1,7 @@
 -- What is left of an answer that is read: the multipliers at 36, and the step at 18.
 use mathlib.Core.Path.{_≡_, refl, sym, ap, ap₂, _∙_}
 use mathlib.Core.List.{List, [], _∷_}
-use Prim.Native.Nat.{ℕ, zero, suc, _+_, _≤_, _<_}
+use Prim.Native.Nat.{ℕ, suc, _+_, _≤_, _<_}
 use native.Mathlib.Omega.{arith}
 use lib.ListN.{length, take}
 use lib.Seq.{length-take-le, getD-take}
@@ -11,20 +11,19 @@ use Rattle.numbers.proofs.Lists.{by-entries, tab-of}
 use Rattle.workspace.specs.inner.Readings.{vec, Block}
 use Rattle.workspace.proofs.Readings.{length-vec, at-vec, vec-same, vec-is}
 use Rattle.workspace.proofs.Writes.{block-vec}
+use Rattle.step_rows.specs.Problem.{byKind}
 use Rattle.step.specs.Step.{inOrder, paired}
 use Rattle.step.specs.inner.Work.{Left}
 
 pub length-inOrder : (ks : List ℕ) (e i : ℕ) (l : List Float) → length (inOrder ks e i l) ≡ length ks
 unfolding inOrder
 length-inOrder [] e i l = refl
-length-inOrder (zero ∷ ks) e i l = ap suc (length-inOrder ks (suc e) i l)
-length-inOrder (suc k ∷ ks) e i l = ap suc (length-inOrder ks e (suc i) l)
+length-inOrder (k ∷ ks) e i l = ap suc (length-inOrder ks (byKind k (e + 1) e e) (byKind k i (i + 1) (i + 2)) l)
 
 pub length-paired : (ks : List ℕ) (r : ℕ) (l : List Float) → length (paired ks r l) ≡ length ks
 unfolding paired
 length-paired [] r l = refl
-length-paired (zero ∷ ks) r l = ap suc (length-paired ks (r + 2) l)
-length-paired (suc k ∷ ks) r l = ap suc (length-paired ks (r + 1) l)
+length-paired (k ∷ ks) r l = ap suc (length-paired ks (byKind k (r + 2) (r + 1) (r + 2)) l)
 
 -- the multipliers l are written, and then n entries from o on are copied down
 pub left-is : (o n m : ℕ) (l w w₁ w₂ : List Float) → n ≤ 16 → m ≤ 16 → 52 ≤ o → length l ≡ m → Block 36 m (λ t. at l t) w w₁ → Block 18 n (λ t. at w₁ (o + t)) w₁ w₂

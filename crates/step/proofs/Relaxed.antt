@@ -36,14 +36,14 @@ use Rattle.step.proofs.Parts.{vec-back, front-back}
 
 -- ---- what is written: E, f and G with h, one behind the other
 
-module _ (n m g : ℕ) (r : Float) (factor : List Float) (kinds : List ℕ) (values jacobian lower upper w w₁ w₂ w₃ : List Float) (n16 : n ≤ 16) (g66 : g ≤ 66) (q : r ≡ rootWeight)
+module _ (n m g : ℕ) (r : Float) (factor : List Float) (kinds : List ℕ) (values widths jacobian lower upper w w₁ w₂ w₃ : List Float) (n16 : n ≤ 16) (g66 : g ≤ 66) (q : r ≡ rootWeight)
     (E : Loaded 444 (n + 1) (n + 1) (relaxedMatrix n r factor) w w₁)
     (F : Block 750 (n + 1) (λ t. at (vec 0 n w₁ ++ (+0 ∷ [])) t) w₁ w₂)
-    (G : Pushed 768 (n + 1) 0 g (relaxedRows (problemOf n m [] [] kinds values jacobian lower upper)) w₂ w₃) where
+    (G : Pushed 768 (n + 1) 0 g (relaxedRows (problemOf n m [] [] kinds values widths jacobian lower upper)) w₂ w₃) where
   abbrev whole : Problem
-  whole = problemOf n m factor [] kinds values jacobian lower upper
+  whole = problemOf n m factor [] kinds values widths jacobian lower upper
 
-  rows-are : relaxedRows (problemOf n m [] [] kinds values jacobian lower upper) ≡ relaxedRows whole
+  rows-are : relaxedRows (problemOf n m [] [] kinds values widths jacobian lower upper) ≡ relaxedRows whole
   unfolding relaxedRows boundRows
   rows-are = refl
 

@@ -10,7 +10,7 @@ use Rattle.workspace.specs.Tables.{Answer, done, refused, numberOf, placeOf, no
 use Rattle.householder.specs.Qr.{downward}
 use Rattle.nnls.specs.Counted.{Counted, andThen, after}
 use Rattle.lsei.specs.Lsei.{Solution, lsi, lsei}
-use Rattle.step_rows.specs.Problem.{Problem, matrixOf, sidesOf, equalityRows, inequalityRows, relaxedRows}
+use Rattle.step_rows.specs.Problem.{Problem, byKind, matrixOf, sidesOf, equalityRows, inequalityRows, relaxedRows}
 use Rattle.step.specs.declared.Stage.{Stage}
 use Rattle.step.specs.declared.Stage.the-variants.{Passed, Failed}
 use Rattle.step.specs.declared.Report.{Report}
@@ -27,23 +27,24 @@ target p = map neg (downward (p .n) (transposed (p .n) (p .n) (p .factor)) (p .n
 
 -- ---- the exact problem: E is L', the whole square of it
 
--- The multipliers come equalities first, then inequalities: e of the former and i places of all are passed.
+-- The multipliers come equalities first, then the rows of floors and bands: e of the former and i places of all are passed. A band's is that of its first row less that of its second.
 unfoldable pub inOrder : (kinds : List ℕ) (e i : ℕ) (l : List Float) → List Float
 inOrder [] e i l = []
-inOrder (zero ∷ ks) e i l = at l e ∷ inOrder ks (suc e) i l
-inOrder (suc k ∷ ks) e i l = at l i ∷ inOrder ks e (suc i) l
+inOrder (k ∷ ks) e i l = byKind k (at l e) (at l i) (at l i ⊖ at l (i + 1)) ∷ inOrder ks (byKind k (e + 1) e e) (byKind k i (i + 1) (i + 2)) l
 
 unfoldable pub exactStep : Problem → ℕ → Solution → Step
 exactStep p equalities s = record { d = s .x; multipliers = inOrder (p .kinds) 0 equalities (s .multipliers); relaxation = +0 }
 
-unfoldable pub exact : Problem → List Float → Counted Step
-exact p f =
+-- its solution, with a multiplier for each row
+abbrev pub exactSolution : Problem → List Float → Counted Solution
+exactSolution p f =
     let n = p .n in
     let eqs = equalityRows p in
     let ineqs = inequalityRows p in
-    let c = length eqs in
-    andThen (lsei n c n (length ineqs) (matrixOf eqs) (sidesOf eqs) (transposed n n (p .factor)) f (matrixOf ineqs) (sidesOf ineqs))
-    (λ s. done (exactStep p c s))
+    lsei n (length eqs) n (length ineqs) (matrixOf eqs) (sidesOf eqs) (transposed n n (p .factor)) f (matrixOf ineqs) (sidesOf ineqs)
+
+unfoldable pub exact : Problem → List Float → Counted Step
+exact p f = andThen (exactSolution p f) (λ s. done (exactStep p (length (equalityRows p)) s))
 
 -- ---- the relaxed problem: E is the upper triangle of L', and in the corner the root of the weight of delta
 
@@ -57,11 +58,12 @@ rootWeight = near 1000 1
 unfoldable pub relaxedMatrix : (n : ℕ) (corner : Float) (factor : List Float) → List Float
 relaxedMatrix n corner factor = grid (n + 1) (n + 1) (λ i j. cond (leb i j && ltb j n) (entry n factor j i) (cond (eqb i n && eqb j n) corner +0))
 
--- an equality's multiplier is that of its first row less that of its second; `next` rows are passed
+-- an equality's multiplier, and a band's, is that of its first row less that of its second; `next` rows are passed
 unfoldable pub paired : (kinds : List ℕ) (next : ℕ) (l : List Float) → List Float
 paired [] next l = []
-paired (zero ∷ ks) next l = (at l next ⊖ at l (next + 1)) ∷ paired ks (next + 2) l
-paired (suc k ∷ ks) next l = at l next ∷ paired ks (next + 1) l
+paired (k ∷ ks) next l =
+    let pair = at l next ⊖ at l (next + 1) in
+    byKind k pair (at l next) pair ∷ paired ks (byKind k (next + 2) (next + 1) (next + 2)) l
 
 -- clamped to [0, 1]: NaN and -0 stay
 unfoldable pub clamped : Float → Float
@@ -70,10 +72,13 @@ clamped v = cond (lt v +0) +0 (cond (lt one v) one v)
 unfoldable pub relaxedStep : Problem → Solution → Step
 relaxedStep p s = record { d = take (p .n) (s .x); multipliers = paired (p .kinds) 0 (s .multipliers); relaxation = clamped (at (s .x) (p .n)) }
 
-unfoldable pub relaxed : Problem → List Float → Counted Step
-relaxed p f =
+abbrev pub relaxedSolution : Problem → List Float → Counted Solution
+relaxedSolution p f =
     let rs = relaxedRows p in
-    andThen (lsi (p .n + 1) (p .n + 1) (length rs) (relaxedMatrix (p .n) rootWeight (p .factor)) (f ++ (+0 ∷ [])) (matrixOf rs) (sidesOf rs)) (λ s. done (relaxedStep p s))
+    lsi (p .n + 1) (p .n + 1) (length rs) (relaxedMatrix (p .n) rootWeight (p .factor)) (f ++ (+0 ∷ [])) (matrixOf rs) (sidesOf rs)
+
+unfoldable pub relaxed : Problem → List Float → Counted Step
+relaxed p f = andThen (relaxedSolution p f) (λ s. done (relaxedStep p s))
 
 -- ---- the step
 

@@ -2,15 +2,16 @@
 ghost use mathlib.Core.Path.{_≡_};
 ghost use mathlib.Core.Bool.{cond};
 ghost use mathlib.Core.List.{[], _∷_, _++_, map};
-ghost use Prim.Native.Nat.{ℕ, _+_, _*_, _-_, _≤_, _<_};
-ghost use lib.Dec.{leb, eqb};
+ghost use Prim.Native.Nat.{ℕ, _+_, _*_, _≤_, _<_};
+ghost use lib.Dec.{leb};
 ghost use lib.ListN.{length};
 ghost use lib.Ieee.{neg};
 ghost use Rattle.numbers.specs.Numbers.{+0, Σ, at, transposed, _⊖_, _⊗_, _⊘_};
 ghost use Rattle.workspace.specs.inner.Readings.{vec, Block, Loaded};
 ghost use Rattle.householder.specs.Qr.{downward};
+ghost use Rattle.step_rows.specs.Problem.{byKind};
 ghost use Rattle.step.specs.Step.{inOrder, relaxedMatrix, paired, clamped};
-ghost use Rattle.step_rows.specs.inner.Work.{equalitiesAmong, inequalitiesAmong, relaxedAmong};
+ghost use Rattle.step_rows.specs.inner.Work.{equalitiesAmong, floorsAmong, relaxedAmong};
 ghost use Rattle.step.specs.inner.Assembly.{triangle};
 ghost use Rattle.step.specs.inner.Places.{EXACT_C, EXACT_EQUALITY_MULTIPLIERS, EXACT_MULTIPLIERS, EXACT_X, RELAXED_E, RELAXED_F, RELAXED_G, RELAXED_MULTIPLIERS, STEP_MULTIPLIERS};
 
@@ -110,21 +111,25 @@ pub fn write_matrix(factor: &[f64], w: &mut [f64], n: usize, root: f64)
 
 // ---- the multipliers, one per constraint in constraint order
 
-// Where the multiplier of constraint j of the exact problem stands, e equalities being passed.
-fn place_of(kind: u8, e: usize, j: usize) -> usize
-    requires { ⌜ (e ≤ j) × (j ≤ 16) ⌝ }
-    ensures { λ r. ⌜ (r ≡ cond (eqb kind 0) (EXACT_EQUALITY_MULTIPLIERS + e) (EXACT_MULTIPLIERS + (j - e))) × (EXACT_EQUALITY_MULTIPLIERS ≤ r) × (r < EXACT_MULTIPLIERS + 17) ⌝ }
+// The multiplier of a constraint of the exact problem, e equalities and i rows of floors and bands being passed: of a band, that of its first row less that of its second.
+fn ordered_of(kind: u8, w: &[f64], e: usize, i: usize) -> f64
+    requires { ⌜ (e ≤ 16) × (i ≤ 64) × (EXACT_MULTIPLIERS + 66 ≤ length (now w)) ⌝ }
+    ensures { λ v. ⌜ v ≡ byKind kind (at (now (w .entry)) (EXACT_EQUALITY_MULTIPLIERS + e)) (at (now (w .entry)) (EXACT_MULTIPLIERS + i)) (at (now (w .entry)) (EXACT_MULTIPLIERS + i) ⊖ at (now (w .entry)) (EXACT_MULTIPLIERS + i + 1)) ⌝ }
 {
+    let q = crate::EXACT_MULTIPLIERS + i;
     if kind == 0 {
-        return crate::EXACT_EQUALITY_MULTIPLIERS + e;
+        return w[crate::EXACT_EQUALITY_MULTIPLIERS + e];
     }
-    crate::EXACT_MULTIPLIERS + (j - e)
+    if kind == 1 {
+        return w[q];
+    }
+    w[q] - w[q + 1]
 }
 
 // How many equalities are passed after a constraint.
 fn passed(kind: u8, e: usize) -> usize
     requires { ⌜ e ≤ 16 ⌝ }
-    ensures { λ r. ⌜ r ≡ cond (eqb kind 0) (e + 1) e ⌝ }
+    ensures { λ r. ⌜ r ≡ byKind kind (e + 1) e e ⌝ }
 {
     if kind == 0 {
         return e + 1;
@@ -132,41 +137,57 @@ fn passed(kind: u8, e: usize) -> usize
     e
 }
 
-// Those of the exact problem, of c equalities and g inequalities.
+// How many rows of floors and bands are passed after a constraint.
+fn passed_floors(kind: u8, i: usize) -> usize
+    requires { ⌜ i ≤ 64 ⌝ }
+    ensures { λ r. ⌜ r ≡ byKind kind i (i + 1) (i + 2) ⌝ }
+{
+    if kind == 0 {
+        return i;
+    }
+    if kind == 1 {
+        return i + 1;
+    }
+    i + 2
+}
+
+// Those of the exact problem, of c equalities and g rows of inequalities.
 pub fn order_multipliers(kinds: &[u8], w: &mut [f64], m: usize, c: usize, g: usize)
-    requires { ⌜ (m ≤ 16) × (length (now kinds) ≡ m) × (c ≡ equalitiesAmong (now kinds)) × (inequalitiesAmong (now kinds) ≤ g) × (EXACT_MULTIPLIERS + 17 ≤ length (now w)) ⌝ }
+    requires { ⌜ (m ≤ 16) × (length (now kinds) ≡ m) × (c ≡ equalitiesAmong (now kinds)) × (floorsAmong (now kinds) ≤ g) × (g ≤ 64) × (EXACT_MULTIPLIERS + 66 ≤ length (now w)) ⌝ }
     ensures { λ _. ⌜ Block STEP_MULTIPLIERS m (λ t. at (inOrder (now (kinds .entry)) 0 c (vec EXACT_EQUALITY_MULTIPLIERS c (now (w .entry)) ++ vec EXACT_MULTIPLIERS g (now (w .entry)))) t) (now (w .entry)) (now (w .exit)) ⌝ }
 {
     let mut e = 0;
+    let mut i = 0;
     for j in 0..m {
         let kind = kinds[j];
-        let v = w[place_of(kind, e, j)];
+        let v = ordered_of(kind, w, e, i);
         w[crate::STEP_MULTIPLIERS + j] = v;
         e = passed(kind, e);
+        i = passed_floors(kind, i);
     }
 }
 
-// The multiplier of a constraint of the relaxed problem, r rows being passed: of an equality, that of its first row less that of its second.
+// The multiplier of a constraint of the relaxed problem, r rows being passed: of an equality or a band, that of its first row less that of its second.
 fn paired_of(kind: u8, w: &[f64], r: usize) -> f64
     requires { ⌜ (r ≤ 65) × (RELAXED_MULTIPLIERS + 67 ≤ length (now w)) ⌝ }
-    ensures { λ v. ⌜ v ≡ cond (eqb kind 0) (at (now (w .entry)) (RELAXED_MULTIPLIERS + r) ⊖ at (now (w .entry)) (RELAXED_MULTIPLIERS + r + 1)) (at (now (w .entry)) (RELAXED_MULTIPLIERS + r)) ⌝ }
+    ensures { λ v. ⌜ v ≡ byKind kind (at (now (w .entry)) (RELAXED_MULTIPLIERS + r) ⊖ at (now (w .entry)) (RELAXED_MULTIPLIERS + r + 1)) (at (now (w .entry)) (RELAXED_MULTIPLIERS + r)) (at (now (w .entry)) (RELAXED_MULTIPLIERS + r) ⊖ at (now (w .entry)) (RELAXED_MULTIPLIERS + r + 1)) ⌝ }
 {
     let p = crate::RELAXED_MULTIPLIERS + r;
-    if kind == 0 {
-        return w[p] - w[p + 1];
+    if kind == 1 {
+        return w[p];
     }
-    w[p]
+    w[p] - w[p + 1]
 }
 
 // How many rows are passed after a constraint of the relaxed problem.
 fn passed_rows(kind: u8, r: usize) -> usize
     requires { ⌜ r ≤ 65 ⌝ }
-    ensures { λ v. ⌜ v ≡ cond (eqb kind 0) (r + 2) (r + 1) ⌝ }
+    ensures { λ v. ⌜ v ≡ byKind kind (r + 2) (r + 1) (r + 2) ⌝ }
 {
-    if kind == 0 {
-        return r + 2;
+    if kind == 1 {
+        return r + 1;
     }
-    r + 1
+    r + 2
 }
 
 // Those of the relaxed problem, of g rows.

@@ -11,7 +11,7 @@ ghost use Rattle.numbers.specs.Numbers.{at};
 ghost use Rattle.workspace.specs.inner.Readings.{vec};
 ghost use Rattle.nnls.specs.Counted.{Counted};
 ghost use Rattle.step.specs.Step.{inOrder, paired, clamped, exact, relaxed, stageNumber, stagePlace};
-ghost use Rattle.step_rows.specs.inner.Work.{equalitiesAmong, inequalitiesAmong, relaxedAmong};
+ghost use Rattle.step_rows.specs.inner.Work.{equalitiesAmong, floorsAmong, relaxedAmong};
 ghost use Rattle.step_rows.specs.Problem.{problemOf};
 ghost use Rattle.step.specs.inner.Work.{StepReady, ExactIn, RelaxedIn, Readable, Left, Tries, roundsOf, factoringsOf, later, EndsStep};
 ghost use Rattle.step.specs.inner.Places.{EXACT_EQUALITY_MULTIPLIERS, EXACT_MULTIPLIERS, EXACT_X, RELAXED_MULTIPLIERS, RELAXED_X, STEP_WORDS};
@@ -124,6 +124,7 @@ fn write_exact(
     factor: &[f64],
     kinds: &[u8],
     values: &[f64],
+    widths: &[f64],
     jacobian: &[f64],
     lower: &[f64],
     upper: &[f64],
@@ -131,14 +132,25 @@ fn write_exact(
     n: usize,
     m: usize,
 ) -> Sizes
-    requires { ⌜ StepReady n m (now factor) (now kinds) (now values) (now jacobian) (now lower) (now upper) (now w) ⌝ }
-    ensures { λ r. ⌜ ExactIn (problemOf n m (now (factor .entry)) [] (now (kinds .entry)) (now (values .entry)) (now (jacobian .entry)) (now (lower .entry)) (now (upper .entry))) (vec 0 n (now (w .entry))) r (now (w .exit)) ⌝ }
+    requires { ⌜ StepReady n m (now factor) (now kinds) (now values) (now widths) (now jacobian) (now lower) (now upper) (now w) ⌝ }
+    ensures { λ r. ⌜ ExactIn (problemOf n m (now (factor .entry)) [] (now (kinds .entry)) (now (values .entry)) (now (widths .entry)) (now (jacobian .entry)) (now (lower .entry)) (now (upper .entry))) (vec 0 n (now (w .entry))) r (now (w .exit)) ⌝ }
 {
-    let c = step_rows::push_constraints(kinds, values, jacobian, w, EXACT_C, n, m, true);
+    let c = step_rows::push_equalities(kinds, values, widths, jacobian, w, EXACT_C, n, m);
     assembly::gather_sides(w, c, n);
     workspace::load_matrix(factor, w, EXACT_E, n, n);
     workspace::copy_up(w, 0, EXACT_F, n);
-    let g = step_rows::push_inequalities(kinds, values, jacobian, lower, upper, w, EXACT_G, n, m);
+    let g = step_rows::push_inequalities(
+        kinds,
+        values,
+        widths,
+        jacobian,
+        lower,
+        upper,
+        w,
+        EXACT_G,
+        n,
+        m,
+    );
     Sizes {
         equalities: c,
         inequalities: g,
@@ -147,7 +159,7 @@ fn write_exact(
 
 // From LSEI's answer: the multipliers in constraint order, and the step.
 fn read_exact(kinds: &[u8], w: &mut [f64], n: usize, m: usize, c: usize, g: usize)
-    requires { ⌜ Readable n m (now kinds) (now w) × (c ≡ equalitiesAmong (now kinds)) × (inequalitiesAmong (now kinds) ≤ g) ⌝ }
+    requires { ⌜ Readable n m (now kinds) (now w) × (c ≡ equalitiesAmong (now kinds)) × (floorsAmong (now kinds) ≤ g) × (g ≤ 64) ⌝ }
     ensures { λ _. ⌜ Left n m (vec EXACT_X n (now (w .entry))) (inOrder (now (kinds .entry)) 0 c (vec EXACT_EQUALITY_MULTIPLIERS c (now (w .entry)) ++ vec EXACT_MULTIPLIERS g (now (w .entry)))) (now (w .entry)) (now (w .exit)) ⌝ }
 {
     assembly::order_multipliers(kinds, w, m, c, g);
@@ -159,6 +171,7 @@ fn try_exact(
     factor: &[f64],
     kinds: &[u8],
     values: &[f64],
+    widths: &[f64],
     jacobian: &[f64],
     lower: &[f64],
     upper: &[f64],
@@ -167,10 +180,21 @@ fn try_exact(
     n: usize,
     m: usize,
 ) -> Tried
-    requires { ⌜ StepReady n m (now factor) (now kinds) (now values) (now jacobian) (now lower) (now upper) (now w) × (STEP_WORDS ≤ length (now iw)) ⌝ }
-    ensures { λ r. ⌜ Tries (exact (problemOf n m (now (factor .entry)) [] (now (kinds .entry)) (now (values .entry)) (now (jacobian .entry)) (now (lower .entry)) (now (upper .entry))) (vec 0 n (now (w .entry)))) n m r (now (w .entry)) (now (w .exit)) ⌝ }
+    requires { ⌜ StepReady n m (now factor) (now kinds) (now values) (now widths) (now jacobian) (now lower) (now upper) (now w) × (STEP_WORDS ≤ length (now iw)) ⌝ }
+    ensures { λ r. ⌜ Tries (exact (problemOf n m (now (factor .entry)) [] (now (kinds .entry)) (now (values .entry)) (now (widths .entry)) (now (jacobian .entry)) (now (lower .entry)) (now (upper .entry))) (vec 0 n (now (w .entry)))) n m r (now (w .entry)) (now (w .exit)) ⌝ }
 {
-    let s = write_exact(factor, kinds, values, jacobian, lower, upper, w, n, m);
+    let s = write_exact(
+        factor,
+        kinds,
+        values,
+        widths,
+        jacobian,
+        lower,
+        upper,
+        w,
+        n,
+        m,
+    );
     let c = s.equalities;
     let g = s.inequalities;
     let e = lsei_nullspace::solve_lsei(&mut w[STEP_LENT..], iw, n, c, n, g);
@@ -192,6 +216,7 @@ fn write_relaxed(
     factor: &[f64],
     kinds: &[u8],
     values: &[f64],
+    widths: &[f64],
     jacobian: &[f64],
     lower: &[f64],
     upper: &[f64],
@@ -199,13 +224,24 @@ fn write_relaxed(
     n: usize,
     m: usize,
 ) -> usize
-    requires { ⌜ StepReady n m (now factor) (now kinds) (now values) (now jacobian) (now lower) (now upper) (now w) ⌝ }
-    ensures { λ r. ⌜ RelaxedIn (problemOf n m (now (factor .entry)) [] (now (kinds .entry)) (now (values .entry)) (now (jacobian .entry)) (now (lower .entry)) (now (upper .entry))) (vec 0 n (now (w .entry))) r (now (w .exit)) ⌝ }
+    requires { ⌜ StepReady n m (now factor) (now kinds) (now values) (now widths) (now jacobian) (now lower) (now upper) (now w) ⌝ }
+    ensures { λ r. ⌜ RelaxedIn (problemOf n m (now (factor .entry)) [] (now (kinds .entry)) (now (values .entry)) (now (widths .entry)) (now (jacobian .entry)) (now (lower .entry)) (now (upper .entry))) (vec 0 n (now (w .entry))) r (now (w .exit)) ⌝ }
 {
     let root = numbers::sqrt(Step::RELAXATION_WEIGHT);
     assembly::write_matrix(factor, w, n, root);
     assembly::write_side(w, n);
-    step_rows::push_relaxed_rows(kinds, values, jacobian, lower, upper, w, RELAXED_G, n, m)
+    step_rows::push_relaxed_rows(
+        kinds,
+        values,
+        widths,
+        jacobian,
+        lower,
+        upper,
+        w,
+        RELAXED_G,
+        n,
+        m,
+    )
 }
 
 // From LSI's answer: the multipliers in constraint order, the step, and the relaxation.
@@ -224,6 +260,7 @@ fn try_relaxed(
     factor: &[f64],
     kinds: &[u8],
     values: &[f64],
+    widths: &[f64],
     jacobian: &[f64],
     lower: &[f64],
     upper: &[f64],
@@ -232,10 +269,21 @@ fn try_relaxed(
     n: usize,
     m: usize,
 ) -> Tried
-    requires { ⌜ StepReady n m (now factor) (now kinds) (now values) (now jacobian) (now lower) (now upper) (now w) × (STEP_WORDS ≤ length (now iw)) ⌝ }
-    ensures { λ r. ⌜ Tries (relaxed (problemOf n m (now (factor .entry)) [] (now (kinds .entry)) (now (values .entry)) (now (jacobian .entry)) (now (lower .entry)) (now (upper .entry))) (vec 0 n (now (w .entry)))) n m r (now (w .entry)) (now (w .exit)) ⌝ }
+    requires { ⌜ StepReady n m (now factor) (now kinds) (now values) (now widths) (now jacobian) (now lower) (now upper) (now w) × (STEP_WORDS ≤ length (now iw)) ⌝ }
+    ensures { λ r. ⌜ Tries (relaxed (problemOf n m (now (factor .entry)) [] (now (kinds .entry)) (now (values .entry)) (now (widths .entry)) (now (jacobian .entry)) (now (lower .entry)) (now (upper .entry))) (vec 0 n (now (w .entry)))) n m r (now (w .entry)) (now (w .exit)) ⌝ }
 {
-    let g = write_relaxed(factor, kinds, values, jacobian, lower, upper, w, n, m);
+    let g = write_relaxed(
+        factor,
+        kinds,
+        values,
+        widths,
+        jacobian,
+        lower,
+        upper,
+        w,
+        n,
+        m,
+    );
     let e = lsei::solve_lsi(&mut w[STEP_LENT..], iw, n + 1, n + 1, g);
     let ending = e.ending;
     let told = ending.outcome();
@@ -283,6 +331,7 @@ pub fn solve_step(
     gradient: &[f64],
     kinds: &[u8],
     values: &[f64],
+    widths: &[f64],
     jacobian: &[f64],
     lower: &[f64],
     upper: &[f64],
@@ -291,11 +340,23 @@ pub fn solve_step(
     n: usize,
     m: usize,
 ) -> Stepped
-    requires { ⌜ StepReady n m (now factor) (now kinds) (now values) (now jacobian) (now lower) (now upper) (now w) × (length (now gradient) ≡ n) × (STEP_WORDS ≤ length (now iw)) ⌝ }
-    ensures { λ r. ⌜ EndsStep n m r (now (w .exit)) (problemOf n m (now (factor .entry)) (now (gradient .entry)) (now (kinds .entry)) (now (values .entry)) (now (jacobian .entry)) (now (lower .entry)) (now (upper .entry))) ⌝ }
+    requires { ⌜ StepReady n m (now factor) (now kinds) (now values) (now widths) (now jacobian) (now lower) (now upper) (now w) × (length (now gradient) ≡ n) × (STEP_WORDS ≤ length (now iw)) ⌝ }
+    ensures { λ r. ⌜ EndsStep n m r (now (w .exit)) (problemOf n m (now (factor .entry)) (now (gradient .entry)) (now (kinds .entry)) (now (values .entry)) (now (widths .entry)) (now (jacobian .entry)) (now (lower .entry)) (now (upper .entry))) ⌝ }
 {
     assembly::write_target(factor, gradient, w, n);
-    let first = try_exact(factor, kinds, values, jacobian, lower, upper, w, iw, n, m);
+    let first = try_exact(
+        factor,
+        kinds,
+        values,
+        widths,
+        jacobian,
+        lower,
+        upper,
+        w,
+        iw,
+        n,
+        m,
+    );
     match first {
         Tried::Done(relaxation, rounds, factorings) => Stepped::Done(
             relaxation,
@@ -307,7 +368,19 @@ pub fn solve_step(
             },
         ),
         Tried::Refused(why, rounds, factorings) => {
-            let second = try_relaxed(factor, kinds, values, jacobian, lower, upper, w, iw, n, m);
+            let second = try_relaxed(
+                factor,
+                kinds,
+                values,
+                widths,
+                jacobian,
+                lower,
+                upper,
+                w,
+                iw,
+                n,
+                m,
+            );
             after(why, rounds, factorings, second)
         }
     }

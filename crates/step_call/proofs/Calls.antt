@@ -11,8 +11,8 @@ use lib.Seq.{drop-cons}
 use lib.Ieee.{Float}
 use borrow.Author.Tests.{le-leb, lt-leb, eqb-true}
 use Rattle.numbers.specs.Numbers.{+0, nth}
-use Rattle.workspace.specs.Tables.{Answer, done, refused, isLate, call, cleared, isDimension, isConstraints}
-use Rattle.workspace.specs.declared.Refusal.the-variants.{Size, Length, Room, Kind}
+use Rattle.workspace.specs.Tables.{Answer, done, refused, isLate, call, test, cleared, isDimension, isConstraints}
+use Rattle.workspace.specs.declared.Refusal.the-variants.{Size, Length, Room, Kind, Width}
 use Rattle.workspace.specs.inner.Readings.{vec}
 use Rattle.workspace.proofs.Parts.{vec-front, front-cleared}
 use Rattle.workspace.proofs.Tests.{and-true, dimension-le, constraints-le}
@@ -42,23 +42,24 @@ lengths-are n m a b c d e h =
     let s = and-true (eqb a (n * n)) (eqb b n) (r .0) in
     (eqb-true a (n * n) (s .0), eqb-true b n (s .1), eqb-true c m (r .1), eqb-true d m (q .1), eqb-true e (m * n) (p .1))
 
-pub others-are : (n m a b c d : ℕ) → (eqb a n && eqb b n && eqb c n && eqb d m) ≡ true → (a ≡ n) × (b ≡ n) × (c ≡ n) × (d ≡ m)
-others-are n m a b c d h =
-    let p = and-true (eqb a n && eqb b n && eqb c n) (eqb d m) h in
-    let q = and-true (eqb a n && eqb b n) (eqb c n) (p .0) in
-    let r = and-true (eqb a n) (eqb b n) (q .0) in
-    (eqb-true a n (r .0), eqb-true b n (r .1), eqb-true c n (q .1), eqb-true d m (p .1))
+pub others-are : (n m x a b c d : ℕ) → (eqb x m && eqb a n && eqb b n && eqb c n && eqb d m) ≡ true → (x ≡ m) × (a ≡ n) × (b ≡ n) × (c ≡ n) × (d ≡ m)
+others-are n m x a b c d h =
+    let p = and-true (eqb x m && eqb a n && eqb b n && eqb c n) (eqb d m) h in
+    let q = and-true (eqb x m && eqb a n && eqb b n) (eqb c n) (p .0) in
+    let r = and-true (eqb x m && eqb a n) (eqb b n) (q .0) in
+    let s = and-true (eqb x m) (eqb a n) (r .0) in
+    (eqb-true x m (s .0), eqb-true a n (s .1), eqb-true b n (r .1), eqb-true c n (q .1), eqb-true d m (p .1))
 
 -- a kind a turn
-kinds-suc : (ks : List ℕ) (j : ℕ) → j < length ks → areKinds (drop j ks) ≡ (leb (nth ks j) 1 && areKinds (drop (j + 1) ks))
+kinds-suc : (ks : List ℕ) (j : ℕ) → j < length ks → areKinds (drop j ks) ≡ (leb (nth ks j) 2 && areKinds (drop (j + 1) ks))
 unfolding areKinds
 kinds-suc ks j h = rw (drop-cons ks j 0 h, add-one)
 
-pub kinds-more : (ks : List ℕ) (j : ℕ) → j < length ks → nth ks j ≤ 1 → areKinds ks ≡ areKinds (drop j ks) → areKinds ks ≡ areKinds (drop (j + 1) ks)
-kinds-more ks j h k e = e ∙ kinds-suc ks j h ∙ ap (λ (b : Bool). b && areKinds (drop (j + 1) ks)) (le-leb (nth ks j) 1 k)
+pub kinds-more : (ks : List ℕ) (j : ℕ) → j < length ks → nth ks j ≤ 2 → areKinds ks ≡ areKinds (drop j ks) → areKinds ks ≡ areKinds (drop (j + 1) ks)
+kinds-more ks j h k e = e ∙ kinds-suc ks j h ∙ ap (λ (b : Bool). b && areKinds (drop (j + 1) ks)) (le-leb (nth ks j) 2 k)
 
-pub kinds-bad : (ks : List ℕ) (j : ℕ) → j < length ks → 1 < nth ks j → areKinds ks ≡ areKinds (drop j ks) → false ≡ areKinds ks
-kinds-bad ks j h k e = sym (e ∙ kinds-suc ks j h ∙ ap (λ (b : Bool). b && areKinds (drop (j + 1) ks)) (lt-leb (nth ks j) 1 k))
+pub kinds-bad : (ks : List ℕ) (j : ℕ) → j < length ks → 2 < nth ks j → areKinds ks ≡ areKinds (drop j ks) → false ≡ areKinds ks
+kinds-bad ks j h k e = sym (e ∙ kinds-suc ks j h ∙ ap (λ (b : Bool). b && areKinds (drop (j + 1) ks)) (lt-leb (nth ks j) 2 k))
 
 pub kinds-all : (ks : List ℕ) (j : ℕ) → length ks ≤ j → areKinds ks ≡ areKinds (drop j ks) → true ≡ areKinds ks
 unfolding areKinds
@@ -79,19 +80,23 @@ module _ (a : Answer Step) (t : Report) (s l r k : Bool) (d x w : List Float) (i
   pub kind-refused : s ≡ true → l ≡ true → r ≡ true → k ≡ false → Steps (call s l r k a) t (Refused Kind) d d x x w w iw iw
   kind-refused e f g h = rw (e, f, g, h) (record { the-outcome = refl; the-d = refl; the-multipliers = refl; the-floats = refl; the-words = refl })
 
-pub call-answered : (a : Answer Step) (y : Report) (s l r k : Bool) (o : Outcome) (d d' x x' w w' : List Float) (iw iw' : List ℕ)
-    → s ≡ true → l ≡ true → r ≡ true → k ≡ true → Steps a y o d d' x x' w w' iw iw' → Steps (call s l r k a) y o d d' x x' w w' iw iw'
-call-answered a y s l r k o d d' x x' w w' iw iw' e f g h t = rw (e, f, g, h) t
+pub width-refused : (a : Answer Step) (t : Report) (s l r k v : Bool) (d x w : List Float) (iw : List ℕ)
+    → s ≡ true → l ≡ true → r ≡ true → k ≡ true → v ≡ false → Steps (call s l r k (test v Width a)) t (Refused Width) d d x x w w iw iw
+width-refused a t s l r k v d x w iw e f g h i = rw (e, f, g, h, i) (record { the-outcome = refl; the-d = refl; the-multipliers = refl; the-floats = refl; the-words = refl })
 
--- the nine lengths in two tests
-pub lengths-bad : (a b c d e : Bool) → a ≡ false → (a && b && c && d && e) ≡ false
-lengths-bad a b c d e h = rw h
+pub call-answered : (a : Answer Step) (y : Report) (s l r k v : Bool) (o : Outcome) (d d' x x' w w' : List Float) (iw iw' : List ℕ)
+    → s ≡ true → l ≡ true → r ≡ true → k ≡ true → v ≡ true → Steps a y o d d' x x' w w' iw iw' → Steps (call s l r k (test v Width a)) y o d d' x x' w w' iw iw'
+call-answered a y s l r k v o d d' x x' w w' iw iw' e f g h i t = rw (e, f, g, h, i) t
 
-pub lengths-good : (a b c d e : Bool) → a ≡ true → (b && c && d && e) ≡ true → (a && b && c && d && e) ≡ true
-lengths-good a b c d e h k = rw h k
+-- the ten lengths in two tests
+pub lengths-bad : (a b c d e f : Bool) → a ≡ false → (a && b && c && d && e && f) ≡ false
+lengths-bad a b c d e f h = rw h
 
-pub lengths-rest : (a b c d e : Bool) → a ≡ true → (b && c && d && e) ≡ false → (a && b && c && d && e) ≡ false
-lengths-rest a b c d e h k = rw h k
+pub lengths-good : (a b c d e f : Bool) → a ≡ true → (b && c && d && e && f) ≡ true → (a && b && c && d && e && f) ≡ true
+lengths-good a b c d e f h k = rw h k
+
+pub lengths-rest : (a b c d e f : Bool) → a ≡ true → (b && c && d && e && f) ≡ false → (a && b && c && d && e && f) ≡ false
+lengths-rest a b c d e f h k = rw h k
 
 -- ---- the answer: v and u are what the step left of the workspaces' parts
 

@@ -1,26 +1,26 @@
 -- How many QR factorings a step takes at most, refused or not.
 use mathlib.Core.Path.{_≡_, refl, sym, subst}
-use mathlib.Core.Bool.{Bool, true, false, cond, _&&_}
+use mathlib.Core.Bool.{Bool, true, false, _&&_}
 use mathlib.Core.List.{List, [], _∷_, _++_}
-use Prim.Native.Nat.{ℕ, zero, suc, _+_, _*_, _≤_}
+use Prim.Native.Nat.{ℕ, _+_, _*_, _≤_}
 use native.Mathlib.Nat.{mul-le-mul}
 use native.Mathlib.Omega.{arith}
-use lib.ListN.{length, length-append}
+use lib.ListN.{length}
 use lib.Ieee.{Float}
-use Rattle.numbers.specs.Numbers.{+0, at, row, transposed}
-use Rattle.workspace.specs.Tables.{Answer, done, refused, isLate, call, isDimension, isConstraints, isRoom}
+use Rattle.numbers.specs.Numbers.{+0, transposed}
+use Rattle.workspace.specs.Tables.{Answer, done, refused, isLate, call, test, isDimension, isConstraints, isRoom}
 use Rattle.workspace.specs.declared.Refusal.{Refusal}
+use Rattle.workspace.specs.declared.Refusal.the-variants.{Width}
 use Rattle.workspace.proofs.Tests.{and-true, dimension-le, constraints-le}
 use Rattle.nnls.specs.Counted.{Counted}
 use Rattle.lsei.proofs.Costs.{lsi-most, lsei-most}
-use Rattle.step_rows.specs.Problem.{Problem, Row, matrixOf, sidesOf, each, sideOf, lowerRow, upperRow, boundRows, isEquality, exactRow, opposedRows, loosenedRow, relaxedOf, deltaRows, equalityRows, inequalityRows, relaxedRows}
-use Rattle.step_rows.specs.declared.Side.{Side}
-use Rattle.step_rows.specs.declared.Side.the-variants.{Open, At}
+use Rattle.step_rows.specs.Problem.{Problem, matrixOf, sidesOf, equalityRows, inequalityRows, relaxedRows}
+use Rattle.step_rows.proofs.Fit.{rows-fit}
 use Rattle.step.specs.Step.{Step, target, exact, rootWeight, relaxedMatrix, relaxed, step, reported, reportOf}
 use Rattle.step.specs.declared.Report.{Report}
 use Rattle.step_call.specs.declared.Outcome.{Outcome}
-use Rattle.step_call.specs.Promise.{areKinds, areLengths, stepCall, refusedBy, outcomeOf, Steps}
-use Rattle.step_call.specs.Claims.{most, costBound, factoringsTold, CostBound, RowsFit, CostMost}
+use Rattle.step_call.specs.Promise.{areKinds, areWidths, areLengths, stepCall, refusedBy, outcomeOf, Steps}
+use Rattle.step_call.specs.Claims.{most, costBound, factoringsTold, CostBound, CostMost}
 
 -- ---- of the report
 
@@ -40,51 +40,6 @@ report-most p =
     (lsei-most n (length eqs) n (length ineqs) (matrixOf eqs) (sidesOf eqs) (transposed n n (p .factor)) f (matrixOf ineqs) (sidesOf ineqs))
     (lsi-most (n + 1) (n + 1) (length rs) (relaxedMatrix n rootWeight (p .factor)) (f ++ (+0 ∷ [])) (matrixOf rs) (sidesOf rs)) in
     omega (arith, a)
-
--- ---- how many rows there are: two of each at most
-
-each-most : (n : ℕ) (f : ℕ → List Row) → ((j : ℕ) → length (f j) ≤ 2) → length (each n f) ≤ 2 * n
-unfolding each
-each-most zero f h = omega arith
-each-most (suc n) f h = let i = each-most n (λ j. f (suc j)) (λ j. h (suc j)) in let k = h zero in rw length-append (omega (arith, i, k))
-
-exact-most : (b : Bool) (r : Row) → length (cond b [] (r ∷ [])) ≤ 2
-exact-most true r = omega arith
-exact-most false r = omega arith
-
-relaxed-most : (b : Bool) (a : List Float) (c : Float) → length (relaxedOf b a c) ≤ 2
-unfolding opposedRows loosenedRow
-relaxed-most true a c = omega arith
-relaxed-most false a c = omega arith
-
-sides-most : (cols i : ℕ) (s t : Side) → length (lowerRow cols i s ++ upperRow cols i t) ≤ 2
-sides-most cols i Open Open = omega arith
-sides-most cols i Open (At v) = omega arith
-sides-most cols i (At u) Open = omega arith
-sides-most cols i (At u) (At v) = omega arith
-
-bounds-most : (cols : ℕ) (p : Problem) → length (boundRows cols p) ≤ 2 * p .n
-unfolding boundRows
-bounds-most cols p =
-    each-most (p .n) (λ i. lowerRow cols i (sideOf (at (p .lower) i)) ++ upperRow cols i (sideOf (at (p .upper) i)))
-    (λ i. sides-most cols i (sideOf (at (p .lower) i)) (sideOf (at (p .upper) i)))
-
-inequalities-fit : (p : Problem) → length (inequalityRows p) ≤ 2 * p .m + 2 * p .n
-unfolding inequalityRows
-inequalities-fit p =
-    let a = each-most (p .m) (λ j. cond (isEquality p j) [] (exactRow p j ∷ [])) (λ j. exact-most (isEquality p j) (exactRow p j)) in
-    let b = bounds-most (p .n) p in
-    rw length-append (omega (arith, a, b))
-
-relaxed-fit : (p : Problem) → length (relaxedRows p) ≤ 2 * p .m + 2 * p .n + 2
-unfolding relaxedRows deltaRows
-relaxed-fit p =
-    let a = each-most (p .m) (λ j. relaxedOf (isEquality p j) (row (p .n) j (p .jacobian)) (at (p .values) j)) (λ j. relaxed-most (isEquality p j) (row (p .n) j (p .jacobian)) (at (p .values) j)) in
-    let b = bounds-most (p .n + 1) p in
-    simp length-append (omega (arith, a, b))
-
-pub rows-fit : RowsFit
-rows-fit p = (inequalities-fit p, relaxed-fit p)
 
 -- ---- of calls
 
@@ -107,7 +62,8 @@ call-told true true true true a t x h = answer-told a t x (h refl)
 module _ (p : Problem) (o : Outcome) (d d' l l' w w' : List Float) (iw iw' : List ℕ) (c : Steps (stepCall p d l w iw) (reportOf p) o d d' l l' w w' iw iw') where
   of-call : (x : ℕ) → (isDimension (p .n) && isConstraints (p .m) ≡ true → reportOf p .factorings ≤ x) → factoringsTold o ≤ x
   of-call x h = subst (λ (q : Outcome). factoringsTold q ≤ x) (sym (c .the-outcome))
-      (call-told (isDimension (p .n) && isConstraints (p .m)) (areLengths p d l) (isRoom w iw) (areKinds (p .kinds)) (step p .answer) (reportOf p) x h)
+      (call-told (isDimension (p .n) && isConstraints (p .m)) (areLengths p d l) (isRoom w iw) (areKinds (p .kinds))
+      (test (areWidths (p .kinds) (p .widths) (p .m)) Width (step p .answer)) (reportOf p) x h)
 
 pub cost-bound : CostBound
 cost-bound p o d d' l l' w w' iw iw' c = of-call p o d d' l l' w w' iw iw' c (costBound p) (λ s. report-most p)

@@ -1,4 +1,6 @@
+pub mod Widths
 pub mod Calls
+pub mod Before
 pub mod Clear
 pub mod Costs
 pub mod Lower

@@ -1,33 +1,67 @@
--- What is shown of the step and of its calls: its multipliers, what it reads of the factor, what it costs, and that the promise allows one answer only. Definitions only.
+-- What is shown of the step and of its calls: its multipliers, that without bands they are as before, what it reads of the factor, what it costs, and that the promise allows one answer only. Definitions only.
 use mathlib.Core.Path.{_≡_}
-use mathlib.Core.Bool.{false}
+use mathlib.Core.Bool.{true}
 use mathlib.Core.List.{List}
 use Prim.Native.Nat.{ℕ, _+_, _*_, _<_, _≤_}
 use lib.ListN.{length}
 use lib.Ieee.{Float}
-use Rattle.numbers.specs.Numbers.{at, SameLower}
-use Rattle.workspace.specs.Tables.{Answer, done, refused}
+use Rattle.numbers.specs.Numbers.{_⊖_, at, nth, SameLower}
+use Rattle.workspace.specs.Tables.{Answer, done, refused, has}
 use Rattle.nnls.specs.Counted.{Counted}
 use Rattle.nnls.specs.Claims.{NotNegative}
-use Rattle.step_rows.specs.Problem.{Problem, problemOf, isEquality, inequalityRows, relaxedRows}
-use Rattle.step.specs.Step.{Step, target, relaxed, step, reportOf}
+use Rattle.lsei_call.specs.Claims.{ClearFrom}
+use Rattle.step_rows.specs.Problem.{Problem, problemOf, constraintAt, equalityRows, inequalityRows, relaxedRows}
+use Rattle.step_rows.specs.declared.Constraint.{Constraint}
+use Rattle.step_rows.specs.declared.Constraint.the-variants.{Equality, Floor, Band}
+use Rattle.step.specs.Step.{Step, target, exactSolution, relaxedSolution, relaxed, step, reportOf}
 use Rattle.step.specs.declared.Report.{Report}
-use Rattle.step_call.specs.Promise.{stepCall, Steps}
+use Rattle.step_call.specs.Promise.{stepCall, outcomeOf, Steps}
+use Rattle.step_call.specs.NoBands as NoBands
 use Rattle.step_call.specs.declared.Outcome.{Outcome}
 use Rattle.step_call.specs.declared.Outcome.the-variants.{Done, Failed, Refused}
 
--- of a step: no multiplier of an inequality is negative or -0
+-- ---- multipliers
+
+-- no multiplier of a row that is an inequality is negative or -0, in either problem
+abbrev pub RowsClear : Type 0
+RowsClear = (p : Problem) (f : List Float)
+    → ClearFrom (length (equalityRows p)) (length (inequalityRows p)) (exactSolution p f .answer) × ClearFrom 0 (length (relaxedRows p)) (relaxedSolution p f .answer)
+
+-- so a floor's, which is that of its row, is neither, and a band's is the first of two such less the second
+abbrev pub OfRows : Constraint → Float → Type 0
+OfRows Equality v = Unit
+OfRows Floor v = NotNegative v
+OfRows (Band w) v = (first : Float) × (second : Float) × NotNegative first × NotNegative second × (v ≡ first ⊖ second)
+
 abbrev pub ClearStep : Problem → Answer Step → Type 0
-ClearStep p (done s) = (j : ℕ) → j < p .m → isEquality p j ≡ false → NotNegative (at (s .multipliers) j)
+ClearStep p (done s) = (j : ℕ) → j < p .m → OfRows (constraintAt p j) (at (s .multipliers) j)
 ClearStep p (refused r) = Unit
 
 -- on all inputs with a kind for each constraint
 abbrev pub StepClear : Type 0
 StepClear = (p : Problem) → length (p .kinds) ≡ p .m → ClearStep p (step p .answer)
 
+-- ---- without bands every answer is as before
+
+-- p with other widths
+abbrev pub withWidths : Problem → List Float → Problem
+withWidths p ws = problemOf (p .n) (p .m) (p .factor) (p .gradient) (p .kinds) (p .values) ws (p .jacobian) (p .lower) (p .upper)
+
+-- the answer with what it took, and the report: kinds are 0 and 1, whatever the widths hold
+abbrev pub AsBefore : Type 0
+AsBefore = (p : Problem) (ws : List Float) → NoBands.areKinds (p .kinds) ≡ true → (step (withWidths p ws) ≡ NoBands.step p) × (reportOf (withWidths p ws) ≡ NoBands.reportOf p)
+
+-- whole calls, their refusals among them, and what they tell: no kind is 2
+abbrev pub CallsAsBefore : Type 0
+CallsAsBefore = (p : Problem) (ws d l w : List Float) (iw : List ℕ) → has ws (p .m) ≡ true → ((j : ℕ) → nth (p .kinds) j ≡ 2 → ⊥)
+    → (stepCall (withWidths p ws) d l w iw ≡ NoBands.stepCall p d l w iw)
+    × (outcomeOf (stepCall (withWidths p ws) d l w iw) (reportOf (withWidths p ws)) ≡ outcomeOf (NoBands.stepCall p d l w iw) (NoBands.reportOf p))
+
+-- ---- what it reads of the factor
+
 -- p with another factor
 abbrev pub withFactor : Problem → List Float → Problem
-withFactor p l = problemOf (p .n) (p .m) l (p .gradient) (p .kinds) (p .values) (p .jacobian) (p .lower) (p .upper)
+withFactor p l = problemOf (p .n) (p .m) l (p .gradient) (p .kinds) (p .values) (p .widths) (p .jacobian) (p .lower) (p .upper)
 
 -- the solve for f and the relaxed problem read only the lower triangle of the factor
 abbrev pub ReadLower : Type 0
@@ -35,10 +69,10 @@ ReadLower = (p : Problem) (l f : List Float) → SameLower (p .n) (p .factor) l 
 
 -- ---- of calls
 
--- where a call is done, no multiplier of an inequality that it leaves is negative or -0
+-- where a call is done, no multiplier of a floor that it leaves is negative or -0, and a band's is the first of two such less the second
 abbrev pub StepCallClear : Type 0
 StepCallClear = (p : Problem) (relaxation : Float) (t : Report) (d d' l l' w w' : List Float) (iw iw' : List ℕ) → Steps (stepCall p d l w iw) (reportOf p) (Done relaxation t) d d' l l' w w' iw iw'
-    → (j : ℕ) → j < p .m → isEquality p j ≡ false → NotNegative (at l' j)
+    → (j : ℕ) → j < p .m → OfRows (constraintAt p j) (at l' j)
 
 -- ---- what a step costs in QR factorings
 
@@ -59,11 +93,7 @@ factoringsTold (Refused r) = 0
 abbrev pub CostBound : Type 0
 CostBound = (p : Problem) (o : Outcome) (d d' l l' w w' : List Float) (iw iw' : List ℕ) → Steps (stepCall p d l w iw) (reportOf p) o d d' l l' w w' iw iw' → factoringsTold o ≤ costBound p
 
--- a constraint and a variable have two rows each at most, and delta has two
-abbrev pub RowsFit : Type 0
-RowsFit = (p : Problem) → (length (inequalityRows p) ≤ 2 * p .m + 2 * p .n) × (length (relaxedRows p) ≤ 2 * p .m + 2 * p .n + 2)
-
--- and so no call takes more than this: the bound with 64 and 66 rows
+-- and so, of 64 and 66 rows at most, no call takes more than this
 abbrev pub CostMost : Type 0
 CostMost = (p : Problem) (o : Outcome) (d d' l l' w w' : List Float) (iw iw' : List ℕ) → Steps (stepCall p d l w iw) (reportOf p) o d d' l l' w w' iw iw' → factoringsTold o ≤ 25879
 

@@ -6,9 +6,9 @@ ghost use lib.Dec.{eqb};
 ghost use lib.ListN.{length};
 ghost use Rattle.workspace.specs.Tables.{isDimension, isConstraints, has};
 ghost use Rattle.nnls.specs.Counted.{Counted};
-ghost use Rattle.step_rows.specs.Problem.{problemOf};
+ghost use Rattle.step_rows.specs.Problem.{problemOf, constraintOf};
 ghost use Rattle.step.specs.Step.{step, reportOf};
-ghost use Rattle.step_call.specs.Promise.{areKinds, stepCall, Steps};
+ghost use Rattle.step_call.specs.Promise.{areKinds, isWidth, areWidths, stepCall, Steps};
 ghost use Rattle.step_call.specs.inner.Work.{Lent, StepGiven};
 use workspace::Refusal;
 
@@ -63,17 +63,21 @@ fn are_lengths(
     jacobian.len() == m * n
 }
 
-// The lengths of the bounds, and those of the two outputs.
+// The lengths of the widths and the bounds, and those of the two outputs.
 fn are_other_lengths(
     n: usize,
     m: usize,
+    widths: &[f64],
     lower: &[f64],
     upper: &[f64],
     d: usize,
     multipliers: usize,
 ) -> bool
-    ensures { λ r. ⌜ r ≡ (has (now (lower .entry)) n && has (now (upper .entry)) n && eqb d n && eqb multipliers m) ⌝ }
+    ensures { λ r. ⌜ r ≡ (has (now (widths .entry)) m && has (now (lower .entry)) n && has (now (upper .entry)) n && eqb d n && eqb multipliers m) ⌝ }
 {
+    if widths.len() != m {
+        return false;
+    }
     if lower.len() != n {
         return false;
     }
@@ -86,12 +90,38 @@ fn are_other_lengths(
     multipliers == m
 }
 
-// Every kind is 0 or 1.
+// Every kind is 0, 1 or 2.
 fn are_kinds(kinds: &[u8]) -> bool
     ensures { λ r. ⌜ r ≡ areKinds (now (kinds .entry)) ⌝ }
 {
     for j in 0..kinds.len() {
-        if kinds[j] > 1 {
+        if kinds[j] > 2 {
+            return false;
+        }
+    }
+    true
+}
+
+// A band's width is at least zero and finite, and other constraints have none.
+fn is_width(kind: u8, width: f64) -> bool
+    ensures { λ r. ⌜ r ≡ isWidth (constraintOf kind width) ⌝ }
+{
+    if kind < 2 {
+        return true;
+    }
+    if width < 1.0 / 0.0 {
+        return 0.0 <= width;
+    }
+    false
+}
+
+// Those of m constraints.
+fn are_widths(kinds: &[u8], widths: &[f64], m: usize) -> bool
+    requires { ⌜ (length (now kinds) ≡ m) × (length (now widths) ≡ m) ⌝ }
+    ensures { λ r. ⌜ r ≡ areWidths (now (kinds .entry)) (now (widths .entry)) m ⌝ }
+{
+    for j in 0..m {
+        if !is_width(kinds[j], widths[j]) {
             return false;
         }
     }
@@ -133,6 +163,7 @@ fn step_all(
     gradient: &[f64],
     kinds: &[u8],
     values: &[f64],
+    widths: &[f64],
     jacobian: &[f64],
     lower: &[f64],
     upper: &[f64],
@@ -143,8 +174,8 @@ fn step_all(
     n: usize,
     m: usize,
 ) -> Outcome
-    requires { ⌜ Lent n m (now factor) (now gradient) (now kinds) (now values) (now jacobian) (now lower) (now upper) (now d) (now multipliers) (now w) (now iw) ⌝ }
-    ensures { λ r. ⌜ Steps (step (problemOf n m (now (factor .entry)) (now (gradient .entry)) (now (kinds .entry)) (now (values .entry)) (now (jacobian .entry)) (now (lower .entry)) (now (upper .entry))) .answer) (reportOf (problemOf n m (now (factor .entry)) (now (gradient .entry)) (now (kinds .entry)) (now (values .entry)) (now (jacobian .entry)) (now (lower .entry)) (now (upper .entry)))) r (now (d .entry)) (now (d .exit)) (now (multipliers .entry)) (now (multipliers .exit)) (now (w .entry)) (now (w .exit)) (now (iw .entry)) (now (iw .exit)) ⌝ }
+    requires { ⌜ Lent n m (now factor) (now gradient) (now kinds) (now values) (now widths) (now jacobian) (now lower) (now upper) (now d) (now multipliers) (now w) (now iw) ⌝ }
+    ensures { λ r. ⌜ Steps (step (problemOf n m (now (factor .entry)) (now (gradient .entry)) (now (kinds .entry)) (now (values .entry)) (now (widths .entry)) (now (jacobian .entry)) (now (lower .entry)) (now (upper .entry))) .answer) (reportOf (problemOf n m (now (factor .entry)) (now (gradient .entry)) (now (kinds .entry)) (now (values .entry)) (now (widths .entry)) (now (jacobian .entry)) (now (lower .entry)) (now (upper .entry)))) r (now (d .entry)) (now (d .exit)) (now (multipliers .entry)) (now (multipliers .exit)) (now (w .entry)) (now (w .exit)) (now (iw .entry)) (now (iw .exit)) ⌝ }
 {
     let v = &mut w[..8192];
     let u = &mut iw[..512];
@@ -153,6 +184,7 @@ fn step_all(
         gradient,
         kinds,
         values,
+        widths,
         jacobian,
         lower,
         upper,
@@ -173,6 +205,7 @@ impl Step {
         gradient: &[f64],
         kinds: &[u8],
         values: &[f64],
+        widths: &[f64],
         jacobian: &[f64],
         lower: &[f64],
         upper: &[f64],
@@ -181,7 +214,7 @@ impl Step {
         w: &mut [f64],
         iw: &mut [u32],
     ) -> Outcome
-        ensures { λ r. ⌜ Steps (stepCall (problemOf n m (now (factor .entry)) (now (gradient .entry)) (now (kinds .entry)) (now (values .entry)) (now (jacobian .entry)) (now (lower .entry)) (now (upper .entry))) (now (d .entry)) (now (multipliers .entry)) (now (w .entry)) (now (iw .entry))) (reportOf (problemOf n m (now (factor .entry)) (now (gradient .entry)) (now (kinds .entry)) (now (values .entry)) (now (jacobian .entry)) (now (lower .entry)) (now (upper .entry)))) r (now (d .entry)) (now (d .exit)) (now (multipliers .entry)) (now (multipliers .exit)) (now (w .entry)) (now (w .exit)) (now (iw .entry)) (now (iw .exit)) ⌝ }
+        ensures { λ r. ⌜ Steps (stepCall (problemOf n m (now (factor .entry)) (now (gradient .entry)) (now (kinds .entry)) (now (values .entry)) (now (widths .entry)) (now (jacobian .entry)) (now (lower .entry)) (now (upper .entry))) (now (d .entry)) (now (multipliers .entry)) (now (w .entry)) (now (iw .entry))) (reportOf (problemOf n m (now (factor .entry)) (now (gradient .entry)) (now (kinds .entry)) (now (values .entry)) (now (widths .entry)) (now (jacobian .entry)) (now (lower .entry)) (now (upper .entry)))) r (now (d .entry)) (now (d .exit)) (now (multipliers .entry)) (now (multipliers .exit)) (now (w .entry)) (now (w .exit)) (now (iw .entry)) (now (iw .exit)) ⌝ }
     {
         if !are_sizes(n, m) {
             return Outcome::Refused(Refusal::Size);
@@ -189,7 +222,7 @@ impl Step {
         if !are_lengths(n, m, factor, gradient, kinds, values, jacobian) {
             return Outcome::Refused(Refusal::Length);
         }
-        if !are_other_lengths(n, m, lower, upper, d.len(), multipliers.len()) {
+        if !are_other_lengths(n, m, widths, lower, upper, d.len(), multipliers.len()) {
             return Outcome::Refused(Refusal::Length);
         }
         if !workspace::is_room(w.len(), iw.len()) {
@@ -198,11 +231,15 @@ impl Step {
         if !are_kinds(kinds) {
             return Outcome::Refused(Refusal::Kind);
         }
+        if !are_widths(kinds, widths, m) {
+            return Outcome::Refused(Refusal::Width);
+        }
         step_all(
             factor,
             gradient,
             kinds,
             values,
+            widths,
             jacobian,
             lower,
             upper,

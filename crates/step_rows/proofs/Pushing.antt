@@ -1,6 +1,5 @@
 -- Laws of rows that are pushed into a workspace: one behind others, those of a loop, and what they read as.
 use mathlib.Core.Path.{_≡_, refl, sym, ap, ap₂, _∙_}
-use mathlib.Core.Bool.{Bool, true, false, true≢false, cond, not}
 use mathlib.Core.List.{List, [], _∷_, _++_, append-assoc, append-nil}
 use Prim.Native.Nat.{ℕ, zero, suc, _+_, _*_, _≤_, _<_}
 use native.Mathlib.Numerals.{add-one}
@@ -14,7 +13,7 @@ use Rattle.workspace.specs.inner.Readings.{vec, stack, Block}
 use Rattle.workspace.proofs.Readings.{vec-same, vec-is}
 use Rattle.workspace.proofs.Writes.{written-more, written-as}
 use Rattle.step_rows.specs.Problem.{Row, rowOf, matrixOf, sidesOf, each}
-use Rattle.step_rows.specs.inner.Work.{rowsIn, Pushed, picked}
+use Rattle.step_rows.specs.inner.Work.{rowsIn, Pushed}
 
 -- ---- rows that stand there
 
@@ -52,19 +51,6 @@ pushed-both o n k c d rs ss w w′ w″ p q = record {
 pub pushed-two : (o n k : ℕ) (r s : Row) (w w′ w″ : List Float) → Pushed o n k (k + 1) (r ∷ []) w w′ → Pushed o n (k + 1) (k + 1 + 1) (s ∷ []) w′ w″
     → Pushed o n k (k + 2) (r ∷ s ∷ []) w w″
 pushed-two o n k r s w w′ w″ p q = let e : k + 1 + 1 ≡ k + 2 = omega arith in rw e at (pushed-both o n k (k + 1) (k + 1 + 1) (r ∷ []) (s ∷ []) w w′ w″ p q)
-
--- a constraint that is asked for, or not
-pub not-picked : (a e : Bool) (r : Row) → cond e a (not a) ≡ false → picked a e r ≡ []
-not-picked true true r h = absurd (true≢false h)
-not-picked true false r h = refl
-not-picked false true r h = refl
-not-picked false false r h = absurd (true≢false h)
-
-pub is-picked : (a e : Bool) (r : Row) → cond e a (not a) ≡ true → picked a e r ≡ r ∷ []
-is-picked true true r h = refl
-is-picked true false r h = absurd (true≢false (sym h))
-is-picked false true r h = absurd (true≢false (sym h))
-is-picked false false r h = refl
 
 -- the coefficients v are written at the next row's place, and then the side s behind them
 pub pushed-row : (o n k : ℕ) (v : List Float) (f : ℕ → Float) (s : Float) (w w′ : List Float) → n ≤ 17 → o + k * 18 + n < length w′ → tab n f ≡ v

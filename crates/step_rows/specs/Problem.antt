@@ -1,14 +1,16 @@
 -- The subproblem's data, and the rows that its constraints and bounds become (docs/RULES.md, "The step"; Kraft 1988). Definitions only.
 use Prim.Native.Nat.{ℕ, zero, suc, _+_}
-use mathlib.Core.Bool.{Bool, true, false, cond}
+use mathlib.Core.Bool.{cond}
 use mathlib.Core.List.{List, [], _∷_, _++_, map}
 use lib.Dec.{eqb}
 use lib.Ieee.{Float, nan, inf, fin, lt, neg}
-use Rattle.numbers.specs.Numbers.{+0, one, at, nth, tab, row}
+use Rattle.numbers.specs.Numbers.{+0, one, _⊖_, at, nth, tab, row}
 use Rattle.step_rows.specs.declared.Side.{Side}
 use Rattle.step_rows.specs.declared.Side.the-variants.{Open, At}
+use Rattle.step_rows.specs.declared.Constraint.{Constraint}
+use Rattle.step_rows.specs.declared.Constraint.the-variants.{Equality, Floor, Band}
 
--- n variables, m constraints: the factor L of B = L L' (n by n), the gradient, the constraints' kinds, values c and Jacobian A (m by n), and the step's bounds
+-- n variables, m constraints: the factor L of B = L L' (n by n), the gradient, the constraints' kinds, values c, widths (of a band alone) and Jacobian A (m by n), and the step's bounds
 pub record Problem : Type 0 where
   pub n : ℕ
   pub m : ℕ
@@ -16,27 +18,39 @@ pub record Problem : Type 0 where
   pub gradient : List Float
   pub kinds : List ℕ
   pub values : List Float
+  pub widths : List Float
   pub jacobian : List Float
   pub lower : List Float
   pub upper : List Float
 
 -- the problem of these parts
-abbrev pub problemOf : (n m : ℕ) (factor gradient : List Float) (kinds : List ℕ) (values jacobian lower upper : List Float) → Problem
-problemOf n m factor gradient kinds values jacobian lower upper = record {
+abbrev pub problemOf : (n m : ℕ) (factor gradient : List Float) (kinds : List ℕ) (values widths jacobian lower upper : List Float) → Problem
+problemOf n m factor gradient kinds values widths jacobian lower upper = record {
   n = n;
   m = m;
   factor = factor;
   gradient = gradient;
   kinds = kinds;
   values = values;
+  widths = widths;
   jacobian = jacobian;
   lower = lower;
   upper = upper;
 }
 
--- constraint j is an equality: its kind is 0, where 1 is an inequality
-abbrev pub isEquality : Problem → ℕ → Bool
-isEquality p j = eqb (nth (p .kinds) j) 0
+-- ---- constraints: an equality a'd + c = 0, a floor a'd + c >= 0, or a band that carries its width w, 0 <= a'd + c <= w
+
+-- one of three, by a kind's byte: 0, 1, or 2
+abbrev pub byKind : {A : Type 0} → ℕ → (equality floor band : A) → A
+byKind zero e f b = e
+byKind (suc zero) e f b = f
+byKind (suc (suc k)) e f b = b
+
+abbrev pub constraintOf : (kind : ℕ) (width : Float) → Constraint
+constraintOf k w = byKind k Equality Floor (Band w)
+
+abbrev pub constraintAt : Problem → ℕ → Constraint
+constraintAt p j = constraintOf (nth (p .kinds) j) (at (p .widths) j)
 
 -- ---- rows, an equation or inequality each: coefficients and a right side
 
@@ -86,16 +100,25 @@ upperRow cols i (At v) = rowOf (unit cols i (neg one)) (neg v) ∷ []
 unfoldable pub boundRows : ℕ → Problem → List Row
 boundRows cols p = each (p .n) (λ i. lowerRow cols i (sideOf (at (p .lower) i)) ++ upperRow cols i (sideOf (at (p .upper) i)))
 
--- ---- constraints of the exact problem, in n columns: a_j'd = -c_j, or a_j'd >= -c_j
+-- ---- constraints of the exact problem, in n columns
 
-abbrev pub exactRow : Problem → ℕ → Row
-exactRow p j = rowOf (row (p .n) j (p .jacobian)) (neg (at (p .values) j))
+-- a'd = -c
+abbrev pub equationOf : Constraint → List Float → Float → List Row
+equationOf Equality a c = rowOf a (neg c) ∷ []
+equationOf Floor a c = []
+equationOf (Band w) a c = []
+
+-- a'd >= -c; a band makes two rows side by side, a'd >= -c and -a'd >= -(w - c)
+abbrev pub floorsOf : Constraint → List Float → Float → List Row
+floorsOf Equality a c = []
+floorsOf Floor a c = rowOf a (neg c) ∷ []
+floorsOf (Band w) a c = rowOf a (neg c) ∷ rowOf (map neg a) (neg (w ⊖ c)) ∷ []
 
 unfoldable pub equalityRows : Problem → List Row
-equalityRows p = each (p .m) (λ j. cond (isEquality p j) (exactRow p j ∷ []) [])
+equalityRows p = each (p .m) (λ j. equationOf (constraintAt p j) (row (p .n) j (p .jacobian)) (at (p .values) j))
 
 unfoldable pub inequalityRows : Problem → List Row
-inequalityRows p = each (p .m) (λ j. cond (isEquality p j) [] (exactRow p j ∷ [])) ++ boundRows (p .n) p
+inequalityRows p = each (p .m) (λ j. floorsOf (constraintAt p j) (row (p .n) j (p .jacobian)) (at (p .values) j)) ++ boundRows (p .n) p
 
 -- ---- constraints of the relaxed problem, in (d, delta): n + 1 columns
 
@@ -103,13 +126,15 @@ inequalityRows p = each (p .m) (λ j. cond (isEquality p j) [] (exactRow p j ∷
 unfoldable pub opposedRows : List Float → Float → List Row
 opposedRows a c = rowOf (a ++ (neg c ∷ [])) (neg c) ∷ rowOf (map neg a ++ (c ∷ [])) c ∷ []
 
--- an inequality has -c in the last column only if c < 0
-unfoldable pub loosenedRow : List Float → Float → List Row
-loosenedRow a c = rowOf (a ++ (cond (lt c +0) (neg c) +0 ∷ [])) (neg c) ∷ []
+-- an inequality of value c has -c in the last column only if c < 0
+unfoldable pub loosenedRow : List Float → Float → Row
+loosenedRow a c = rowOf (a ++ (cond (lt c +0) (neg c) +0 ∷ [])) (neg c)
 
-abbrev pub relaxedOf : Bool → List Float → Float → List Row
-relaxedOf true a c = opposedRows a c
-relaxedOf false a c = loosenedRow a c
+-- each row of a band is taken as an inequality, of value c and w - c
+abbrev pub relaxedOf : Constraint → List Float → Float → List Row
+relaxedOf Equality a c = opposedRows a c
+relaxedOf Floor a c = loosenedRow a c ∷ []
+relaxedOf (Band w) a c = loosenedRow a c ∷ loosenedRow (map neg a) (w ⊖ c) ∷ []
 
 -- delta >= 0 and -delta >= -1, delta being variable n
 unfoldable pub deltaRows : ℕ → List Row
@@ -118,5 +143,5 @@ deltaRows n = rowOf (unit (n + 1) n one) +0 ∷ rowOf (unit (n + 1) n (neg one))
 -- constraints, then per variable lower, upper, and last those of delta
 unfoldable pub relaxedRows : Problem → List Row
 relaxedRows p =
-    each (p .m) (λ j. relaxedOf (isEquality p j) (row (p .n) j (p .jacobian)) (at (p .values) j))
+    each (p .m) (λ j. relaxedOf (constraintAt p j) (row (p .n) j (p .jacobian)) (at (p .values) j))
     ++ (boundRows (p .n + 1) p ++ deltaRows (p .n))

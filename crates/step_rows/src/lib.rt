@@ -1,17 +1,19 @@
 // The rows of the step's two problems, exact and relaxed, written into a workspace.
 //
 // A row has 18 slots: its coefficients, and behind them its side. Row k of those at o begins at o + 18 k.
+mod relaxed;
+
 ghost use mathlib.Core.Path.{_≡_};
-ghost use mathlib.Core.Bool.{cond, not};
+ghost use mathlib.Core.Bool.{cond};
 ghost use mathlib.Core.List.{[], _∷_, _++_, map};
 ghost use Prim.Native.Nat.{ℕ, _+_, _*_, _≤_, _<_};
 ghost use lib.Dec.{eqb};
 ghost use lib.ListN.{length};
-ghost use lib.Ieee.{neg, lt};
-ghost use Rattle.numbers.specs.Numbers.{+0, at, nth, row};
+ghost use lib.Ieee.{neg};
+ghost use Rattle.numbers.specs.Numbers.{+0, _⊖_, at, nth, row};
 ghost use Rattle.workspace.specs.inner.Readings.{Block};
-ghost use Rattle.step_rows.specs.Problem.{problemOf, rowOf, unit, sideOf, lowerRow, upperRow, each, opposedRows, loosenedRow, relaxedOf, deltaRows, inequalityRows, relaxedRows};
-ghost use Rattle.step_rows.specs.inner.Work.{Pushed, picked, Lengths};
+ghost use Rattle.step_rows.specs.Problem.{problemOf, constraintOf, rowOf, unit, sideOf, lowerRow, upperRow, each, equationOf, floorsOf, deltaRows, inequalityRows, relaxedRows};
+ghost use Rattle.step_rows.specs.inner.Work.{Pushed, Lengths};
 
 // A side of a step's bounds: open, or closed at a number.
 pub enum Side {
@@ -30,6 +32,28 @@ impl Side {
             }
         }
         Side::Open
+    }
+}
+
+// A constraint: an equality, a floor, or a band that carries its width.
+pub enum Constraint {
+    Equality,
+    Floor,
+    Band(f64),
+}
+
+impl Constraint {
+    // The constraint of a raw kind, 0, 1 or 2: only a band takes the width.
+    fn of(kind: u8, width: f64) -> Self
+        ensures { λ r. ⌜ r ≡ constraintOf kind width ⌝ }
+    {
+        if kind == 0 {
+            return Constraint::Equality;
+        }
+        if kind == 1 {
+            return Constraint::Floor;
+        }
+        Constraint::Band(width)
     }
 }
 
@@ -74,6 +98,16 @@ fn push_row(a: &[f64], w: &mut [f64], o: usize, k: usize, n: usize, j: usize, si
     w[p + n] = side;
 }
 
+// Row j of a negated.
+fn push_row_negated(a: &[f64], w: &mut [f64], o: usize, k: usize, n: usize, j: usize, side: f64)
+    requires { ⌜ (n ≤ 17) × (j * n + n ≤ length (now a)) × (o + k * 18 + 18 ≤ length (now w)) ⌝ }
+    ensures { λ _. ⌜ Pushed o n k (k + 1) (rowOf (map neg (row n j (now (a .entry)))) side ∷ []) (now (w .entry)) (now (w .exit)) ⌝ }
+{
+    let p = o + k * 18;
+    copy_negated(a, w, j * n, p, n);
+    w[p + n] = side;
+}
+
 // Row j of a with one coefficient more.
 fn push_wide(a: &[f64], w: &mut [f64], o: usize, k: usize, n: usize, j: usize, last: f64, side: f64)
     requires { ⌜ (n ≤ 16) × (j * n + n ≤ length (now a)) × (o + k * 18 + 18 ≤ length (now w)) ⌝ }
@@ -86,7 +120,7 @@ fn push_wide(a: &[f64], w: &mut [f64], o: usize, k: usize, n: usize, j: usize, l
 }
 
 // Row j of a negated, with one coefficient more.
-fn push_negated(
+fn push_wide_negated(
     a: &[f64],
     w: &mut [f64],
     o: usize,
@@ -174,55 +208,106 @@ fn push_bounds(
 
 // ---- constraints of the exact problem
 
-// Whether a constraint is asked for: an equality where equalities are, and an inequality where they are not.
-fn is_asked(kind: u8, asked: bool) -> bool
-    ensures { λ r. ⌜ r ≡ cond (eqb kind 0) asked (not asked) ⌝ }
-{
-    if kind == 0 {
-        return asked;
-    }
-    !asked
-}
-
-// Constraint j, where it is asked for.
-fn push_constraint(
-    kinds: &[u8],
-    values: &[f64],
-    jacobian: &[f64],
+// Constraint j, of value c, where it is an equality.
+fn push_equation(
+    constraint: Constraint,
+    a: &[f64],
     w: &mut [f64],
     o: usize,
     k: usize,
     n: usize,
     j: usize,
-    asked: bool,
+    c: f64,
 ) -> usize
-    requires { ⌜ (n ≤ 17) × (j < length (now kinds)) × (j < length (now values)) × (j * n + n ≤ length (now jacobian)) × (o + k * 18 + 18 ≤ length (now w)) ⌝ }
-    ensures { λ r. ⌜ (r ≤ k + 1) × Pushed o n k r (picked asked (eqb (nth (now (kinds .entry)) j) 0) (rowOf (row n j (now (jacobian .entry))) (neg (at (now (values .entry)) j)))) (now (w .entry)) (now (w .exit)) ⌝ }
+    requires { ⌜ (n ≤ 17) × (j * n + n ≤ length (now a)) × (o + k * 18 + 18 ≤ length (now w)) ⌝ }
+    ensures { λ r. ⌜ (r ≤ k + 1) × Pushed o n k r (equationOf constraint (row n j (now (a .entry))) c) (now (w .entry)) (now (w .exit)) ⌝ }
 {
-    if !is_asked(kinds[j], asked) {
-        return k;
+    match constraint {
+        Constraint::Equality => {
+            push_row(a, w, o, k, n, j, -c);
+            k + 1
+        }
+        Constraint::Floor => k,
+        Constraint::Band(_) => k,
     }
-    push_row(jacobian, w, o, k, n, j, -values[j]);
-    k + 1
 }
 
-// The equalities, or the inequalities, of m constraints.
-pub fn push_constraints(
+// The equalities of m constraints.
+pub fn push_equalities(
     kinds: &[u8],
     values: &[f64],
+    widths: &[f64],
     jacobian: &[f64],
     w: &mut [f64],
     o: usize,
     n: usize,
     m: usize,
-    asked: bool,
 ) -> usize
-    requires { ⌜ (n ≤ 17) × (length (now kinds) ≡ m) × (length (now values) ≡ m) × (length (now jacobian) ≡ m * n) × (o + m * 18 ≤ length (now w)) ⌝ }
-    ensures { λ r. ⌜ (r ≤ m) × Pushed o n 0 r (each m (λ j. picked asked (eqb (nth (now (kinds .entry)) j) 0) (rowOf (row n j (now (jacobian .entry))) (neg (at (now (values .entry)) j))))) (now (w .entry)) (now (w .exit)) ⌝ }
+    requires { ⌜ (n ≤ 17) × (length (now kinds) ≡ m) × (length (now values) ≡ m) × (length (now widths) ≡ m) × (length (now jacobian) ≡ m * n) × (o + m * 18 ≤ length (now w)) ⌝ }
+    ensures { λ r. ⌜ (r ≤ m) × Pushed o n 0 r (each m (λ j. equationOf (constraintOf (nth (now (kinds .entry)) j) (at (now (widths .entry)) j)) (row n j (now (jacobian .entry))) (at (now (values .entry)) j))) (now (w .entry)) (now (w .exit)) ⌝ }
 {
     let mut k = 0;
     for j in 0..m {
-        k = push_constraint(kinds, values, jacobian, w, o, k, n, j, asked);
+        let constraint = Constraint::of(kinds[j], widths[j]);
+        k = push_equation(constraint, jacobian, w, o, k, n, j, values[j]);
+    }
+    k
+}
+
+// A band: its floor, and its ceiling beside it.
+fn push_band(a: &[f64], w: &mut [f64], o: usize, k: usize, n: usize, j: usize, c: f64, width: f64)
+    requires { ⌜ (n ≤ 17) × (j * n + n ≤ length (now a)) × (o + k * 18 + 36 ≤ length (now w)) ⌝ }
+    ensures { λ _. ⌜ Pushed o n k (k + 2) (rowOf (row n j (now (a .entry))) (neg c) ∷ rowOf (map neg (row n j (now (a .entry)))) (neg (width ⊖ c)) ∷ []) (now (w .entry)) (now (w .exit)) ⌝ }
+{
+    push_row(a, w, o, k, n, j, -c);
+    push_row_negated(a, w, o, k + 1, n, j, -(width - c));
+}
+
+// Constraint j, of value c, where it is a floor or a band.
+fn push_floor(
+    constraint: Constraint,
+    a: &[f64],
+    w: &mut [f64],
+    o: usize,
+    k: usize,
+    n: usize,
+    j: usize,
+    c: f64,
+) -> usize
+    requires { ⌜ (n ≤ 17) × (j * n + n ≤ length (now a)) × (o + k * 18 + 36 ≤ length (now w)) ⌝ }
+    ensures { λ r. ⌜ (r ≤ k + 2) × Pushed o n k r (floorsOf constraint (row n j (now (a .entry))) c) (now (w .entry)) (now (w .exit)) ⌝ }
+{
+    match constraint {
+        Constraint::Equality => k,
+        Constraint::Floor => {
+            push_row(a, w, o, k, n, j, -c);
+            k + 1
+        }
+        Constraint::Band(width) => {
+            push_band(a, w, o, k, n, j, c, width);
+            k + 2
+        }
+    }
+}
+
+// The floors and bands of m constraints.
+fn push_floors(
+    kinds: &[u8],
+    values: &[f64],
+    widths: &[f64],
+    jacobian: &[f64],
+    w: &mut [f64],
+    o: usize,
+    n: usize,
+    m: usize,
+) -> usize
+    requires { ⌜ (n ≤ 17) × (length (now kinds) ≡ m) × (length (now values) ≡ m) × (length (now widths) ≡ m) × (length (now jacobian) ≡ m * n) × (o + m * 36 ≤ length (now w)) ⌝ }
+    ensures { λ r. ⌜ (r ≤ 2 * m) × Pushed o n 0 r (each m (λ j. floorsOf (constraintOf (nth (now (kinds .entry)) j) (at (now (widths .entry)) j)) (row n j (now (jacobian .entry))) (at (now (values .entry)) j))) (now (w .entry)) (now (w .exit)) ⌝ }
+{
+    let mut k = 0;
+    for j in 0..m {
+        let constraint = Constraint::of(kinds[j], widths[j]);
+        k = push_floor(constraint, jacobian, w, o, k, n, j, values[j]);
     }
     k
 }
@@ -231,6 +316,7 @@ pub fn push_constraints(
 pub fn push_inequalities(
     kinds: &[u8],
     values: &[f64],
+    widths: &[f64],
     jacobian: &[f64],
     lower: &[f64],
     upper: &[f64],
@@ -239,73 +325,14 @@ pub fn push_inequalities(
     n: usize,
     m: usize,
 ) -> usize
-    requires { ⌜ Lengths n m (now kinds) (now values) (now jacobian) (now lower) (now upper) × (o + 864 ≤ length (now w)) ⌝ }
-    ensures { λ r. ⌜ (r ≤ 48) × Pushed o n 0 r (inequalityRows (problemOf n m [] [] (now (kinds .entry)) (now (values .entry)) (now (jacobian .entry)) (now (lower .entry)) (now (upper .entry)))) (now (w .entry)) (now (w .exit)) ⌝ }
+    requires { ⌜ Lengths n m (now kinds) (now values) (now widths) (now jacobian) (now lower) (now upper) × (o + 1152 ≤ length (now w)) ⌝ }
+    ensures { λ r. ⌜ (r ≤ 64) × Pushed o n 0 r (inequalityRows (problemOf n m [] [] (now (kinds .entry)) (now (values .entry)) (now (widths .entry)) (now (jacobian .entry)) (now (lower .entry)) (now (upper .entry)))) (now (w .entry)) (now (w .exit)) ⌝ }
 {
-    let k = push_constraints(kinds, values, jacobian, w, o, n, m, false);
+    let k = push_floors(kinds, values, widths, jacobian, w, o, n, m);
     push_bounds(lower, upper, w, o, k, n, n)
 }
 
-// ---- constraints of the relaxed problem, in one column more
-
-// What an inequality has in the last column: -c, only if c < 0.
-fn loosening(c: f64) -> f64
-    ensures { λ r. ⌜ r ≡ cond (lt c +0) (neg c) +0 ⌝ }
-{
-    if c < 0.0 { -c } else { 0.0 }
-}
-
-// An equality: two opposed rows.
-fn push_opposed(a: &[f64], w: &mut [f64], o: usize, k: usize, n: usize, j: usize, c: f64)
-    requires { ⌜ (n ≤ 16) × (j * n + n ≤ length (now a)) × (o + k * 18 + 36 ≤ length (now w)) ⌝ }
-    ensures { λ _. ⌜ Pushed o (n + 1) k (k + 2) (opposedRows (row n j (now (a .entry))) c) (now (w .entry)) (now (w .exit)) ⌝ }
-{
-    push_wide(a, w, o, k, n, j, -c, -c);
-    push_negated(a, w, o, k + 1, n, j, c, c);
-}
-
-// Constraint j.
-fn push_relaxed(
-    kinds: &[u8],
-    values: &[f64],
-    jacobian: &[f64],
-    w: &mut [f64],
-    o: usize,
-    k: usize,
-    n: usize,
-    j: usize,
-) -> usize
-    requires { ⌜ (n ≤ 16) × (j < length (now kinds)) × (j < length (now values)) × (j * n + n ≤ length (now jacobian)) × (o + k * 18 + 36 ≤ length (now w)) ⌝ }
-    ensures { λ r. ⌜ (r ≤ k + 2) × Pushed o (n + 1) k r (relaxedOf (eqb (nth (now (kinds .entry)) j) 0) (row n j (now (jacobian .entry))) (at (now (values .entry)) j)) (now (w .entry)) (now (w .exit)) ⌝ }
-{
-    let c = values[j];
-    if kinds[j] == 0 {
-        push_opposed(jacobian, w, o, k, n, j, c);
-        return k + 2;
-    }
-    push_wide(jacobian, w, o, k, n, j, loosening(c), -c);
-    k + 1
-}
-
-// All m constraints.
-fn push_all_relaxed(
-    kinds: &[u8],
-    values: &[f64],
-    jacobian: &[f64],
-    w: &mut [f64],
-    o: usize,
-    n: usize,
-    m: usize,
-) -> usize
-    requires { ⌜ (n ≤ 16) × (length (now kinds) ≡ m) × (length (now values) ≡ m) × (length (now jacobian) ≡ m * n) × (o + m * 36 ≤ length (now w)) ⌝ }
-    ensures { λ r. ⌜ (r ≤ 2 * m) × Pushed o (n + 1) 0 r (each m (λ j. relaxedOf (eqb (nth (now (kinds .entry)) j) 0) (row n j (now (jacobian .entry))) (at (now (values .entry)) j))) (now (w .entry)) (now (w .exit)) ⌝ }
-{
-    let mut k = 0;
-    for j in 0..m {
-        k = push_relaxed(kinds, values, jacobian, w, o, k, n, j);
-    }
-    k
-}
+// ---- the relaxed problem, in one column more
 
 // delta >= 0 and -delta >= -1, delta being variable n.
 fn push_delta(w: &mut [f64], o: usize, k: usize, n: usize)
@@ -320,6 +347,7 @@ fn push_delta(w: &mut [f64], o: usize, k: usize, n: usize)
 pub fn push_relaxed_rows(
     kinds: &[u8],
     values: &[f64],
+    widths: &[f64],
     jacobian: &[f64],
     lower: &[f64],
     upper: &[f64],
@@ -328,10 +356,10 @@ pub fn push_relaxed_rows(
     n: usize,
     m: usize,
 ) -> usize
-    requires { ⌜ Lengths n m (now kinds) (now values) (now jacobian) (now lower) (now upper) × (o + 1188 ≤ length (now w)) ⌝ }
-    ensures { λ r. ⌜ (r ≤ 66) × Pushed o (n + 1) 0 r (relaxedRows (problemOf n m [] [] (now (kinds .entry)) (now (values .entry)) (now (jacobian .entry)) (now (lower .entry)) (now (upper .entry)))) (now (w .entry)) (now (w .exit)) ⌝ }
+    requires { ⌜ Lengths n m (now kinds) (now values) (now widths) (now jacobian) (now lower) (now upper) × (o + 1188 ≤ length (now w)) ⌝ }
+    ensures { λ r. ⌜ (r ≤ 66) × Pushed o (n + 1) 0 r (relaxedRows (problemOf n m [] [] (now (kinds .entry)) (now (values .entry)) (now (widths .entry)) (now (jacobian .entry)) (now (lower .entry)) (now (upper .entry)))) (now (w .entry)) (now (w .exit)) ⌝ }
 {
-    let k = push_all_relaxed(kinds, values, jacobian, w, o, n, m);
+    let k = relaxed::push_all_relaxed(kinds, values, widths, jacobian, w, o, n, m);
     let c = push_bounds(lower, upper, w, o, k, n + 1, n);
     push_delta(w, o, c, n);
     c + 2

@@ -13,18 +13,18 @@ use Rattle.lsei.specs.Lsei.{dualMatrix, dualSide, dualResidual, primal, ldp, re
 use Rattle.hessian.specs.Hessian.{identity, times, remainder, withRow, nextRow, firstRows, cholesky, theta, damped, revised, curved, update}
 use Rattle.step_rows.specs.Problem.{matrixOf, sidesOf, each, unit, boundRows, equalityRows, inequalityRows, opposedRows, loosenedRow, deltaRows, relaxedRows}
 use Rattle.step.specs.Step.{weight, rootWeight, target, inOrder, exactStep, exact, relaxedMatrix, paired, clamped, relaxedStep, relaxed, step}
-use Rattle.step_call.specs.Promise.{areKinds}
+use Rattle.step_call.specs.Promise.{areKinds, areWidths}
 use Rattle.worked.specs.Worked.{withAnswer, table, others}
 
 pub worked : map withAnswer table ≡ table
-unfolding add sub mul div neg lt le eq isNan sum round size units odd span climb trailingZeros Σ tab dot gather scatter rows grid row column transposed floorRoot rootOf sqrtOf norm rescaled reduced plainNorm scaled largest hasNan hasInf along image columnNorm pivot swapped reflector pinned advance steps factor forth back applyQt applyQ upward solveR downward solveRt solve residual dualOf members solveOf choose ratioOf ranksBefore blocking stepTo nextX nextMark moveX moveP judge tryNext tries turnNext turns lastly pass roundNext rounds activeSet nnls dualMatrix dualSide dualResidual primal ldp reducedRows reducedSides restored lsiFrom lsi fixed turned tailOf shifted gradient equalityMultipliers rejoined lseiFrom lsei identity times remainder withRow nextRow firstRows cholesky theta damped revised curved update matrixOf sidesOf each unit boundRows equalityRows inequalityRows opposedRows loosenedRow deltaRows relaxedRows target inOrder exactStep exact relaxedMatrix paired clamped relaxedStep relaxed step areKinds
+unfolding add sub mul div neg lt le eq isNan sum round size units odd span climb trailingZeros Σ tab dot gather scatter rows grid row column transposed floorRoot rootOf sqrtOf norm rescaled reduced plainNorm scaled largest hasNan hasInf along image columnNorm pivot swapped reflector pinned advance steps factor forth back applyQt applyQ upward solveR downward solveRt solve residual dualOf members solveOf choose ratioOf ranksBefore blocking stepTo nextX nextMark moveX moveP judge tryNext tries turnNext turns lastly pass roundNext rounds activeSet nnls dualMatrix dualSide dualResidual primal ldp reducedRows reducedSides restored lsiFrom lsi fixed turned tailOf shifted gradient equalityMultipliers rejoined lseiFrom lsei identity times remainder withRow nextRow firstRows cholesky theta damped revised curved update matrixOf sidesOf each unit boundRows equalityRows inequalityRows opposedRows loosenedRow deltaRows relaxedRows target inOrder exactStep exact relaxedMatrix paired clamped relaxedStep relaxed step areKinds areWidths
 worked = refl
 
 pub others-too : map withAnswer others ≡ others
-unfolding add sub mul div neg lt le eq isNan sum round size units odd span climb trailingZeros Σ tab dot gather scatter rows grid row column transposed floorRoot rootOf sqrtOf norm rescaled reduced plainNorm scaled largest hasNan hasInf along image columnNorm pivot swapped reflector pinned advance steps factor forth back applyQt applyQ upward solveR downward solveRt solve residual dualOf members solveOf choose ratioOf ranksBefore blocking stepTo nextX nextMark moveX moveP judge tryNext tries turnNext turns lastly pass roundNext rounds activeSet nnls dualMatrix dualSide dualResidual primal ldp reducedRows reducedSides restored lsiFrom lsi fixed turned tailOf shifted gradient equalityMultipliers rejoined lseiFrom lsei identity times remainder withRow nextRow firstRows cholesky theta damped revised curved update matrixOf sidesOf each unit boundRows equalityRows inequalityRows opposedRows loosenedRow deltaRows relaxedRows target inOrder exactStep exact relaxedMatrix paired clamped relaxedStep relaxed step areKinds
+unfolding add sub mul div neg lt le eq isNan sum round size units odd span climb trailingZeros Σ tab dot gather scatter rows grid row column transposed floorRoot rootOf sqrtOf norm rescaled reduced plainNorm scaled largest hasNan hasInf along image columnNorm pivot swapped reflector pinned advance steps factor forth back applyQt applyQ upward solveR downward solveRt solve residual dualOf members solveOf choose ratioOf ranksBefore blocking stepTo nextX nextMark moveX moveP judge tryNext tries turnNext turns lastly pass roundNext rounds activeSet nnls dualMatrix dualSide dualResidual primal ldp reducedRows reducedSides restored lsiFrom lsi fixed turned tailOf shifted gradient equalityMultipliers rejoined lseiFrom lsei identity times remainder withRow nextRow firstRows cholesky theta damped revised curved update matrixOf sidesOf each unit boundRows equalityRows inequalityRows opposedRows loosenedRow deltaRows relaxedRows target inOrder exactStep exact relaxedMatrix paired clamped relaxedStep relaxed step areKinds areWidths
 others-too = refl
 
 -- the root of RELAXATION_WEIGHT is exactly 1000
 pub weight-root : sqrtOf weight ≡ rootWeight
-unfolding add sub mul div neg lt le eq isNan sum round size units odd span climb trailingZeros Σ tab dot gather scatter rows grid row column transposed floorRoot rootOf sqrtOf norm rescaled reduced plainNorm scaled largest hasNan hasInf along image columnNorm pivot swapped reflector pinned advance steps factor forth back applyQt applyQ upward solveR downward solveRt solve residual dualOf members solveOf choose ratioOf ranksBefore blocking stepTo nextX nextMark moveX moveP judge tryNext tries turnNext turns lastly pass roundNext rounds activeSet nnls dualMatrix dualSide dualResidual primal ldp reducedRows reducedSides restored lsiFrom lsi fixed turned tailOf shifted gradient equalityMultipliers rejoined lseiFrom lsei identity times remainder withRow nextRow firstRows cholesky theta damped revised curved update matrixOf sidesOf each unit boundRows equalityRows inequalityRows opposedRows loosenedRow deltaRows relaxedRows target inOrder exactStep exact relaxedMatrix paired clamped relaxedStep relaxed step areKinds
+unfolding add sub mul div neg lt le eq isNan sum round size units odd span climb trailingZeros Σ tab dot gather scatter rows grid row column transposed floorRoot rootOf sqrtOf norm rescaled reduced plainNorm scaled largest hasNan hasInf along image columnNorm pivot swapped reflector pinned advance steps factor forth back applyQt applyQ upward solveR downward solveRt solve residual dualOf members solveOf choose ratioOf ranksBefore blocking stepTo nextX nextMark moveX moveP judge tryNext tries turnNext turns lastly pass roundNext rounds activeSet nnls dualMatrix dualSide dualResidual primal ldp reducedRows reducedSides restored lsiFrom lsi fixed turned tailOf shifted gradient equalityMultipliers rejoined lseiFrom lsei identity times remainder withRow nextRow firstRows cholesky theta damped revised curved update matrixOf sidesOf each unit boundRows equalityRows inequalityRows opposedRows loosenedRow deltaRows relaxedRows target inOrder exactStep exact relaxedMatrix paired clamped relaxedStep relaxed step areKinds areWidths
 weight-root = refl

@@ -138,7 +138,9 @@ fn tally(arguments: &Arguments) -> Result<bool, String> {
     let seed = arguments.value("seed", 1)?;
     let found = tallies(&library, sequences, seed);
     let Tallied { steps, refused: [late, early], relaxed, ended, different, first } = found;
-    println!("seed {seed}, {sequences} sequences, {steps} steps: {late} refused by the arithmetic,");
+    println!(
+        "seed {seed}, {sequences} sequences, {steps} steps: {late} refused by the arithmetic,"
+    );
     println!("{early} before it, {relaxed} relaxed, {ended} left a count at its largest value");
     if let Some(index) = first {
         println!("first difference in sequence {index}");

@@ -96,8 +96,8 @@ pub fn compare(plan: Plan) -> Result<bool, String> {
 
 /// Prints the table of kinds: how many aims were never reached.
 fn print(rows: &[Counts]) -> u64 {
-    let heads = ["files", "ok", "relaxed", "nan", "1", "5", "6", "7", "9", "differ"];
-    let line = |name: &str, columns: [String; 10]| {
+    let heads = ["files", "ok", "relaxed", "nan", "1", "5", "6", "7", "9", "14", "differ"];
+    let line = |name: &str, columns: [String; 11]| {
         let columns: String = columns.iter().map(|column| format!("{column:>9}")).collect();
         println!("{name:<22}{columns}");
     };
@@ -105,8 +105,8 @@ fn print(rows: &[Counts]) -> u64 {
     let mut missed = 0;
     for ((name, aims), row) in KINDS.iter().zip(rows) {
         let r = row.refused;
-        let columns =
-            [row.files, row.ok, row.relaxed, row.nan, r[1], r[5], r[6], r[7], r[9], row.different];
+        let Counts { files, ok, relaxed, nan, different, .. } = *row;
+        let columns = [files, ok, relaxed, nan, r[1], r[5], r[6], r[7], r[9], r[14], different];
         line(name, columns.map(|count| if count == 0 { ".".into() } else { count.to_string() }));
         let lacks = |aim: &&Aim| row.files >= ENOUGH && row.reached(**aim) == 0;
         for aim in aims.iter().filter(lacks) {

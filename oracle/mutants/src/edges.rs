@@ -3,7 +3,7 @@
 
 use peer::{Library, library};
 use reference::Rust;
-use reference::call::{Call, Edge, Sound, passes};
+use reference::call::{Call, Edge, Sound, WIDTHS, passes};
 use reference::shape::{Op, REPORT, WORKSPACES};
 use reference::tally::{NOWHERE, Tally};
 
@@ -11,6 +11,16 @@ use reference::tally::{NOWHERE, Tally};
 fn passes_reported(call: &Call, test: u32) -> bool {
     let words = if call.op == Op::Step { REPORT } else { call.words };
     passes(&Call { words, ..call.clone() }, test)
+}
+
+/// Whether a call passes a test with another test of the widths of one kind of constraint.
+fn passes_widths(call: &Call, test: u32, kind: u8, good: impl Fn(f64) -> bool) -> bool {
+    let widths = call.inputs.get(WIDTHS).into_iter().flatten();
+    let mut these = call.kinds.iter().zip(widths).filter(|pair| *pair.0 == kind);
+    match test {
+        14 => (kind == 2 || passes(call, 14)) && these.all(|pair| good(*pair.1)),
+        _ => passes(call, test),
+    }
 }
 
 /// The rules' report, with a change to it.
@@ -53,13 +63,64 @@ edges! {
             if above && root > 0.0 && x.is_finite() { root.next_down() } else { root }
         }
     }
-    LengthsFirst "lengths before sizes" { const TESTS: [u32; 4] = [2, 1, 3, 4]; }
-    WorkspacesFirst "workspaces before lengths" { const TESTS: [u32; 4] = [1, 3, 2, 4]; }
-    KindsBefore "kinds before workspaces" { const TESTS: [u32; 4] = [1, 2, 4, 3]; }
-    KindTwo "kind 2 taken" {
+    LengthsFirst "lengths before sizes" { const TESTS: [u32; 5] = [2, 1, 3, 4, 14]; }
+    WorkspacesFirst "workspaces before lengths" { const TESTS: [u32; 5] = [1, 3, 2, 4, 14]; }
+    KindsBefore "kinds before workspaces" { const TESTS: [u32; 5] = [1, 2, 4, 3, 14]; }
+    KindThree "kind 3 taken" {
         fn passes(call: &Call, test: u32) -> bool {
-            if test == 4 { call.kinds.iter().all(|&kind| kind <= 2) } else { passes(call, test) }
+            if test == 4 { call.kinds.iter().all(|&kind| kind <= 3) } else { passes(call, test) }
         }
+    }
+    KindTwo "kind 2 refused" {
+        fn passes(call: &Call, test: u32) -> bool {
+            if test == 4 { call.kinds.iter().all(|&kind| kind <= 1) } else { passes(call, test) }
+        }
+    }
+    WidthsBeforeKinds "widths before kinds" { const TESTS: [u32; 5] = [1, 2, 3, 14, 4]; }
+    WidthsBeforeRoom "widths before workspaces" { const TESTS: [u32; 5] = [1, 2, 14, 3, 4]; }
+    WidthsBeforeLengths "widths before lengths" { const TESTS: [u32; 5] = [1, 14, 2, 3, 4]; }
+    WidthOfFloor "a width tested for a floor" {
+        fn passes(call: &Call, test: u32) -> bool { passes_widths(call, test, 1, |w| w >= 0.0 && w < f64::INFINITY) }
+    }
+    WidthOfEquality "a width tested for an equality" {
+        fn passes(call: &Call, test: u32) -> bool { passes_widths(call, test, 0, |w| w >= 0.0 && w < f64::INFINITY) }
+    }
+    InfiniteWidth "an infinite width taken" {
+        fn passes(call: &Call, test: u32) -> bool { passes_widths(call, test, 2, |w| w >= 0.0) }
+    }
+    NanWidth "a NaN width taken" {
+        fn passes(call: &Call, test: u32) -> bool { passes_widths(call, test, 2, |w| !(w < 0.0 || w == f64::INFINITY)) }
+    }
+    NegativeWidth "a width below zero taken" {
+        fn passes(call: &Call, test: u32) -> bool { passes_widths(call, test, 2, |w| w.abs() < f64::INFINITY) }
+    }
+    MinusZeroWidth "a width of -0 refused" {
+        fn passes(call: &Call, test: u32) -> bool {
+            passes_widths(call, test, 2, |w| w >= 0.0 && w < f64::INFINITY && w.is_sign_positive())
+        }
+    }
+    ZeroWidth "a width of zero refused" {
+        fn passes(call: &Call, test: u32) -> bool { passes_widths(call, test, 2, |w| w > 0.0 && w < f64::INFINITY) }
+    }
+    CeilingSign "a band's second row not opposed" { fn opposed(entry: f64) -> f64 { entry } }
+    CeilingValue "w + c for w - c" {
+        fn ceiling(value: f64, width: f64) -> f64 { width + value }
+    }
+    CeilingAlone "w for w - c" { fn ceiling(_: f64, width: f64) -> f64 { width } }
+    CeilingTurned "c - w for w - c" {
+        fn ceiling(value: f64, width: f64) -> f64 { value - width }
+    }
+    MultipliersAdded "a band's second multiplier added" {
+        fn together(first: f64, second: f64) -> f64 { first + second }
+    }
+    MultipliersTurned "a band's multiplier second less first" {
+        fn together(first: f64, second: f64) -> f64 { second - first }
+    }
+    MultiplierOfFloor "a band's multiplier that of its floor" {
+        fn together(first: f64, _: f64) -> f64 { first }
+    }
+    MultiplierNegated "a band's multiplier turned twice" {
+        fn together(first: f64, second: f64) -> f64 { -(second - first) }
     }
     ShortWorkspace "a workspace one short taken" {
         fn passes(call: &Call, test: u32) -> bool {
@@ -90,6 +151,9 @@ edges! {
     }
     Uncleared "not cleared after 5 to 8" {
         fn clears(number: u32) -> bool { number == 0 }
+    }
+    WidthCleared "cleared after 14" {
+        fn clears(number: u32) -> bool { number == 14 || Sound::clears(number) }
     }
     Overcleared "cleared after 1 to 4" {
         fn clears(_: u32) -> bool { true }
@@ -209,13 +273,16 @@ edges! {
         }
     }
     ReportedEarly "report written on 4" {
-        fn reports(number: u32) -> bool { number == 0 || number >= 4 }
+        fn reports(number: u32) -> bool { number == 4 || Sound::reports(number) }
+    }
+    ReportedWidth "report written on 14" {
+        fn reports(number: u32) -> bool { number == 14 || Sound::reports(number) }
     }
     ReportedDone "report written on 0 alone" {
         fn reports(number: u32) -> bool { number == 0 }
     }
     ReportedFailed "report not written on 0" {
-        fn reports(number: u32) -> bool { number >= 5 }
+        fn reports(number: u32) -> bool { number != 0 && Sound::reports(number) }
     }
     AnyReport "a report of any length taken" {
         fn passes(call: &Call, test: u32) -> bool { passes_reported(call, test) }
@@ -226,7 +293,7 @@ edges! {
         }
     }
     ReportFirst "the report's length before the sizes" {
-        const TESTS: [u32; 4] = [2, 1, 3, 4];
+        const TESTS: [u32; 5] = [2, 1, 3, 4, 14];
         fn passes(call: &Call, test: u32) -> bool {
             let reported = call.op != Op::Step || call.words == REPORT;
             if test == 2 && !passes(call, 1) { reported } else { passes(call, test) }

@@ -41,8 +41,8 @@ macro_rules! interface {
                 (b b_len both) (s s_len read) (y y_len read);
             Step step "gritstrut_step" [n m]
                 (factor factor_len read) (gradient gradient_len read) (kinds kinds_len kind)
-                (values values_len read) (jacobian jacobian_len read) (lower lower_len read)
-                (upper upper_len read) (d d_len write) (multipliers l_len write)
+                (values values_len read) (widths widths_len read) (jacobian jacobian_len read)
+                (lower lower_len read) (upper upper_len read) (d d_len write) (multipliers l_len write)
                 {relaxation real} [report report_len index] <tally>;
             Reconcile reconcile "gritstrut_reconcile" [n m]
                 (before before_len reading) (after after_len reading) (spreads spreads_len read)

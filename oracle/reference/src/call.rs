@@ -6,6 +6,9 @@ use crate::stand_in::{self, Failure};
 use crate::tally::{self, Spent, Tally};
 use crate::triangle;
 
+/// The place of a step's widths among its inputs.
+pub const WIDTHS: usize = 3;
+
 /// A call: everything that crosses the C interface inwards.
 #[derive(Debug, Clone)]
 pub struct Call {
@@ -32,6 +35,13 @@ impl Call {
         let Lengths { kinds, outputs, words, .. } = op.lengths(sizes);
         let (sizes, kinds) = (sizes.to_vec(), vec![0; kinds]);
         Self { op, sizes, inputs, kinds, outputs, words, work: WORKSPACES }
+    }
+
+    /// A step's bands: their constraints and widths.
+    pub fn bands(&self) -> impl Iterator<Item = (usize, f64)> {
+        let widths = self.inputs.get(WIDTHS).into_iter().flatten();
+        let all = self.kinds.iter().zip(widths).enumerate();
+        all.filter(|(_, (kind, _))| **kind == 2).map(|(at, (_, width))| (at, *width))
     }
 
     /// The lengths of the slices as they are.
@@ -127,7 +137,7 @@ pub struct Solution {
 /// and what a call leaves in the buffers that it is lent.
 pub trait Edge: 'static {
     /// The numbers of the tests before the arithmetic, in their order.
-    const TESTS: [u32; 4] = [1, 2, 3, 4];
+    const TESTS: [u32; 5] = [1, 2, 3, 4, 14];
     /// How many f64 and u32 of the workspaces are cleared.
     const CLEARED: [usize; 2] = WORKSPACES;
     fn sqrt(x: f64) -> f64 {
@@ -181,7 +191,19 @@ pub trait Edge: 'static {
     }
     /// Whether a step writes its report with a number.
     fn reports(number: u32) -> bool {
-        number == 0 || number >= 5
+        matches!(number, 0 | 5..=8 | 11)
+    }
+    /// The value of a band's second row.
+    fn ceiling(value: f64, width: f64) -> f64 {
+        width - value
+    }
+    /// An entry of a band's second row.
+    fn opposed(entry: f64) -> f64 {
+        -entry
+    }
+    /// A band's multiplier, of those of its two rows.
+    fn together(first: f64, second: f64) -> f64 {
+        first - second
     }
     /// What a step raises the tally by: what both stages took, and nothing where a test refuses it.
     fn spent(number: u32, tally: &Tally) -> Option<[u32; 2]> {
@@ -227,7 +249,8 @@ pub trait Kernels: 'static {
     fn times(n: usize, b: &[f64], v: &[f64]) -> Vec<f64>;
     fn cholesky(n: usize, b: &[f64]) -> Option<Vec<f64>>;
     fn update(n: usize, b: &[f64], s: &[f64], y: &[f64]) -> Vec<f64>;
-    /// The step for `[factor, gradient, values, jacobian, lower, upper]`, and its relaxation.
+    /// The step for `[factor, gradient, values, jacobian, lower, upper]` of equalities and floors,
+    /// and its relaxation.
     fn step(kinds: &[u8], inputs: &[Vec<f64>]) -> Result<(Solution, f64), Failure>;
 }
 
@@ -245,7 +268,8 @@ pub fn passes(call: &Call, test: u32) -> bool {
         1 => call.op.sizes_fit(&call.sizes),
         2 => fits(call),
         3 => call.work[0] >= WORKSPACES[0] && call.work[1] >= WORKSPACES[1],
-        _ => call.kinds.iter().all(|&kind| kind <= 1),
+        4 => call.kinds.iter().all(|&kind| kind <= 2),
+        _ => call.bands().all(|(_, width)| (0.0..f64::INFINITY).contains(&width)),
     }
 }
 
@@ -308,13 +332,51 @@ fn arithmetic<K: Kernels, E: Edge>(call: &Call) -> Answer {
             on_square::<K, E>(call)
         }
         Op::Reconcile => reconciled::<K, E>(call),
-        Op::Step => match K::step(&call.kinds, inputs) {
-            Ok((solution, relaxation)) => {
-                Answer { value: Some(relaxation), ..solved(Ok(solution)) }
+        Op::Step => {
+            let (kinds, rows) = floors::<E>(call);
+            match K::step(&kinds, &rows) {
+                Ok((mut solution, relaxation)) => {
+                    solution.multipliers = together::<E>(&call.kinds, &solution.multipliers);
+                    Answer { value: Some(relaxation), ..solved(Ok(solution)) }
+                }
+                Err(failure) => solved(Err(failure)),
             }
-            Err(failure) => solved(Err(failure)),
-        },
+        }
     }
+}
+
+/// The kinds and inputs of a step whose bands are two floors each, side by side: a'd + c >= 0 and
+/// -a'd + (w - c) >= 0.
+fn floors<E: Edge>(call: &Call) -> (Vec<u8>, Vec<Vec<f64>>) {
+    let [factor, gradient, values, widths, jacobian, lower, upper] = &call.inputs[..] else {
+        unreachable!("a step has seven inputs");
+    };
+    let n = call.sizes[0];
+    let (mut kinds, mut sides, mut rows) = (vec![], vec![], vec![]);
+    for (j, &kind) in call.kinds.iter().enumerate() {
+        let row = &jacobian[j * n..(j + 1) * n];
+        kinds.push(kind.min(1));
+        sides.push(values[j]);
+        rows.extend(row);
+        if kind == 2 {
+            kinds.push(1);
+            sides.push(E::ceiling(values[j], widths[j]));
+            rows.extend(row.iter().map(|&entry| E::opposed(entry)));
+        }
+    }
+    let lists = [factor, gradient, &sides, &rows, lower, upper];
+    (kinds, lists.into_iter().cloned().collect())
+}
+
+/// One multiplier for each constraint, of those of the rows.
+fn together<E: Edge>(kinds: &[u8], rows: &[f64]) -> Vec<f64> {
+    let mut rows = rows.iter();
+    let mut next = || rows.next().copied().expect("a multiplier of each row");
+    let one = |&kind: &u8| {
+        let first = next();
+        if kind == 2 { E::together(first, next()) } else { first }
+    };
+    kinds.iter().map(one).collect()
 }
 
 /// The square form's answer on the square that the triangle stands for; B is packed again.

@@ -178,7 +178,7 @@ impl Op {
             Op::PackedUpdate => (vec![triangle::count(first), first, first], vec![]),
             Op::Step => {
                 let (n, m) = (first, second);
-                (vec![n * n, n, m, m * n, n, n], vec![n, m])
+                (vec![n * n, n, m, m, m * n, n, n], vec![n, m])
             }
             Op::Reconcile => (vec![first, first, first, second * first], vec![first]),
         };

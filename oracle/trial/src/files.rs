@@ -3,6 +3,7 @@
 use crate::draw::{Draw, Palette};
 use crate::kinds::{self, Share};
 use crate::records::{RECORD, Slip, owed};
+use crate::table::NUMBERS;
 use reference::call::Call;
 use reference::shape::Op;
 
@@ -16,7 +17,7 @@ pub enum Aim {
 }
 
 /// The kinds of files, with what each is for.
-pub const KINDS: [(&str, &[Aim]); 20] = [
+pub const KINDS: [(&str, &[Aim]); 23] = [
     ("smallest", &[Aim::Ok, Aim::Refused(1), Aim::Refused(9)]),
     ("sound", &[Aim::Ok, Aim::Relaxed, Aim::Nan, Aim::Refused(5), Aim::Refused(6)]),
     ("largest", &[Aim::Ok]),
@@ -34,9 +35,12 @@ pub const KINDS: [(&str, &[Aim]); 20] = [
     ("repeated", &[Aim::Refused(9)]),
     ("both kinds", &[Aim::Refused(9)]),
     ("missing constraint", &[Aim::Refused(9)]),
+    ("width of an equality", &[Aim::Refused(9)]),
+    ("width alone", &[Aim::Refused(9)]),
     ("two faults", &[Aim::Refused(9)]),
     ("flipped bits", &[Aim::Ok, Aim::Refused(9)]),
     ("any bytes", &[Aim::Refused(9)]),
+    ("bad width", &[Aim::Refused(14)]),
 ];
 
 /// A record's bytes.
@@ -53,7 +57,7 @@ fn record(tag: u8, row: usize, column: usize, bits: u64) -> [u8; RECORD] {
 fn entries(call: &Call, draw: &mut Draw) -> Vec<[u8; RECORD]> {
     let (n, keep) = (call.sizes[0], draw.one_in(2));
     let mut records = vec![];
-    let tags = [(b'L', n), (b'G', n), (b'E', 1), (b'A', n), (b'B', n), (b'T', n)];
+    let tags = [(b'L', n), (b'G', n), (b'E', 1), (b'W', 1), (b'A', n), (b'B', n), (b'T', n)];
     for ((tag, width), values) in tags.into_iter().zip(&call.inputs) {
         for (at, value) in values.iter().enumerate() {
             let (row, column) = (at / width, at % width);
@@ -64,8 +68,12 @@ fn entries(call: &Call, draw: &mut Draw) -> Vec<[u8; RECORD]> {
                 _ => 0.0f64,
             };
             let above = tag == b'L' && row < column;
-            let left_out = value.to_bits() == missing.to_bits() && tag != b'E' && !keep;
-            let tag = if tag == b'E' && call.kinds[at] == 1 { b'I' } else { tag };
+            let left_out = match tag {
+                b'E' => false,
+                b'W' => call.kinds[at] != 2,
+                _ => value.to_bits() == missing.to_bits() && !keep,
+            };
+            let tag = if tag == b'E' && call.kinds[at] != 0 { b'I' } else { tag };
             if !above && !left_out {
                 records.push(record(tag, row, column, value.to_bits()));
             }
@@ -105,9 +113,10 @@ fn largest(draw: &mut Draw) -> Vec<[u8; RECORD]> {
     let inputs = lengths.into_iter().map(|len| draw.reals(Palette::Smooth, len)).collect();
     let mut call = Call::new(Op::Step, &[16, 16], inputs);
     call.inputs[0].iter_mut().step_by(17).for_each(|entry| *entry = entry.abs() + 0.5);
-    call.inputs[4].iter_mut().for_each(|bound| *bound -= 3.0);
-    call.inputs[5].iter_mut().for_each(|bound| *bound += 3.0);
-    call.kinds = (0..16).map(|_| draw.pick(&[0, 1, 1, 1])).collect();
+    call.inputs[5].iter_mut().for_each(|bound| *bound -= 3.0);
+    call.inputs[6].iter_mut().for_each(|bound| *bound += 3.0);
+    call.kinds = (0..16).map(|_| draw.pick(&[0, 1, 1, 2])).collect();
+    call.inputs[3].iter_mut().for_each(|width| *width = width.abs());
     of(&call, draw)
 }
 
@@ -134,7 +143,7 @@ fn spoil(sort: &str, records: &mut Vec<[u8; RECORD]>, draw: &mut Draw) {
     let far = draw.pick(&[0, 1, 15, 255, 65_535]);
     let added = match sort {
         "sizes twice" => records[0],
-        "bad tag" => record(draw.pick(b"\0DdlgebatWCZ\xff"), 0, 0, value),
+        "bad tag" => record(draw.pick(b"\0DdlgebatwCZ\xff"), 0, 0, value),
         "index outside" => outside(draw, rows, columns, far),
         "fixed index" => fixed(draw, rows, columns),
         "above the diagonal" => {
@@ -154,6 +163,10 @@ fn spoil(sort: &str, records: &mut Vec<[u8; RECORD]>, draw: &mut Draw) {
             }
             None => record(b'E', rows, 0, value),
         },
+        "width of an equality" => match records.iter().find(|bytes| bytes[0] == b'E') {
+            Some(found) => record(b'W', usize::from(found[2]), 0, 0),
+            None => record(b'W', rows, 0, 0),
+        },
         _ => return alter(sort, at, records, draw),
     };
     let put = draw.between(1, records.len());
@@ -162,11 +175,11 @@ fn spoil(sort: &str, records: &mut Vec<[u8; RECORD]>, draw: &mut Draw) {
 
 /// A record with an index one past its end, or further.
 fn outside(draw: &mut Draw, rows: usize, columns: usize, far: usize) -> [u8; RECORD] {
-    let tag = draw.pick(b"LGEIABT");
+    let tag = draw.pick(b"LGEIWABT");
     let beyond = |end: usize| (end + far).min(65_535);
     let (row, column) = match tag {
         b'L' => (beyond(columns), 0),
-        b'E' | b'I' => (beyond(rows), 0),
+        b'E' | b'I' | b'W' => (beyond(rows), 0),
         b'A' if draw.one_in(2) => (beyond(rows), 0),
         _ => (0, beyond(columns)),
     };
@@ -176,14 +189,15 @@ fn outside(draw: &mut Draw, rows: usize, columns: usize, far: usize) -> [u8; REC
 /// A record with an index where 0 is fixed.
 fn fixed(draw: &mut Draw, rows: usize, columns: usize) -> [u8; RECORD] {
     let other = draw.pick(&[1, 1, 2, 256, 65_535]);
-    match draw.pick(b"GEIBT") {
-        tag if matches!(tag, b'E' | b'I') => record(tag, draw.below(rows.max(1)), other, 0),
+    match draw.pick(b"GEIWBT") {
+        tag if matches!(tag, b'E' | b'I' | b'W') => record(tag, draw.below(rows.max(1)), other, 0),
         tag => record(tag, other, draw.below(columns.max(1)), 0),
     }
 }
 
 /// Alters a record that is there, or takes one out.
 fn alter(sort: &str, at: usize, records: &mut Vec<[u8; RECORD]>, draw: &mut Draw) {
+    let value = draw.smooth().abs().to_bits();
     match sort {
         "sizes outside" => {
             let side = draw.pick(&[2, 4]);
@@ -216,6 +230,26 @@ fn alter(sort: &str, at: usize, records: &mut Vec<[u8; RECORD]>, draw: &mut Draw
                 None => records[0][2] = 1,
             }
         }
+        "bad width" => {
+            let found = records.iter().find(|bytes| bytes[0] == b'I').map(|bytes| bytes[2]);
+            let row = found.unwrap_or_default();
+            let bad = draw.pick(&[-1.0, -f64::MIN_POSITIVE, f64::INFINITY, f64::NAN, -f64::NAN]);
+            records.retain(|bytes| bytes[0] != b'W' || bytes[2] != row);
+            records.push(record(b'W', usize::from(row), 0, bad.to_bits()));
+        }
+        "width alone" => match records.iter().position(|bytes| bytes[0] == b'I') {
+            Some(at) if draw.one_in(2) => records[at][0] = b'W',
+            Some(at) => {
+                let row = usize::from(records[at][2]);
+                records[at] = record(b'W', row, 0, value);
+                records.retain(|bytes| {
+                    bytes[0] != b'W'
+                        || bytes[2] as usize != row
+                        || bytes[8..] == value.to_le_bytes()
+                });
+            }
+            None => records[0][2] = 1,
+        },
         _ => unreachable!("{sort}"),
     }
 }
@@ -233,7 +267,7 @@ pub fn file(seed: u64, kind: &str, index: u64) -> Vec<u8> {
     match kind {
         "smallest" | "largest" | "no entries" | "sound" => {}
         "two faults" => {
-            let sorts: Vec<&str> = KINDS[7..17].iter().map(|kind| kind.0).collect();
+            let sorts: Vec<&str> = KINDS[7..19].iter().map(|kind| kind.0).collect();
             for _ in 0..draw.between(2, 3) {
                 spoil(draw.pick(&sorts), &mut records, draw);
             }
@@ -263,7 +297,7 @@ fn damaged(kind: &str, mut bytes: Vec<u8>, draw: &mut Draw) -> Vec<u8> {
             bytes.truncate(start);
             while bytes.len() < end {
                 let byte = draw.bits() as u8;
-                bytes.push(if draw.one_in(2) { draw.pick(b"LGEIABT\0\0\0") } else { byte });
+                bytes.push(if draw.one_in(2) { draw.pick(b"LGEIWABT\0\0\0") } else { byte });
             }
         }
         _ => {}
@@ -278,7 +312,7 @@ pub struct Counts {
     pub ok: u64,
     pub relaxed: u64,
     pub nan: u64,
-    pub refused: [u64; 10],
+    pub refused: [u64; NUMBERS],
     pub different: u64,
 }
 
@@ -291,8 +325,9 @@ impl Counts {
         self.ok += u64::from(done.is_some());
         self.relaxed += u64::from(done.is_some_and(|answer| answer.tally.relaxed > 0));
         self.nan += u64::from(done.is_some_and(|answer| answer.has_nan()));
-        if let Some(digit) = text.strip_prefix("refused ").and_then(|rest| rest.bytes().next()) {
-            self.refused[usize::from(digit - b'0')] += 1;
+        if let Some(rest) = text.strip_prefix("refused ") {
+            let digits = rest.split([' ', '\n']).next().unwrap_or_default();
+            self.refused[digits.parse::<usize>().expect("a number")] += 1;
         }
         self.different += u64::from(text != printed);
         text == printed

@@ -28,10 +28,14 @@ pub enum Slip {
     SizesValue,
     BigEndian,
     FixedColumn,
+    WidthOfEquality,
+    WidthFirst,
+    WidthInPlace,
+    WidthLost,
 }
 
 /// Every slip.
-pub const SLIPS: [Slip; 15] = [
+pub const SLIPS: [Slip; 19] = [
     Slip::PlaceFromOne,
     Slip::MissingFirst,
     Slip::SizesLast,
@@ -47,6 +51,10 @@ pub const SLIPS: [Slip; 15] = [
     Slip::SizesValue,
     Slip::BigEndian,
     Slip::FixedColumn,
+    Slip::WidthOfEquality,
+    Slip::WidthFirst,
+    Slip::WidthInPlace,
+    Slip::WidthLost,
 ];
 
 /// Why an input is refused before the step.
@@ -89,6 +97,8 @@ impl Record {
 struct Problem {
     call: Call,
     stated: Vec<bool>,
+    /// Constraints that have a width.
+    banded: Vec<bool>,
     seen: HashSet<(u8, usize, usize)>,
 }
 
@@ -103,12 +113,13 @@ impl Problem {
             factor,
             vec![0.0; n],
             vec![0.0; m],
+            vec![0.0; m],
             vec![0.0; m * n],
             vec![-bound; n],
             vec![bound; n],
         ];
         let call = Call::new(Op::Step, &[n, m], inputs);
-        Self { call, stated: vec![false; m], seen: HashSet::new() }
+        Self { call, stated: vec![false; m], banded: vec![false; m], seen: HashSet::new() }
     }
 
     /// Where a record's value goes, if its indices are inside.
@@ -119,9 +130,10 @@ impl Problem {
             b'L' => (0, n, n),
             b'G' => (1, 1, n),
             b'E' | b'I' => (2, m, 1),
-            b'A' => (3, m, n),
-            b'B' => (4, 1, n),
-            b'T' => (5, 1, n),
+            b'W' => (3, m, 1),
+            b'A' => (4, m, n),
+            b'B' => (5, 1, n),
+            b'T' => (6, 1, n),
             _ => return None,
         };
         let above = record.tag == b'L' && row < column && slip != Slip::AboveDiagonal;
@@ -142,8 +154,31 @@ impl Problem {
         if slice == 2 {
             self.stated[at] = true;
             self.call.kinds[at] = u8::from(record.tag == b'I');
+            if self.banded[at] && slip == Slip::WidthFirst {
+                return None;
+            }
+        }
+        if slice == 3 {
+            self.banded[at] = slip != Slip::WidthLost;
+            if self.call.kinds[at] != 1 && slip == Slip::WidthInPlace {
+                return None;
+            }
         }
         Some(())
+    }
+
+    /// The problem, where no constraint is missing and each width has its inequality.
+    fn whole(mut self, slip: Slip) -> Option<Call> {
+        for at in 0..self.stated.len() {
+            let alone = self.banded[at] && self.call.kinds[at] != 1;
+            if !self.stated[at] || (alone && slip != Slip::WidthOfEquality) {
+                return None;
+            }
+            if self.banded[at] && !alone {
+                self.call.kinds[at] = 2;
+            }
+        }
+        Some(self.call)
     }
 }
 
@@ -181,9 +216,8 @@ fn read(bytes: &[u8], slip: Slip) -> Result<Call, Refusal> {
     if outside {
         return Err(Refusal::Sizes);
     }
-    let missing = problem.stated.contains(&false);
     let end = bytes.len().div_ceil(RECORD);
-    if missing { Err(Refusal::Fault(end)) } else { Ok(problem.call) }
+    problem.whole(slip).ok_or(Refusal::Fault(end))
 }
 
 /// The sixteen digits of a value, or `nan`.

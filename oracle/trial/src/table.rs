@@ -5,7 +5,7 @@ use reference::shape::Op;
 use reference::tally::{NOWHERE, Stage};
 
 /// Numbers that a call can be owed, from 0.
-pub const NUMBERS: usize = 14;
+pub const NUMBERS: usize = 15;
 
 /// The numbers that a stage of a step can end with.
 const ENDS: [u32; 5] = [0, 5, 6, 7, 11];
@@ -156,6 +156,7 @@ impl Counts {
             n[11],
             n[12],
             n[13],
+            n[14],
             self.relaxed,
             self.nan,
             self.blocked,
@@ -172,7 +173,7 @@ impl Counts {
 }
 
 /// Columns of the table.
-const COLUMNS: usize = 24;
+const COLUMNS: usize = 25;
 
 const HEADS: [&str; COLUMNS] = [
     "calls",
@@ -188,6 +189,7 @@ const HEADS: [&str; COLUMNS] = [
     "11",
     "12",
     "13",
+    "14",
     "relaxed",
     "nan",
     "blocked",
@@ -203,7 +205,7 @@ const HEADS: [&str; COLUMNS] = [
 
 /// Prints one line of the table.
 fn line(op: &str, kind: &str, columns: &[String; COLUMNS]) {
-    print!("{op:<16}{kind:<20}");
+    print!("{op:<16}{kind:<22}");
     for column in columns {
         print!("{column:>9}");
     }

@@ -2,7 +2,7 @@
 
 use peer::{Library, library};
 use reference::Rust;
-use reference::call::{Call, Sound, answer};
+use reference::call::{Call, Sound, WIDTHS, answer};
 use reference::shape::Op;
 use std::cell::Cell;
 use trial::draw::Draw;
@@ -122,6 +122,8 @@ unsafe extern "C" fn step(
     kinds_len: usize,
     values: *const f64,
     values_len: usize,
+    widths: *const f64,
+    widths_len: usize,
     jacobian: *const f64,
     jacobian_len: usize,
     lower: *const f64,
@@ -154,6 +156,8 @@ unsafe extern "C" fn step(
             kinds_len,
             values,
             values_len,
+            widths,
+            widths_len,
             jacobian,
             jacobian_len,
             lower,
@@ -264,16 +268,17 @@ fn every_touch_of_a_report_is_told() {
     ];
     let step = |factor: f64, lower: f64| {
         let one = |value: f64| vec![value];
-        let inputs = vec![one(factor), one(1.0), one(0.0), one(0.0), one(lower), one(1.0)];
+        let inputs =
+            vec![one(factor), one(1.0), one(0.0), one(0.0), one(0.0), one(lower), one(1.0)];
         Call::new(Op::Step, &[1, 1], inputs)
     };
     tells(&step(1.0, 0.0), 0, &touches);
     tells(&step(0.0, 0.0), 5, &touches);
     tells(&step(1.0, 2.0), 6, &touches);
-    let (mut sizes, mut report, mut room, mut kind) =
-        (step(1.0, 0.0), step(1.0, 0.0), step(1.0, 0.0), step(1.0, 0.0));
-    (sizes.sizes[0], report.words, room.work[0], kind.kinds[0]) = (17, 7, 8191, 2);
-    for (call, number) in [(sizes, 1), (report, 2), (room, 3), (kind, 4)] {
+    let [mut sizes, mut report, mut room, mut kind, mut width] = [(); 5].map(|()| step(1.0, 0.0));
+    (sizes.sizes[0], report.words, room.work[0], kind.kinds[0]) = (17, 7, 8191, 3);
+    (width.kinds[0], width.inputs[WIDTHS][0]) = (2, -1.0);
+    for (call, number) in [(sizes, 1), (report, 2), (room, 3), (kind, 4), (width, 14)] {
         tells(&call, number, &touches);
     }
 }

@@ -67,8 +67,9 @@ fn workspaces() {
 
 #[test]
 fn two_equalities_on_one_variable() {
-    let inputs: [&[f64]; 6] =
-        [&[1.0], &[1.0], &[0.0, 0.0], &[0.0, 0.0], &[f64::NEG_INFINITY], &[f64::INFINITY]];
+    let none: &[f64] = &[0.0, 0.0];
+    let inputs: [&[f64]; 7] =
+        [&[1.0], &[1.0], none, none, none, &[f64::NEG_INFINITY], &[f64::INFINITY]];
     let found = answered(Op::Step, &[1, 2], &inputs);
     assert_eq!((found.number, found.tally.relaxed), (0, 1));
     assert_eq!(found.words[..4], [11, 0, 0, NOWHERE]);
@@ -115,7 +116,8 @@ fn place_of_an_equality() {
 fn reports() {
     let open = [[f64::NEG_INFINITY; 2], [f64::INFINITY; 2]];
     let report = |kinds: &[u8], values: &[f64], jacobian: &[f64], factor: &[f64]| {
-        let inputs: [&[f64]; 6] = [factor, &[1.0, 1.0], values, jacobian, &open[0], &open[1]];
+        let inputs: [&[f64]; 7] =
+            [factor, &[1.0, 1.0], values, values, jacobian, &open[0], &open[1]];
         let mut call = call(Op::Step, &[2, kinds.len()], &inputs);
         call.kinds = kinds.to_vec();
         let found = answer::<Rust, Sound>(&call);
@@ -128,7 +130,7 @@ fn reports() {
     assert_eq!((number, &words[..4]), (0, &[11, 1, 0, NOWHERE][..]));
     let (number, words) = report(&[1, 0, 0], &[1.0, 0.0, 0.0], &jacobian, &[1.0, 0.0, 0.0, 0.0]);
     assert_eq!((number, words), (5, vec![11, 1, 5, 1, 0, 2]));
-    let mut call = call(Op::Step, &[1, 0], &[&[1.0], &[1.0], &[], &[], &[0.0], &[1.0]]);
+    let mut call = call(Op::Step, &[1, 0], &[&[1.0], &[1.0], &[], &[], &[], &[0.0], &[1.0]]);
     for (words, number) in [(5, 2), (6, 0), (7, 2), (0, 2)] {
         call.words = words;
         assert_eq!(answer::<Rust, Sound>(&call).number, number);
@@ -137,6 +139,30 @@ fn reports() {
     assert_eq!(answer::<Rust, Sound>(&call).number, 2);
     call.sizes[0] = 17;
     assert_eq!(answer::<Rust, Sound>(&call).number, 1);
+}
+
+/// A band of one variable: its floor, its ceiling, neither or a width that is none, and that no
+/// other constraint reads a width.
+#[test]
+fn a_band() {
+    let found = |kind: u8, value: f64, width: f64, row: f64| {
+        let inputs: [&[f64]; 7] =
+            [&[1.0], &[1.0], &[value], &[width], &[row], &[f64::NEG_INFINITY], &[f64::INFINITY]];
+        let mut call = call(Op::Step, &[1, 1], &inputs);
+        call.kinds = vec![kind];
+        answer::<Rust, Sound>(&call)
+    };
+    let held = |value: f64, width: f64, row: f64| found(2, value, width, row).outputs;
+    assert_eq!(held(4.0, 8.0, 1.0), [[-1.0], [0.0]]);
+    assert_eq!(held(0.25, 4.0, 1.0), [[-0.25], [0.75]]);
+    assert_eq!(held(0.0, 0.25, -1.0), [[-0.25], [-0.75]]);
+    for width in [f64::NAN, f64::INFINITY, f64::NEG_INFINITY, -1.0, -f64::MIN_POSITIVE] {
+        assert_eq!(found(2, 0.0, width, 1.0).number, 14);
+        assert_eq!(found(3, 0.0, width, 1.0).number, 4);
+        assert!(found(1, 0.0, width, 1.0).same(&found(1, 0.0, 1.0, 1.0)));
+        assert!(found(0, 0.0, width, 1.0).same(&found(0, 0.0, 1.0, 1.0)));
+    }
+    assert_eq!(found(2, 0.0, -0.0, 1.0).number, 0);
 }
 
 #[test]

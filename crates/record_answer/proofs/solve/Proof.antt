@@ -33,20 +33,23 @@ gradient-requires c κs = let s = c .before .before .before .before .before .bef
 values-requires : tie.Need-values-requires
 values-requires c κs = let s = c .before .before .before .before .before .before .before .before .before .before .before .before .before .before in (s .pre .0 .0, s .pre .0 .4)
 
+widths-requires : tie.Need-widths-requires
+widths-requires c κs = let s = c .before .before .before .before .before .before .before .before .before .before .before .before .before .before .before in (s .pre .0 .0, s .pre .0 .4)
+
 jacobian-requires : tie.Need-jacobian-requires
-jacobian-requires c κs = let s = c .before .before .before .before .before .before .before .before .before .before .before .before .before .before .before in (s .pre .0 .0, s .pre .0 .2, s .pre .0 .4)
+jacobian-requires c κs = let s = c .before .before .before .before .before .before .before .before .before .before .before .before .before .before .before .before in (s .pre .0 .0, s .pre .0 .2, s .pre .0 .4)
 
 lower-requires : tie.Need-lower-requires
-lower-requires c κs = let s = c .before .before .before .before .before .before .before .before .before .before .before .before .before .before .before .before in (s .pre .0 .2, s .pre .0 .4)
+lower-requires c κs = let s = c .before .before .before .before .before .before .before .before .before .before .before .before .before .before .before .before .before in (s .pre .0 .2, s .pre .0 .4)
 
 upper-requires : tie.Need-upper-requires
-upper-requires c κs = let s = c .before .before .before .before .before .before .before .before .before .before .before .before .before .before .before .before .before in (s .pre .0 .2, s .pre .0 .4)
+upper-requires c κs = let s = c .before .before .before .before .before .before .before .before .before .before .before .before .before .before .before .before .before .before in (s .pre .0 .2, s .pre .0 .4)
 
 slice-aggregate-solve : tie.Need-slice-aggregate-solve
-slice-aggregate-solve c = c .before .before .before .before .before .before .before .before .before .before .before .before .before .before .before .before .float-room .ensures
+slice-aggregate-solve c = c .before .before .before .before .before .before .before .before .before .before .before .before .before .before .before .before .before .float-room .ensures
 
 slice-aggregate-solve-2 : tie.Need-slice-aggregate-solve-2
-slice-aggregate-solve-2 c = c .before .before .before .before .before .before .before .before .before .before .before .before .before .before .before .before .word-room .ensures
+slice-aggregate-solve-2 c = c .before .before .before .before .before .before .before .before .before .before .before .before .before .before .before .before .before .word-room .ensures
 
 solve-requires : tie.Need-solve-requires
 solve-requires c κs = tt
@@ -59,15 +62,15 @@ same-length-2 c = omega arith
 
 returns : tie.Need-returns
 returns c =
-    let s = c .before .before .before .before .before .before .before .before .before .before .before .before .before .before .before .before .before .before .before .before .before .before .before .before .before .before .before .before .before .before in
+    let s = c .before .before .before .before .before .before .before .before .before .before .before .before .before .before .before .before .before .before .before .before .before .before .before .before .before .before .before .before .before .before .before in
     let a = s .args in
     let k = c .before .before .before .before .before .before .before .solve in
-    let w = c .before .before .before .before .before .before .before .before .before .before .before .before .before .before .before .before .before .before .before .before .before .before .before .before .before .float-room in
-    let iw = c .before .before .before .before .before .before .before .before .before .before .before .before .before .before .before .before .before .before .before .before .before .before .before .before .word-room in
+    let w = c .before .before .before .before .before .before .before .before .before .before .before .before .before .before .before .before .before .before .before .before .before .before .before .before .before .before .float-room in
+    let iw = c .before .before .before .before .before .before .before .before .before .before .before .before .before .before .before .before .before .before .before .before .before .before .before .before .before .word-room in
     answer-is _ _ (k .result) (a .d .now) _ (a .multipliers .now) _ _ _ _ _ (k .ensures)
     ∙ ap (λ (p : Problem). stepCall p (a .d .now) (a .multipliers .now) (w .result) (iw .result))
-    (parts-are (a .m) (a .n) _ (a .marks .now) (a .vals .now) _ _ _ _ _ _ _ (c .before .before .before .before .before .before .before .before .before .before .before .before .before .before .before .before .before .before .factor .ensures) (c .before .before .before .before .before .before .before .before .before .before .before .before .before .before .before .before .before .gradient .ensures) (c .before .before .before .before .before .before .before .before .before .before .before .before .before .before .before .before .before .before .before .before .before .load-kinds .ensures) (length-take-le (a .m) _ (s .pre .0 .0))
-    (c .before .before .before .before .before .before .before .before .before .before .before .before .before .before .before .values .ensures) (c .before .before .before .before .before .before .before .before .before .before .before .before .before .before .jacobian .ensures) (c .before .before .before .before .before .before .before .before .before .before .before .before .before .lower .ensures) (c .before .before .before .before .before .before .before .before .before .before .before .before .upper .ensures))
+    (parts-are (a .m) (a .n) _ (a .marks .now) (a .vals .now) _ _ _ _ _ _ _ _ (c .before .before .before .before .before .before .before .before .before .before .before .before .before .before .before .before .before .before .before .factor .ensures) (c .before .before .before .before .before .before .before .before .before .before .before .before .before .before .before .before .before .before .gradient .ensures) (c .before .before .before .before .before .before .before .before .before .before .before .before .before .before .before .before .before .before .before .before .before .before .load-kinds .ensures) (length-take-le (a .m) _ (s .pre .0 .0))
+    (c .before .before .before .before .before .before .before .before .before .before .before .before .before .before .before .before .values .ensures) (c .before .before .before .before .before .before .before .before .before .before .before .before .before .before .before .widths .ensures) (c .before .before .before .before .before .before .before .before .before .before .before .before .before .before .jacobian .ensures) (c .before .before .before .before .before .before .before .before .before .before .before .before .before .lower .ensures) (c .before .before .before .before .before .before .before .before .before .before .before .before .upper .ensures))
     ∙ passes (a .m) (a .n) (a .marks .now) (a .vals .now) (a .d .now) (a .multipliers .now) (w .result) (iw .result) (record { few = s .pre .0 .0; some = s .pre .0 .1; most = s .pre .0 .2 })
     (s .pre .0 .4) (s .pre .1 .0) (s .pre .1 .1) (omega (arith, w .ensures)) (omega (arith, iw .ensures))
 
@@ -83,6 +86,7 @@ solve-spec =
     factor-requires
     gradient-requires
     values-requires
+    widths-requires
     jacobian-requires
     lower-requires
     upper-requires

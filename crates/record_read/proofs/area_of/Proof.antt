@@ -28,6 +28,9 @@ make-area-requires-7 c κs = tt
 make-area-requires-8 : tie.Need-make-area-requires-8
 make-area-requires-8 c κs = tt
 
+make-area-requires-9 : tie.Need-make-area-requires-9
+make-area-requires-9 c κs = tt
+
 returns : tie.Need-returns
 unfolding areaOf
 returns c = rw (c .before .match .keys1) (c .make-area .ensures)
@@ -58,7 +61,11 @@ returns-7 c = rw (c .before .match .keys7) (c .make-area7 .ensures)
 
 returns-8 : tie.Need-returns-8
 unfolding areaOf
-returns-8 c = simp (ne-eqb _ _ (c .before .match .rest .1), ne-eqb _ _ (c .before .match .rest .0 .1), ne-eqb _ _ (c .before .match .rest .0 .0 .1), ne-eqb _ _ (c .before .match .rest .0 .0 .0 .1), ne-eqb _ _ (c .before .match .rest .0 .0 .0 .0 .1), ne-eqb _ _ (c .before .match .rest .0 .0 .0 .0 .0 .1), ne-eqb _ _ (c .before .match .rest .0 .0 .0 .0 .0 .0 .1)) (c .make-area8 .ensures)
+returns-8 c = rw (c .before .match .keys8) (c .make-area8 .ensures)
+
+returns-9 : tie.Need-returns-9
+unfolding areaOf
+returns-9 c = simp (ne-eqb _ _ (c .before .match .rest .1), ne-eqb _ _ (c .before .match .rest .0 .1), ne-eqb _ _ (c .before .match .rest .0 .0 .1), ne-eqb _ _ (c .before .match .rest .0 .0 .0 .1), ne-eqb _ _ (c .before .match .rest .0 .0 .0 .0 .1), ne-eqb _ _ (c .before .match .rest .0 .0 .0 .0 .0 .1), ne-eqb _ _ (c .before .match .rest .0 .0 .0 .0 .0 .0 .1), ne-eqb _ _ (c .before .match .rest .0 .0 .0 .0 .0 .0 .0 .1)) (c .make-area9 .ensures)
 
 pub area-of-spec : {M : Type 1} → statement M
 area-of-spec =
@@ -72,6 +79,7 @@ area-of-spec =
     make-area-requires-6
     make-area-requires-7
     make-area-requires-8
+    make-area-requires-9
     returns
     returns-2
     returns-3
@@ -79,4 +87,5 @@ area-of-spec =
     returns-5
     returns-6
     returns-7
-    returns-8)
+    returns-8
+    returns-9)

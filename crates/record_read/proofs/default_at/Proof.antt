@@ -38,7 +38,13 @@ float-from-bits-result-2 c = tt
 
 returns-5 : tie.Need-returns-5
 unfolding defaultAt ofBits
-returns-5 c = simp (le-ltb _ _ (c .before .before .if1 .left), le-ltb _ _ (c .before .if3 .left), le-ltb _ _ (c .if4 .left))
+returns-5 c =
+    simp (le-ltb _ _ (c .before .before .before .if1 .left), le-ltb _ _ (c .before .before .if3 .left), le-ltb _ _ (c .before .if4 .left), lt-ltb _ _ (c .if5 .taken))
+
+returns-6 : tie.Need-returns-6
+unfolding defaultAt round ofBits
+returns-6 c =
+    simp (le-ltb _ _ (c .before .before .before .if1 .left), le-ltb _ _ (c .before .before .if3 .left), le-ltb _ _ (c .before .if4 .left), le-ltb _ _ (c .if5 .left))
 
 pub default-at-spec : {M : Type 1} → statement M
 default-at-spec =
@@ -52,4 +58,5 @@ default-at-spec =
     float-from-bits-result
     returns-4
     float-from-bits-result-2
-    returns-5)
+    returns-5
+    returns-6)

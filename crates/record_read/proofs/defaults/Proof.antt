@@ -7,10 +7,10 @@ use Rattle.record_read.proofs.defaults.Statement.{statement}
 use Rattle.record_read.proofs.defaults.Tie as tie
 
 abbrev Inv-loop : tie.InvT-loop
-Inv-loop n vals₀ i₀ vals i = (i ≤ 576) × Fill i (defaultAt n) vals₀ vals
+Inv-loop n vals₀ i₀ vals i = (i ≤ 592) × Fill i (defaultAt n) vals₀ vals
 
 abbrev μ-loop : tie.MeasureT-loop
-μ-loop n vals₀ i₀ vals i = 576 - i
+μ-loop n vals₀ i₀ vals i = 592 - i
 
 loop-holds : tie.Need-loop-holds Inv-loop μ-loop
 loop-holds c = (omega arith, fill-none _ _)

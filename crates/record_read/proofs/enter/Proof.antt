@@ -39,7 +39,7 @@ put-requires c κs =
     let q = c .before .before .before in
     let e = c .before .before .before .before .before in
     let s = c .before .before .before .before .before .before .before .before .before .before .before .before .before in
-    let h : q .p .given .0 .0 < 576 = entry-in (s .args .m) (s .args .n) (s .args .r .now) _ (s .pre .0 .1) (s .pre .0 .2) (sym (e .entry .ensures) ∙ q .p .given .1) in
+    let h : q .p .given .0 .0 < 592 = entry-in (s .args .m) (s .args .n) (s .args .r .now) _ (s .pre .0 .1) (s .pre .0 .2) (sym (e .entry .ensures) ∙ q .p .given .1) in
     omega (arith, s .pre, h)
 
 same-length : tie.Need-same-length

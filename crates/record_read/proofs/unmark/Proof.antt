@@ -8,10 +8,10 @@ use Rattle.record_read.proofs.unmark.Statement.{statement}
 use Rattle.record_read.proofs.unmark.Tie as tie
 
 abbrev Inv-loop : tie.InvT-loop
-Inv-loop marks₀ i₀ marks i = (i ≤ 576) × Wiped i 0 marks₀ marks
+Inv-loop marks₀ i₀ marks i = (i ≤ 592) × Wiped i 0 marks₀ marks
 
 abbrev μ-loop : tie.MeasureT-loop
-μ-loop marks₀ i₀ marks i = 576 - i
+μ-loop marks₀ i₀ marks i = 592 - i
 
 loop-holds : tie.Need-loop-holds Inv-loop μ-loop
 loop-holds c = (omega arith, wiped-none _ _)

@@ -10,7 +10,7 @@ use Rattle.record_read.proofs.walk.Statement.{statement}
 use Rattle.record_read.proofs.walk.Tie as tie
 
 abbrev Inv-loop : tie.InvT-loop
-Inv-loop bytes m n marks₀ vals₀ whole k₀ marks vals k = (1 ≤ k) × (k ≤ whole) × (length marks ≡ 576) × (length vals ≡ 576) × (walkTables m n bytes (whole - k) k marks vals ≡ walkTables m n bytes (whole - 1) 1 marks₀ vals₀)
+Inv-loop bytes m n marks₀ vals₀ whole k₀ marks vals k = (1 ≤ k) × (k ≤ whole) × (length marks ≡ 592) × (length vals ≡ 592) × (walkTables m n bytes (whole - k) k marks vals ≡ walkTables m n bytes (whole - 1) 1 marks₀ vals₀)
 
 abbrev μ-loop : tie.MeasureT-loop
 μ-loop bytes m n marks₀ vals₀ whole k₀ marks vals k = whole - k

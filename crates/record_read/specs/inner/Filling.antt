@@ -1,19 +1,21 @@
 -- How the tables are filled, record by record. Definitions only.
-use mathlib.Core.Bool.{Bool, true, false, not, _&&_}
+use mathlib.Core.Bool.{Bool, true, false, _&&_}
 use mathlib.Core.List.{List, [], _∷_}
 use Prim.Native.Nat.{ℕ, zero, suc, _+_, _-_, _/_, _%_}
 use lib.Dec.{ltb, eqb}
 use lib.ListN.{length, getD, take, drop, set}
 use lib.Ieee.{Float}
 use Rattle.workspace.specs.Tables.{isDimension, isConstraints}
+use Rattle.step_rows.specs.Problem.{Problem}
 use Rattle.record_read.specs.declared.Spot.{Spot}
 use Rattle.record_read.specs.declared.Spot.the-variants.{Outside, At}
 use Rattle.record_read.specs.declared.Head.{Head}
 use Rattle.record_read.specs.declared.Head.the-variants.{Unsound, TooLarge, Sizes}
 use Rattle.record_read.specs.declared.Input.{Input}
 use Rattle.record_read.specs.declared.Input.the-variants.{Fault, Large, Whole}
-use Rattle.record_read.specs.Input.{recordTag, recordRow, recordColumn, recordValue, spareZero, recordAt, isHead, Decoded}
-use Rattle.record_read.specs.inner.Tables.{VALUES, ifSpot, spotOf, tagMark, noMarks, defaultValues, decodedIn}
+use Rattle.record_read.specs.Input.{recordTag, recordRow, recordColumn, recordBits, spareZero, recordAt, isHead, allBelow, Decoded}
+use Rattle.record_read.specs.Bits.{number}
+use Rattle.record_read.specs.inner.Tables.{ifSpot, spotOf, tagMark, noMarks, defaultValues, wholeAt, decodedIn}
 
 -- ---- one record after the first
 
@@ -36,7 +38,7 @@ putAt Outside mark v marks vals = kept marks vals
 putAt (At p) mark v marks vals = ifEntered (eqb (getD marks p 0) 0) (added (set marks p mark) (set vals p v)) (kept marks vals)
 
 unfoldable pub entered : (m n : ℕ) → List ℕ → List ℕ → List Float → Entered
-entered m n r marks vals = putAt (entryOf m n r) (tagMark (recordTag r)) (recordValue r) marks vals
+entered m n r marks vals = putAt (entryOf m n r) (tagMark (recordTag r)) (number (recordBits r)) marks vals
 
 -- the code's answer, with the tables that it leaves
 abbrev pub enteredBy : Bool → List ℕ → List Float → Entered
@@ -67,7 +69,7 @@ abbrev pub filling : Input → List ℕ → List Float → Filling
 filling r marks vals = record { answer = r; marks = marks; vals = vals }
 
 -- what it says
-abbrev pub stated : Filling → Decoded
+abbrev pub stated : Filling → Decoded Problem
 stated f = decodedIn (f .answer) (f .marks) (f .vals)
 
 abbrev pub ifFilling : Bool → Filling → Filling → Filling
@@ -83,15 +85,10 @@ onHead Unsound d e f = d
 onHead TooLarge d e f = e
 onHead (Sizes m n) d e f = f m n
 
--- no mark is 0
-unfoldable pub allMarked : List ℕ → Bool
-allMarked [] = true
-allMarked (x ∷ xs) = not (eqb x 0) && allMarked xs
-
--- after k whole records: a short record, or a constraint with no value, is at fault at k
+-- after k whole records: a short record, a constraint with no value, or a width with no `I` is at fault at k
 unfoldable pub closing : (m n : ℕ) → List ℕ → ℕ → List ℕ → List Float → Filling
 closing m n bs k marks vals =
-    ifFilling (eqb (length bs % 16) 0 && allMarked (take m (drop VALUES marks))) (filling (Whole m n) marks vals) (filling (Fault k) marks vals)
+    ifFilling (eqb (length bs % 16) 0 && allBelow m (wholeAt marks)) (filling (Whole m n) marks vals) (filling (Fault k) marks vals)
 
 -- the records from index k on, of which `left` are whole
 unfoldable pub walkTables : (m n : ℕ) → List ℕ → (left k : ℕ) → List ℕ → List Float → Filling

@@ -1,6 +1,6 @@
 -- The two tables in which the inner functions keep what the records gave: a mark for each place that was given, and its value.
 -- Their places, and what they say. proofs/Agreement.antt shows that it is what specs/Input.antt says. Definitions only.
-use mathlib.Core.Bool.{Bool, true, false, not, cond, _&&_}
+use mathlib.Core.Bool.{Bool, true, false, not, cond, _&&_, _||_}
 use mathlib.Core.List.{List}
 use Prim.Native.Nat.{ℕ, _+_, _*_, _/_, _%_}
 use lib.Dec.{ltb, eqb}
@@ -32,8 +32,11 @@ LOWER = JACOBIAN + 256
 abbrev pub UPPER : ℕ
 UPPER = LOWER + 16
 
+abbrev pub WIDTHS : ℕ
+WIDTHS = UPPER + 16
+
 abbrev pub PLACES : ℕ
-PLACES = UPPER + 16
+PLACES = WIDTHS + 16
 
 -- ---- the place of an entry
 
@@ -51,10 +54,11 @@ areaOf m n tag =
     (either (is "G" tag) (area GRADIENT 1 n)
     (either (is "E" tag) (area VALUES m 1)
     (either (is "I" tag) (area VALUES m 1)
+    (either (is "W" tag) (area WIDTHS m 1)
     (either (is "A" tag) (area JACOBIAN m n)
     (either (is "B" tag) (area LOWER 1 n)
     (either (is "T" tag) (area UPPER 1 n)
-    (area 0 0 0)))))))
+    (area 0 0 0))))))))
 
 abbrev pub ifSpot : Bool → Spot → Spot
 ifSpot true s = s
@@ -82,7 +86,8 @@ unfoldable pub defaultAt : (n place : ℕ) → Float
 defaultAt n p =
     cond (ltb p GRADIENT) (cond (eqb (p / n) (p % n)) one +0)
     (cond (ltb p LOWER) +0
-    (cond (ltb p UPPER) (inf true) (inf false)))
+    (cond (ltb p UPPER) (inf true)
+    (cond (ltb p WIDTHS) (inf false) +0)))
 
 unfoldable pub defaultValues : ℕ → List Float
 defaultValues n = tab PLACES (defaultAt n)
@@ -108,19 +113,29 @@ lowerIn n vals = take n (drop LOWER vals)
 abbrev pub upperIn : ℕ → List Float → List Float
 upperIn n vals = take n (drop UPPER vals)
 
--- constraint i is an inequality if its mark is 2
+abbrev pub widthsIn : ℕ → List Float → List Float
+widthsIn m vals = take m (drop WIDTHS vals)
+
+-- constraint i is an inequality if its mark is 2, and a band if its width is marked
 unfoldable pub kindAt : List ℕ → ℕ → ℕ
-kindAt marks i = cond (eqb (getD marks (VALUES + i) 0) 2) 1 0
+kindAt marks i = cond (eqb (getD marks (VALUES + i) 0) 2) (cond (eqb (getD marks (WIDTHS + i) 0) 0) 1 2) 0
+
+-- its value is marked, and its width only beside an inequality's
+abbrev pub areWhole : (value width : ℕ) → Bool
+areWhole v w = not (eqb v 0) && (eqb w 0 || eqb v 2)
+
+unfoldable pub wholeAt : List ℕ → ℕ → Bool
+wholeAt marks i = areWhole (getD marks (VALUES + i) 0) (getD marks (WIDTHS + i) 0)
 
 abbrev pub kindsIn : ℕ → List ℕ → List ℕ
 kindsIn m marks = tab m (kindAt marks)
 
 unfoldable pub problemIn : (m n : ℕ) → List ℕ → List Float → Problem
 problemIn m n marks vals =
-    problemOf n m (factorIn n vals) (gradientIn n vals) (kindsIn m marks) (valuesIn m vals) (jacobianIn m n vals) (lowerIn n vals) (upperIn n vals)
+    problemOf n m (factorIn n vals) (gradientIn n vals) (kindsIn m marks) (valuesIn m vals) (widthsIn m vals) (jacobianIn m n vals) (lowerIn n vals) (upperIn n vals)
 
 -- what is decoded: the code's answer, with the problem that stands in the tables
-abbrev pub decodedIn : Input → List ℕ → List Float → Decoded
+abbrev pub decodedIn : Input → List ℕ → List Float → Decoded Problem
 decodedIn (Fault k) marks vals = fault k
 decodedIn Large marks vals = tooLarge
 decodedIn (Whole m n) marks vals = problem (problemIn m n marks vals)

@@ -8,7 +8,7 @@ use Rattle.step.proofs.read_exact.Tie as tie
 
 order-multipliers-requires : tie.Need-order-multipliers-requires
 order-multipliers-requires c κs = let s = c .before .before .before in
-    (omega arith, s .pre .0 .kind, s .pre .1, s .pre .2, omega arith)
+    (omega arith, s .pre .0 .kind, s .pre .1, s .pre .2, s .pre .3, omega arith)
 
 copy-down-requires : tie.Need-copy-down-requires
 copy-down-requires c κs = (omega arith, omega arith)

@@ -9,24 +9,24 @@ use Rattle.step.proofs.solve_step.Statement.{statement}
 use Rattle.step.proofs.solve_step.Tie as tie
 
 write-target-requires : tie.Need-write-target-requires
-write-target-requires c κs = let s = c .before .before .before .before .before .before .before .before .before .before in
+write-target-requires c κs = let s = c .before .before .before .before .before .before .before .before .before .before .before in
     (s .pre .0 .square, s .pre .1, omega (arith, s .pre .0, s .pre .0 .lengths))
 
 try-exact-requires : tie.Need-try-exact-requires
-try-exact-requires c κs = let s = c .before .before .before .before .before .before .before .before .before .before .before .before .before .before .before in
+try-exact-requires c κs = let s = c .before .before .before .before .before .before .before .before .before .before .before .before .before .before .before .before in
     let t = c .before .before .before .before .write-target in
     (record { lengths = s .pre .0 .lengths; square = s .pre .0 .square; room = omega (arith, s .pre .0, t .kept) }, s .pre .2)
 
 enum-known-first : tie.Need-enum-known-first
 enum-known-first c = search needs
 
-cast-t30 : tie.Need-cast-t30
-cast-t30 c = let x = c .before .before .before .before .before .before .before .try-exact .ensures in
+cast-t31 : tie.Need-cast-t31
+cast-t31 c = let x = c .before .before .before .before .before .before .before .try-exact .ensures in
     let q = c .before .first .given .1 in
     omega (arith, rw q at (x .rounds))
 
-cast-t31 : tie.Need-cast-t31
-cast-t31 c = let x = c .before .before .before .before .before .before .before .try-exact .ensures in
+cast-t32 : tie.Need-cast-t32
+cast-t32 c = let x = c .before .before .before .before .before .before .before .try-exact .ensures in
     let q = c .before .first .given .1 in
     omega (arith, rw q at (x .factorings))
 
@@ -34,7 +34,7 @@ enum-known-first-2 : tie.Need-enum-known-first-2
 enum-known-first-2 c = search needs
 
 try-relaxed-requires : tie.Need-try-relaxed-requires
-try-relaxed-requires c κs = let s = c .before .before .before .before .before .before .before .before .before .before .before .before .before .before .before .before .before .before .before .before .before .before .before .before .before in
+try-relaxed-requires c κs = let s = c .before .before .before .before .before .before .before .before .before .before .before .before .before .before .before .before .before .before .before .before .before .before .before .before .before .before in
     let t = c .before .before .before .before .before .before .before .before .before .before .before .before .before .before .write-target in
     let x = c .before .before .before .before .before .before .before .before .before .try-exact in
     (record { lengths = s .pre .0 .lengths; square = s .pre .0 .square; room = omega (arith, s .pre .0, t .kept, x .kept) }, omega (arith, s .pre .2, x .kept))
@@ -52,10 +52,10 @@ same-length-2 : tie.Need-same-length-2
 same-length-2 c = omega (arith, c .before .before .before .before .before .before .before .try-exact .kept)
 
 returns : tie.Need-returns
-returns c = let a = c .before .before .before .before .before .before .before .before .before .before .before .before .before .before .before .before .before .before .before .before .before .before .before .args in
+returns c = let a = c .before .before .before .before .before .before .before .before .before .before .before .before .before .before .before .before .before .before .before .before .before .before .before .before .args in
     let t = c .before .before .before .before .before .before .before .before .before .before .before .before .write-target in
     let x = c .before .before .before .before .before .before .before .try-exact in
-    step-first (a .n) (a .m) (a .factor .now) (a .gradient .now) (a .kinds .now) (a .values .now) (a .jacobian .now) (a .lower .now) (a .upper .now) _ _ _ _ _ (t .ensures) (rw (c .before .first .given .1) at (x .ensures))
+    step-first (a .n) (a .m) (a .factor .now) (a .gradient .now) (a .kinds .now) (a .values .now) (a .widths .now) (a .jacobian .now) (a .lower .now) (a .upper .now) _ _ _ _ _ (t .ensures) (rw (c .before .first .given .1) at (x .ensures))
 
 same-length-3 : tie.Need-same-length-3
 same-length-3 c = omega (arith, c .before .before .before .before .before .before .before .before .before .before .before .before .before .before .before .try-exact .kept, c .before .before .before .before .before .before .before .before .before .before .before .before .before .before .before .before .before .before .before .before .write-target .kept, c .before .before .before .before .before .try-relaxed .kept)
@@ -64,13 +64,13 @@ same-length-4 : tie.Need-same-length-4
 same-length-4 c = omega (arith, c .before .before .before .before .before .before .before .before .before .before .before .before .before .before .before .try-exact .kept, c .before .before .before .before .before .try-relaxed .kept)
 
 returns-2 : tie.Need-returns-2
-returns-2 c = let a = c .before .before .before .before .before .before .before .before .before .before .before .before .before .before .before .before .before .before .before .before .before .before .before .before .before .before .before .before .before .before .before .args in
+returns-2 c = let a = c .before .before .before .before .before .before .before .before .before .before .before .before .before .before .before .before .before .before .before .before .before .before .before .before .before .before .before .before .before .before .before .before .args in
     let t = c .before .before .before .before .before .before .before .before .before .before .before .before .before .before .before .before .before .before .before .before .write-target in
     let x = c .before .before .before .before .before .before .before .before .before .before .before .before .before .before .before .try-exact in
     let y = c .before .before .before .before .before .try-relaxed in
     let q = c .before .before .before .before .before .before .before .before .before .first2 .given .1 in
     rw (c .after .ensures)
-    (step-second (a .n) (a .m) (a .factor .now) (a .gradient .now) (a .kinds .now) (a .values .now) (a .jacobian .now) (a .lower .now) (a .upper .now) _ _ _ (y .result) _ _ _ (t .ensures) (rw q at (x .ensures)) (y .ensures))
+    (step-second (a .n) (a .m) (a .factor .now) (a .gradient .now) (a .kinds .now) (a .values .now) (a .widths .now) (a .jacobian .now) (a .lower .now) (a .upper .now) _ _ _ (y .result) _ _ _ (t .ensures) (rw q at (x .ensures)) (y .ensures))
 
 pub solve-step-spec : {M : Type 1} → statement M
 solve-step-spec =
@@ -79,8 +79,8 @@ solve-step-spec =
     write-target-requires
     try-exact-requires
     enum-known-first
-    cast-t30
     cast-t31
+    cast-t32
     enum-known-first-2
     try-relaxed-requires
     after-requires

@@ -26,8 +26,8 @@ use Rattle.step.specs.inner.Places.{STEP_D, STEP_MULTIPLIERS, STEP_ROOM,
 -- ---- what is handed
 
 -- its sizes and lengths, and a long enough workspace
-pub record StepReady (n m : ℕ) (factor : List Float) (kinds : List ℕ) (values jacobian lower upper w : List Float) : Type 0 where
-  pub lengths : Lengths n m kinds values jacobian lower upper
+pub record StepReady (n m : ℕ) (factor : List Float) (kinds : List ℕ) (values widths jacobian lower upper w : List Float) : Type 0 where
+  pub lengths : Lengths n m kinds values widths jacobian lower upper
   pub square : length factor ≡ n * n
   pub room : STEP_ROOM ≤ length w
 
@@ -36,7 +36,7 @@ pub record StepReady (n m : ℕ) (factor : List Float) (kinds : List ℕ) (value
 -- the exact problem p with target f; f stays
 pub record ExactIn (p : Problem) (f : List Float) (s : Sizes) (w : List Float) : Type 0 where
   pub few : s .equalities ≤ 16
-  pub several : s .inequalities ≤ 48
+  pub several : s .inequalities ≤ 64
   pub equalities : s .equalities ≡ length (equalityRows p)
   pub inequalities : s .inequalities ≡ length (inequalityRows p)
   pub the-c : stack EXACT_C (s .equalities) (p .n) w ≡ matrixOf (equalityRows p)

@@ -13,8 +13,8 @@ use Rattle.step_call.specs.declared.Outcome.{Outcome}
 use Rattle.step_call.specs.declared.Outcome.the-variants as Outcome
 
 -- what the tests show where none refuses
-pub record Lent (n m : ℕ) (factor gradient : List Float) (kinds : List ℕ) (values jacobian lower upper d multipliers w : List Float) (iw : List ℕ) : Type 0 where
-  pub lengths : Lengths n m kinds values jacobian lower upper
+pub record Lent (n m : ℕ) (factor gradient : List Float) (kinds : List ℕ) (values widths jacobian lower upper d multipliers w : List Float) (iw : List ℕ) : Type 0 where
+  pub lengths : Lengths n m kinds values widths jacobian lower upper
   pub square : length factor ≡ n * n
   pub slope : length gradient ≡ n
   pub step : length d ≡ n

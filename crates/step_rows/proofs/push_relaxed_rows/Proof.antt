@@ -6,7 +6,7 @@ use Rattle.step_rows.proofs.push_relaxed_rows.Statement.{statement}
 use Rattle.step_rows.proofs.push_relaxed_rows.Tie as tie
 
 push-all-relaxed-requires : tie.Need-push-all-relaxed-requires
-push-all-relaxed-requires c κs = (omega arith, omega arith, omega arith, c .before .before .before .before .before .before .before .pre .0 .entries, omega arith)
+push-all-relaxed-requires c κs = (omega arith, omega arith, omega arith, omega arith, c .before .before .before .before .before .before .before .before .pre .0 .entries, omega arith)
 
 add-push-bounds : tie.Need-add-push-bounds
 add-push-bounds c = omega arith

@@ -1,13 +1,12 @@
 -- What the functions that write a problem's rows into the workspace leave: it serves their contracts alone. Definitions only.
 use Prim.Native.Nat.{ℕ, zero, suc, _+_, _*_, _<_, _≤_}
 use mathlib.Core.Path.{_≡_}
-use mathlib.Core.Bool.{Bool, true, false, cond}
 use mathlib.Core.List.{List, [], _∷_, _++_}
 use lib.ListN.{length}
 use lib.Ieee.{Float}
 use Rattle.numbers.specs.Numbers.{at, tab}
 use Rattle.workspace.specs.inner.Readings.{vec}
-use Rattle.step_rows.specs.Problem.{Row, rowOf}
+use Rattle.step_rows.specs.Problem.{Row, rowOf, byKind}
 
 -- the c rows that begin at o, o + 18, ..: n coefficients each, and the side behind them
 unfoldable pub rowsIn : (o n c : ℕ) → List Float → List Row
@@ -18,33 +17,26 @@ pub record Pushed (o n k c : ℕ) (rs : List Row) (w w′ : List Float) : Type 0
   pub rows : rowsIn o n c w′ ≡ rowsIn o n k w ++ rs
   pub before : (x : ℕ) → x < o → at w′ x ≡ at w x
 
--- a constraint's row, where it is an equality and equalities are asked for, or neither
-abbrev pub picked : (asked equality : Bool) → Row → List Row
-picked true e r = cond e (r ∷ []) []
-picked false e r = cond e [] (r ∷ [])
-
 -- the lengths of a problem's parts, and its sizes
-pub record Lengths (n m : ℕ) (kinds : List ℕ) (values jacobian lower upper : List Float) : Type 0 where
+pub record Lengths (n m : ℕ) (kinds : List ℕ) (values widths jacobian lower upper : List Float) : Type 0 where
   pub variables : n ≤ 16
   pub constraints : m ≤ 16
   pub kind : length kinds ≡ m
   pub value : length values ≡ m
+  pub width : length widths ≡ m
   pub entries : length jacobian ≡ m * n
   pub low : length lower ≡ n
   pub high : length upper ≡ n
 
--- how many kinds are equalities, how many are inequalities, and how many rows they become in the relaxed problem
+-- how many of some constraints are equalities, how many floors they have, a band two, and how many rows they become in the relaxed problem
 unfoldable pub equalitiesAmong : List ℕ → ℕ
 equalitiesAmong [] = 0
-equalitiesAmong (zero ∷ ks) = 1 + equalitiesAmong ks
-equalitiesAmong (suc k ∷ ks) = equalitiesAmong ks
+equalitiesAmong (k ∷ ks) = byKind k 1 0 0 + equalitiesAmong ks
 
-unfoldable pub inequalitiesAmong : List ℕ → ℕ
-inequalitiesAmong [] = 0
-inequalitiesAmong (zero ∷ ks) = inequalitiesAmong ks
-inequalitiesAmong (suc k ∷ ks) = 1 + inequalitiesAmong ks
+unfoldable pub floorsAmong : List ℕ → ℕ
+floorsAmong [] = 0
+floorsAmong (k ∷ ks) = byKind k 0 1 2 + floorsAmong ks
 
 unfoldable pub relaxedAmong : List ℕ → ℕ
 relaxedAmong [] = 0
-relaxedAmong (zero ∷ ks) = 2 + relaxedAmong ks
-relaxedAmong (suc k ∷ ks) = 1 + relaxedAmong ks
+relaxedAmong (k ∷ ks) = byKind k 2 1 2 + relaxedAmong ks

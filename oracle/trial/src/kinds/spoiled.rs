@@ -3,7 +3,7 @@
 use super::{Row, Share, own, packed};
 use crate::draw::{Draw, Palette};
 use crate::table::Aim::Number;
-use reference::call::Call;
+use reference::call::{Call, WIDTHS};
 use reference::shape::{Op, WORKSPACES};
 
 pub const ROWS: [Row; 5] = [
@@ -14,16 +14,23 @@ pub const ROWS: [Row; 5] = [
         spoilt(op, draw, &[bad_workspace])
     }),
     ("several bad", Share::Weight(3), &[Number(1), Number(2), Number(3)], |op, _, draw| {
-        spoilt(op, draw, &[bad_size, bad_length, bad_workspace, bad_kind])
+        spoilt(op, draw, &[bad_size, bad_length, bad_workspace, bad_kind, bad_width])
     }),
 ];
 
 /// Rows that the step has besides.
-pub const STEP: [Row; 3] = [
+pub const STEP: [Row; 5] = [
     ("bad kind", Share::Weight(4), &[Number(4)], |op, _, draw| spoilt(op, draw, &[bad_kind])),
+    ("bad width", Share::Weight(6), &[Number(14)], |op, _, draw| spoilt(op, draw, &[bad_width])),
+    ("bad width, more", Share::Weight(6), &[Number(2), Number(3), Number(4)], |op, _, draw| {
+        let other = draw.pick(&[bad_length, bad_workspace, bad_kind]);
+        let mut call = spoilt(op, draw, &[bad_width]);
+        other(&mut call, draw);
+        call
+    }),
     ("bad report", Share::Weight(3), &[Number(2)], |op, _, draw| spoilt(op, draw, &[bad_report])),
     ("bad report, more", Share::Weight(3), &[Number(1), Number(2)], |op, _, draw| {
-        let other = draw.pick(&[bad_size, bad_workspace, bad_kind]);
+        let other = draw.pick(&[bad_size, bad_workspace, bad_kind, bad_width]);
         let mut call = spoilt(op, draw, &[other]);
         bad_report(&mut call, draw);
         call
@@ -142,10 +149,29 @@ fn bad_workspace(call: &mut Call, draw: &mut Draw) {
     };
 }
 
-/// A kind other than 0 and 1, where there is a constraint.
+/// A kind other than 0, 1 and 2, where there is a constraint.
 fn bad_kind(call: &mut Call, draw: &mut Draw) {
     if !call.kinds.is_empty() {
         let at = draw.below(call.kinds.len());
-        call.kinds[at] = draw.pick(&[2, 2, 3, 128, 254, 255]);
+        call.kinds[at] = draw.pick(&[3, 3, 4, 128, 254, 255]);
+    }
+}
+
+/// A band whose width is none, where there is a constraint.
+fn bad_width(call: &mut Call, draw: &mut Draw) {
+    let constraints = call.kinds.len().min(call.inputs.get(WIDTHS).map_or(0, Vec::len));
+    if call.op == Op::Step && constraints > 0 {
+        let at = draw.below(constraints);
+        call.kinds[at] = 2;
+        call.inputs[WIDTHS][at] = draw.pick(&[
+            f64::NAN,
+            -f64::NAN,
+            f64::INFINITY,
+            f64::NEG_INFINITY,
+            -1.0,
+            -f64::MIN_POSITIVE,
+            -5e-324,
+            f64::MIN,
+        ]);
     }
 }

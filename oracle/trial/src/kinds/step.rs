@@ -4,7 +4,7 @@ use super::parts::{huge, in_columns, in_rows, product, put_row, strew, tiny, uni
 use super::{Row, Share};
 use crate::draw::{Draw, Palette, SPECIAL, spell};
 use crate::table::Aim::{Blocked, Moved, Nan, Number, Place, Ranked, Relaxed, Stages};
-use reference::call::Call;
+use reference::call::{Call, WIDTHS};
 use reference::shape::Op;
 use std::cmp::Ordering;
 
@@ -12,11 +12,11 @@ use std::cmp::Ordering;
 const FACTOR: usize = 0;
 const GRADIENT: usize = 1;
 const VALUES: usize = 2;
-const JACOBIAN: usize = 3;
-const LOWER: usize = 4;
-const UPPER: usize = 5;
+const JACOBIAN: usize = 4;
+const LOWER: usize = 5;
+const UPPER: usize = 6;
 
-pub const ROWS: [Row; 28] = [
+pub const ROWS: [Row; 37] = [
     ("every size", Share::All(16 * 17 * 8), &[Number(0), Relaxed], |_, index, draw| {
         let at = index / 8;
         posed(draw, (at / 17) as usize + 1, (at % 17) as usize, Palette::Smooth)
@@ -60,7 +60,122 @@ pub const ROWS: [Row; 28] = [
     ("some special", Share::Weight(4), &[Number(0), Nan], |_, _, draw| strewn(draw, 4)),
     ("specials", Share::Weight(3), &[Number(0)], |_, _, draw| loose(draw, Palette::Special)),
     ("bits", Share::Weight(3), &[Number(5)], |_, _, draw| loose(draw, Palette::Bits)),
+    ("one band", Share::All(3 * 2401), &[Number(0), Relaxed], one_band),
+    ("two bands", Share::All(4 * 729), &[Number(0), Relaxed], two_bands),
+    ("bands", Share::Weight(12), &[Number(0), Relaxed, Blocked], |_, _, draw| {
+        let palette = draw.pick(&[Palette::Smooth, Palette::Smooth, Palette::Whole]);
+        banded(draw, palette, wide_enough)
+    }),
+    ("narrow bands", Share::Weight(8), &[Number(0), Relaxed], |_, _, draw| {
+        let palette = draw.pick(&[Palette::Smooth, Palette::Whole]);
+        banded(draw, palette, any_width)
+    }),
+    ("bands beside balances", Share::Weight(6), &[Number(0), Stages(11, 0)], |_, _, draw| {
+        let mut call = entered_twice(Op::Step, 0, draw);
+        to_bands(draw, &mut call, wide_enough);
+        call
+    }),
+    ("bands violated", Share::Weight(8), &[Relaxed], |_, _, draw| {
+        let mut call = violated(Op::Step, 0, draw);
+        to_bands(draw, &mut call, any_width);
+        call
+    }),
+    ("sixteen bands", Share::Weight(8), &[Number(0), Relaxed, Blocked], sixteen_bands),
+    ("bands, loose", Share::Weight(8), &[Number(0), Number(6), Relaxed], |_, _, draw| {
+        let palette = draw.pick(&[Palette::Whole, Palette::Signs, Palette::Wide]);
+        let mut call = loose(draw, palette);
+        to_bands(draw, &mut call, any_width);
+        call
+    }),
+    ("bands, special", Share::Weight(8), &[Number(0), Nan], |_, _, draw| {
+        let mut call = strewn(draw, 3);
+        to_bands(draw, &mut call, any_width);
+        call
+    }),
 ];
+
+/// Turns most inequalities into bands, of widths by their values.
+fn to_bands(draw: &mut Draw, call: &mut Call, width: fn(&mut Draw, f64) -> f64) {
+    for at in 0..call.sizes[1] {
+        if call.kinds[at] == 1 && !draw.one_in(4) {
+            call.kinds[at] = 2;
+            call.inputs[WIDTHS][at] = width(draw, call.inputs[VALUES][at]);
+        }
+    }
+}
+
+/// A model that one drawn step fulfils, with bands.
+fn banded(draw: &mut Draw, palette: Palette, width: fn(&mut Draw, f64) -> f64) -> Call {
+    let mut call = of(draw, palette);
+    to_bands(draw, &mut call, width);
+    call
+}
+
+/// A width about as large as the value, or beyond it.
+fn wide_enough(draw: &mut Draw, value: f64) -> f64 {
+    let about = value.abs() * draw.pick(&[0.5, 1.0, 1.0, 2.0, 4.0]) + draw.pick(&[0.0, 1.0, 3.0]);
+    if about.is_finite() { about } else { 1.0 }
+}
+
+/// Any width: none, next to none, small, large, the largest.
+fn any_width(draw: &mut Draw, value: f64) -> f64 {
+    let few = [0.0, -0.0, f64::MIN_POSITIVE, 5e-324, 1e-12, 0.1, 1.0, 2.0, 1e6, 1e300, f64::MAX];
+    if draw.one_in(3) { wide_enough(draw, value) } else { draw.pick(&few) }
+}
+
+/// One variable, one band, over short lists of values.
+fn one_band(_: Op, index: u64, draw: &mut Draw) -> Call {
+    let letters = [-2.0, -1.0, -0.0, 0.0, 0.5, 2.0, 3.0];
+    let values = spell(index / 3, &letters, 4);
+    let width = [0.0, 1.0, 3.0][(index % 3) as usize];
+    let one = |value: f64| vec![value];
+    let (low, high) = draw.pick(&[(f64::NEG_INFINITY, f64::INFINITY), (-1.0, 1.0), (-5.0, 0.25)]);
+    let diagonal = draw.pick(&[1.0, 2.0]);
+    let inputs = vec![
+        one(diagonal),
+        one(values[0]),
+        one(values[1]),
+        one(width),
+        one(values[2]),
+        one(low.min(values[3])),
+        one(high),
+    ];
+    let mut call = Call::new(Op::Step, &[1, 1], inputs);
+    call.kinds = vec![2];
+    call
+}
+
+/// Two constraints on one variable, a band before or behind another constraint.
+fn two_bands(_: Op, index: u64, draw: &mut Draw) -> Call {
+    let kinds = [[2, 2], [2, 1], [0, 2], [1, 2]][(index % 4) as usize];
+    let values = spell(index / 4, &[-1.0, 0.0, 2.0], 6);
+    let widths = vec![draw.pick(&[0.0, 0.5, 1.0, 4.0]), draw.pick(&[0.0, 0.5, 1.0, 4.0])];
+    let inputs = vec![
+        vec![draw.pick(&[1.0, 2.0])],
+        vec![values[0]],
+        values[1..3].to_vec(),
+        widths,
+        values[3..5].to_vec(),
+        vec![draw.pick(&[f64::NEG_INFINITY, values[5] - 2.0])],
+        vec![f64::INFINITY],
+    ];
+    let mut call = Call::new(Op::Step, &[1, 2], inputs);
+    call.kinds = kinds.to_vec();
+    call
+}
+
+/// The most rows: sixteen bands, and sides of sixteen variables that are all closed.
+fn sixteen_bands(_: Op, _: u64, draw: &mut Draw) -> Call {
+    let mut call = posed(draw, 16, 16, Palette::Smooth);
+    call.kinds = vec![2; 16];
+    for at in 0..16 {
+        call.inputs[WIDTHS][at] = wide_enough(draw, call.inputs[VALUES][at]);
+        let middle = draw.smooth();
+        call.inputs[LOWER][at] = middle - 4.0 * draw.fraction();
+        call.inputs[UPPER][at] = middle + 4.0 * draw.fraction();
+    }
+    call
+}
 
 /// Every slice of a palette.
 fn loose(draw: &mut Draw, palette: Palette) -> Call {
@@ -89,6 +204,11 @@ fn factor(draw: &mut Draw, n: usize, palette: Palette) -> Vec<f64> {
     l
 }
 
+/// Widths that no constraint reads: anything.
+fn unread(draw: &mut Draw, m: usize) -> Vec<f64> {
+    draw.reals(Palette::Special, m)
+}
+
 /// A model that one drawn step fulfils, but for equalities past the variables.
 fn posed(draw: &mut Draw, n: usize, m: usize, palette: Palette) -> Call {
     let l = factor(draw, n, palette);
@@ -110,7 +230,8 @@ fn posed(draw: &mut Draw, n: usize, m: usize, palette: Palette) -> Call {
     };
     let lower = point.iter().map(|d| d + side(draw, f64::NEG_INFINITY)).collect();
     let upper = point.iter().map(|d| d + side(draw, f64::INFINITY)).collect();
-    let inputs = vec![l, gradient, values, jacobian, lower, upper];
+    let widths = unread(draw, m);
+    let inputs = vec![l, gradient, values, widths, jacobian, lower, upper];
     let mut call = Call::new(Op::Step, &[n, m], inputs);
     call.kinds = kinds;
     call
@@ -173,7 +294,7 @@ fn one_free(_: Op, index: u64, _: &mut Draw) -> Call {
         .collect();
     let values = spell(index, &letters, 4);
     let one = |at: usize| vec![values[at]];
-    let inputs = vec![one(0), one(1), vec![], vec![], one(2), one(3)];
+    let inputs = vec![one(0), one(1), vec![], vec![], vec![], one(2), one(3)];
     Call::new(Op::Step, &[1, 0], inputs)
 }
 
@@ -186,7 +307,7 @@ fn one_by_one(_: Op, index: u64, draw: &mut Draw) -> Call {
     let lower = if draw.one_in(2) { vec![-f64::INFINITY] } else { one(4) };
     let upper = if draw.one_in(2) { vec![far] } else { one(5) };
     let diagonal = vec![draw.pick(&[1.0, 2.0, values[0]])];
-    let inputs = vec![diagonal, one(1), one(2), one(3), lower, upper];
+    let inputs = vec![diagonal, one(1), one(2), unread(draw, 1), one(3), lower, upper];
     let mut call = Call::new(Op::Step, &[1, 1], inputs);
     call.kinds = vec![(index % 2) as u8];
     call
@@ -252,8 +373,8 @@ fn balances(_: Op, index: u64, draw: &mut Draw) -> Call {
     let one = |at: usize| vec![values[at]];
     let upper = vec![draw.pick(&[f64::INFINITY, values[7]])];
     let diagonal = vec![draw.pick(&[1.0, 2.0, 0.0])];
-    let inputs =
-        vec![diagonal, one(0), values[1..3].to_vec(), values[3..5].to_vec(), one(5), upper];
+    let (sides, rows) = (values[1..3].to_vec(), values[3..5].to_vec());
+    let inputs = vec![diagonal, one(0), sides, unread(draw, 2), rows, one(5), upper];
     let mut call = Call::new(Op::Step, &[1, 2], inputs);
     call.kinds = kinds.to_vec();
     call

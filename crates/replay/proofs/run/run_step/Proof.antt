@@ -44,11 +44,14 @@ part-requires-5 c κs = omega arith
 part-requires-6 : tie.Need-part-requires-6
 part-requires-6 c κs = omega arith
 
+part-requires-7 : tie.Need-part-requires-7
+part-requires-7 c κs = omega arith
+
 array-borrow-prefix-report : tie.Need-array-borrow-prefix-report
-array-borrow-prefix-report c = search needs
+array-borrow-prefix-report c = omega (arith, c .before .before .before .before .before .before .before .before .before .before .before .before .before .before .before .before .length-at .ensures, c .before .before .before .before .before .before .before .before .before .before .before .before .before .places .ensures)
 
 slice-aggregate-gritstrut-step : tie.Need-slice-aggregate-gritstrut-step
-slice-aggregate-gritstrut-step c = front _ _ _ (c .before .before .before .before .before .before .before .before .before .before .before .before .before .before .before .before .length-at .ensures) (c .before .before .before .before .before .before .before .before .before .before .before .before .before .places .ensures)
+slice-aggregate-gritstrut-step c = front _ _ _ (c .before .before .before .before .before .before .before .before .before .before .before .before .before .before .before .before .before .length-at .ensures) (c .before .before .before .before .before .before .before .before .before .before .before .before .before .before .places .ensures)
 
 gritstrut-step-requires : tie.Need-gritstrut-step-requires
 gritstrut-step-requires c κs = tt
@@ -109,6 +112,7 @@ run-step-spec =
     part-requires-4
     part-requires-5
     part-requires-6
+    part-requires-7
     array-borrow-prefix-report
     slice-aggregate-gritstrut-step
     gritstrut-step-requires

@@ -1,5 +1,5 @@
 use native.Mathlib.Omega.{arith}
-use borrow.Author.Tests.{eq-eqb, ne-eqb}
+use Rattle.step_rows.proofs.Bytes.{kind-floor, kind-paired}
 use Rattle.step.proofs.assembly.paired_of.Statement.{statement}
 use Rattle.step.proofs.assembly.paired_of.Tie as tie
 
@@ -12,8 +12,8 @@ mul-result c = omega arith
 shared-slice-read-result : tie.Need-shared-slice-read-result
 shared-slice-read-result c = omega arith
 
-add-result : tie.Need-add-result
-add-result c = omega arith
+returns : tie.Need-returns
+returns c = rw (kind-floor _ _ _ _ (c .before .if1 .taken))
 
 mul-result-2 : tie.Need-mul-result-2
 mul-result-2 c = omega arith
@@ -21,8 +21,8 @@ mul-result-2 c = omega arith
 shared-slice-read-result-2 : tie.Need-shared-slice-read-result-2
 shared-slice-read-result-2 c = omega arith
 
-returns : tie.Need-returns
-returns c = rw (eq-eqb _ _ (c .before .before .if1 .taken))
+add-result : tie.Need-add-result
+add-result c = omega arith
 
 mul-result-3 : tie.Need-mul-result-3
 mul-result-3 c = omega arith
@@ -31,7 +31,7 @@ shared-slice-read-result-3 : tie.Need-shared-slice-read-result-3
 shared-slice-read-result-3 c = omega arith
 
 returns-2 : tie.Need-returns-2
-returns-2 c = rw (ne-eqb _ _ (c .before .if1 .left))
+returns-2 c = rw (kind-paired _ _ _ (c .before .before .if1 .left))
 
 pub paired-of-spec : {M : Type 1} → statement M
 paired-of-spec =
@@ -40,10 +40,10 @@ paired-of-spec =
     add-p
     mul-result
     shared-slice-read-result
-    add-result
+    returns
     mul-result-2
     shared-slice-read-result-2
-    returns
+    add-result
     mul-result-3
     shared-slice-read-result-3
     returns-2)
