@@ -175,6 +175,31 @@ uint32_t gritstrut_packed_update(size_t n, double *b, size_t b_len,
                                  const double *s, size_t s_len, const double *y, size_t y_len,
                                  double *w, size_t w_len, uint32_t *iw, size_t iw_len);
 
+/* What becomes of a logger's record: it is kept, or dropped for the first reason that applies. */
+enum {
+    GRITSTRUT_KEPT,
+    GRITSTRUT_SHORT,   /* the last record has fewer than 16 bytes */
+    GRITSTRUT_SPARE,   /* a spare byte is not zero */
+    GRITSTRUT_METER,   /* the meter is over 15 */
+    GRITSTRUT_READING, /* the reading is over 999,999 */
+    GRITSTRUT_MINUTE   /* the minute is not later than that of the meter's last kept record */
+};
+
+/* Mends a day's logger records of 16 bytes: meter (2), zero (2), minute (4), reading (4), zero
+ * (4), little-endian. In: records, of any length; a last one below 16 bytes is short. Out: kept
+ * (as long as records), with the sound records in order in its first *kept_bytes, the rest of it
+ * untouched; reasons, a byte of the table above for each record, the short one too (the length of
+ * records divided by 16, rounded up); totals and rollovers (16 each), by meter: the sum of the
+ * volumes between kept neighbours, a reading below the one before it being one rollover of
+ * 1,000,000; 0 for a meter without a kept record. *meters has bit i set where meter i has one.
+ * The number is 0, or 2. There is no workspace; 1.5 KiB of stack are enough. Records that come in
+ * pieces: mend them in one call, or use the program (tools/mend), which carries the state. */
+uint32_t gritstrut_mend(const uint8_t *records, size_t records_len,
+                        uint8_t *kept, size_t kept_len, uint8_t *reasons, size_t reasons_len,
+                        uint64_t *totals, size_t totals_len,
+                        uint64_t *rollovers, size_t rollovers_len,
+                        size_t *kept_bytes, uint32_t *meters);
+
 /* The entries of a step's report. A step has two stages: the exact problem, and where that is
  * refused the relaxed one. */
 enum {

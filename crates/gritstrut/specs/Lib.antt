@@ -1,3 +1,4 @@
 -- What the C functions promise. Definitions only.
 pub mod Interface
 pub mod Claims
+pub mod Mending

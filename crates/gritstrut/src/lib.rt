@@ -1,4 +1,6 @@
 // The C interface: every public operation, each slice a pointer and a length. include/gritstrut.h declares it.
+pub mod readings;
+
 ghost use mathlib.Core.Path.{_≡_};
 ghost use Rattle.numbers.specs.Root.{sqrtOf, sumOf};
 ghost use Rattle.norms.specs.Norm.{norm};
