@@ -5,7 +5,8 @@ use Prim.Native.Char.{code}
 use Rattle.workspace.specs.Tables.{Answer, done, refused, numberOf}
 use Rattle.step.specs.Step.{Step, step}
 use Rattle.record_read.specs.Input.{Decoded, fault, tooLarge, problem, decode}
-use Rattle.record_answer.specs.Text.{ascii, decimalText, floatText, linesText}
+use Rattle.ascii.specs.Text.{ascii, decimalText}
+use Rattle.record_answer.specs.Text.{floatText, linesText}
 
 -- `refused 9 at K`
 unfoldable pub faultText : ℕ → List ℕ
