@@ -13,7 +13,7 @@
  * - What the caller must see to, since no function can test it: every pointer is not null, aligned
  *   for its type and valid for the length passed with it (a length of 0 goes with any pointer that
  *   is not null and is aligned); a slice that is written overlaps no other slice of the call; and
- *   the pointers of single results (rank, rounds, factorings, place, relaxation) are distinct and
+ *   the pointers of single results (rank, rounds, factorings, place, kept_bytes ..) are distinct and
  *   overlap nothing. The processor rounds to nearest and keeps subnormal numbers, as a C program begins
  *   (some that are linked with -ffast-math do not). Everything else is taken: any size and length,
  *   and any bit pattern as a double, NaN and infinities too.
@@ -192,8 +192,9 @@ enum {
  * records divided by 16, rounded up); totals and rollovers (16 each), by meter: the sum of the
  * volumes between kept neighbours, a reading below the one before it being one rollover of
  * 1,000,000; 0 for a meter without a kept record. *meters has bit i set where meter i has one.
- * The number is 0, or 2. There is no workspace; 1.5 KiB of stack are enough. Records that come in
- * pieces: mend them in one call, or use the program (tools/mend), which carries the state. */
+ * The number is 0, or 2. There is no workspace; 512 bytes of state stand on the stack. A call is a
+ * whole day: the minutes before it are not known. The program tools/mend takes files of any length
+ * in pieces. */
 uint32_t gritstrut_mend(const uint8_t *records, size_t records_len,
                         uint8_t *kept, size_t kept_len, uint8_t *reasons, size_t reasons_len,
                         uint64_t *totals, size_t totals_len,
