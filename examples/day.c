@@ -33,9 +33,9 @@ int main(int argc, char **argv)
                                           spreads, METERS, balances, BALANCES * METERS,
                                           volumes, METERS, named, METERS, &place,
                                           w, GRITSTRUT_FLOATS, iw, GRITSTRUT_WORDS);
-    if (number == GRITSTRUT_READING || number == GRITSTRUT_SPREAD) {
+    if (number == GRITSTRUT_TOTALISER || number == GRITSTRUT_SPREAD) {
         printf("refused %u: look at the %s of %s\n", (unsigned)number,
-               number == GRITSTRUT_READING ? "readings" : "spread", names[place]);
+               number == GRITSTRUT_TOTALISER ? "readings" : "spread", names[place]);
         return 1;
     }
     if (number != GRITSTRUT_DONE) {

@@ -13,7 +13,8 @@
  * - What the caller must see to, since no function can test it: every pointer is not null, aligned
  *   for its type and valid for the length passed with it (a length of 0 goes with any pointer that
  *   is not null and is aligned); a slice that is written overlaps no other slice of the call; and
- *   the pointers of single results (rank, rounds, factorings, place, relaxation, tally) are distinct and
+ *   the pointers of single results (rank, rounds, factorings, place, relaxation, tally,
+ *   kept_bytes, meters) are distinct and
  *   overlap nothing. The processor rounds to nearest and keeps subnormal numbers, as a C program begins
  *   (some that are linked with -ffast-math do not). Everything else is taken: any size and length,
  *   and any bit pattern as a double, NaN and infinities too.
@@ -40,7 +41,7 @@
  *        that is not positive and finite
  *     11 GRITSTRUT_DEPENDENT: the rank of    untouched    first 8192 and 512 entries zero
  *        the equalities too low
- *     12 GRITSTRUT_READING: a reading over   untouched    untouched
+ *     12 GRITSTRUT_TOTALISER: a reading over untouched    untouched
  *        999,999
  *     13 GRITSTRUT_SPREAD: a spread that is  untouched    untouched
  *        not finite and positive
@@ -91,7 +92,7 @@ extern "C" {
 #define GRITSTRUT_CAPPED 7
 #define GRITSTRUT_PIVOT 8
 #define GRITSTRUT_DEPENDENT 11
-#define GRITSTRUT_READING 12
+#define GRITSTRUT_TOTALISER 12
 #define GRITSTRUT_SPREAD 13
 #define GRITSTRUT_WIDTH 14
 
@@ -202,6 +203,32 @@ uint32_t gritstrut_packed_cholesky(size_t n, const double *b, size_t b_len,
 uint32_t gritstrut_packed_update(size_t n, double *b, size_t b_len,
                                  const double *s, size_t s_len, const double *y, size_t y_len,
                                  double *w, size_t w_len, uint32_t *iw, size_t iw_len);
+
+/* What becomes of a logger's record: it is kept, or dropped for the first reason that applies. */
+enum {
+    GRITSTRUT_KEPT,
+    GRITSTRUT_SHORT,   /* the last record has fewer than 16 bytes */
+    GRITSTRUT_SPARE,   /* a spare byte is not zero */
+    GRITSTRUT_METER,   /* the meter is over 15 */
+    GRITSTRUT_READING, /* the reading is over 999,999 */
+    GRITSTRUT_MINUTE   /* the minute is not later than that of the meter's last kept record */
+};
+
+/* Mends a day's logger records of 16 bytes: meter (2), zero (2), minute (4), reading (4), zero
+ * (4), little-endian. In: records, of any length; a last one below 16 bytes is short. Out: kept
+ * (as long as records), with the sound records in order in its first *kept_bytes, the rest of it
+ * untouched; reasons, a byte of the table above for each record, the short one too (the length of
+ * records divided by 16, rounded up); totals and rollovers (16 each), by meter: the sum of the
+ * volumes between kept neighbours, a reading below the one before it being one rollover of
+ * 1,000,000; 0 for a meter without a kept record. *meters has bit i set where meter i has one.
+ * The number is 0, or 2. There is no workspace; 512 bytes of state stand on the stack. A call is a
+ * whole day: the minutes before it are not known. The program tools/mend takes files of any length
+ * in pieces. */
+uint32_t gritstrut_mend(const uint8_t *records, size_t records_len,
+                        uint8_t *kept, size_t kept_len, uint8_t *reasons, size_t reasons_len,
+                        uint64_t *totals, size_t totals_len,
+                        uint64_t *rollovers, size_t rollovers_len,
+                        size_t *kept_bytes, uint32_t *meters);
 
 /* The entries of a step's report. A step has two stages: the exact problem, and where that is
  * refused the relaxed one. */

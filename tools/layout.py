@@ -12,6 +12,8 @@ import re
 import sys
 
 PAGE = "docs/LAYOUT.md"
+# crates whose constants are sizes, or places in numbers of their own and not in a workspace
+WITHOUT = ("mend", "mend_text")
 CONSTANT = re.compile(r"((?:^ *// .*\n)*)^ *pub const (\w+): usize = ([^;]+);", re.M)
 
 
@@ -25,7 +27,7 @@ def read_places():
     for line in open("crates.txt"):
         crate, colon, _ = line.split("#")[0].partition(":")
         folder = f"crates/{crate.strip()}/src"
-        if not colon or not os.path.isdir(folder):
+        if not colon or not os.path.isdir(folder) or crate.strip() in WITHOUT:
             continue
         for name in sorted(os.listdir(folder)):
             text = open(f"{folder}/{name}").read()

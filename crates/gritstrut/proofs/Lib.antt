@@ -1,3 +1,4 @@
 pub mod Leaves
 pub mod One
 pub mod Days
+pub mod Mends

@@ -2,3 +2,4 @@
 pub mod Interface
 pub mod Claims
 pub mod Daily
+pub mod Mending

@@ -1,5 +1,6 @@
 // The C interface: every public operation, each slice a pointer and a length. include/gritstrut.h declares it.
 mod day;
+pub mod readings;
 
 ghost use mathlib.Core.Path.{_≡_};
 ghost use Rattle.numbers.specs.Root.{sqrtOf, sumOf};

@@ -16,7 +16,8 @@ use Rattle.record_read.specs.Input.{spareZero, isInside, given, isSound, table,
 use Rattle.nnls_passive.specs.Passive.{members, solveOf}
 use Rattle.householder.specs.Qr.{along, image, columnNorm, pivot, swapped, reflector, pinned, advance, steps, factor, forth, back, applyQt, applyQ, upward, solveR, downward, solveRt, solve}
 use Rattle.lsei.specs.Lsei.{dualMatrix, dualSide, dualResidual, primal, ldp, reducedRows, reducedSides, restored, lsiFrom, lsi, fixed, turned, tailOf, shifted, gradient, equalityMultipliers, rejoined, lseiFrom, lsei}
-use Rattle.record_answer.specs.Text.{ascii, decimalFrom, decimalText, floatText, lineText, linesText}
+use Rattle.ascii.specs.Text.{ascii, decimalFrom, decimalText}
+use Rattle.record_answer.specs.Text.{floatText, lineText, linesText}
 use Rattle.record_answer.specs.Program.{faultText, refusedText, doneText, programText}
 use Rattle.record_answer.specs.Cases.{withText, spared, ruleCase, faultCases, sizeCases, stepCases, CasesHold}
 

@@ -7,7 +7,8 @@ use lib.ListN.{length, drop, getD, drop-of-length-le}
 use lib.Seq.{drop-cons}
 use lib.Ieee.{Float, nan}
 use Rattle.numbers.specs.Numbers.{tab}
-use Rattle.record_answer.specs.Text.{ascii, decimalText, floatText, lineText, linesText}
+use Rattle.ascii.specs.Text.{ascii, decimalText}
+use Rattle.record_answer.specs.Text.{floatText, lineText, linesText}
 use Rattle.record_answer.specs.Program.{faultText, refusedText, doneText}
 use Rattle.record_answer.specs.inner.Work.{stepFrom}
 

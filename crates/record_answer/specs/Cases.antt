@@ -4,7 +4,7 @@ use mathlib.Core.List.{List, [], _∷_, _++_, map}
 use Prim.Native.Nat.{ℕ}
 use Prim.Native.Char.{Char, code}
 use Rattle.endian.specs.Little.{bytes}
-use Rattle.record_answer.specs.Text.{ascii}
+use Rattle.ascii.specs.Text.{ascii}
 use Rattle.record_answer.specs.Program.{programText}
 
 pub record RecordCase : Type 0 where

@@ -9,7 +9,8 @@ use Rattle.step_rows.specs.Problem.{Problem}
 use Rattle.step.specs.Step.{Step, step}
 use Rattle.step_call.specs.Promise.{areWidths}
 use Rattle.record_read.specs.Input.{Decoded, fault, tooLarge, problem, readNumbers}
-use Rattle.record_answer.specs.Text.{ascii, decimalText, floatText, linesText}
+use Rattle.ascii.specs.Text.{ascii, decimalText}
+use Rattle.record_answer.specs.Text.{floatText, linesText}
 
 -- `refused 9 at K`
 unfoldable pub faultText : ℕ → List ℕ

@@ -1,25 +1,10 @@
--- Numbers and lines as bytes (docs/RULES.md, "The record program"). Definitions only.
+-- Floats and lines as bytes (docs/RULES.md, "The record program"). Definitions only.
 use mathlib.Core.Bool.{cond}
 use mathlib.Core.List.{List, [], _∷_, _++_}
-use Prim.Native.Nat.{ℕ, zero, suc, _+_, _/_, _%_}
-use Prim.Native.Char.{code}
-use Prim.Native.String.{String, len, charAt}
-use lib.Dec.{ltb}
+use Prim.Native.Nat.{ℕ, _+_}
 use lib.Ieee.{Float, binary64, isNan, toBits}
-use Rattle.io.specs.Digits.{glyph, digits}
-use Rattle.numbers.specs.Numbers.{tab}
-
--- the bytes of a text in ASCII
-unfoldable pub ascii : String → List ℕ
-ascii s = tab (len s) (λ i. code (charAt s i))
-
--- k in decimal, where `left` is above k
-unfoldable pub decimalFrom : (left k : ℕ) → List ℕ
-decimalFrom zero k = []
-decimalFrom (suc left) k = cond (ltb k 10) (glyph k ∷ []) (decimalFrom left (k / 10) ++ (glyph (k % 10) ∷ []))
-
-unfoldable pub decimalText : ℕ → List ℕ
-decimalText k = decimalFrom (suc k) k
+use Rattle.io.specs.Digits.{digits}
+use Rattle.ascii.specs.Text.{ascii, decimalText}
 
 -- H: 16 lower-case hexadecimal digits of the bits, or `nan`
 unfoldable pub floatText : Float → List ℕ

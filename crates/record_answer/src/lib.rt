@@ -8,15 +8,16 @@ ghost use Prim.Native.Nat.{_+_, _≤_, _<_};
 ghost use lib.ListN.{length, take};
 ghost use Rattle.workspace.specs.Tables.{numberOf};
 ghost use Rattle.record_read.specs.inner.Tables.{PLACES, problemIn};
-ghost use Rattle.record_answer.specs.Text.{decimalText};
+ghost use Rattle.ascii.specs.Text.{decimalText};
 ghost use Rattle.record_answer.specs.Program.{faultText, refusedText, doneText, stepText, stepAnswer};
 ghost use Rattle.record_answer.specs.Promise.{Responds};
-ghost use Rattle.record_answer.specs.inner.Work.{Wrote, stepAnswerOf, stepFrom};
-use crate::text::put_byte;
-use crate::text::put_decimal;
+ghost use Rattle.ascii.specs.inner.Work.{Wrote};
+ghost use Rattle.record_answer.specs.inner.Work.{stepAnswerOf, stepFrom};
 use crate::text::put_float;
 use crate::text::put_lines;
-use crate::text::put_text;
+use ascii::put_byte;
+use ascii::put_decimal;
+use ascii::put_text;
 use workspace::Refusal;
 
 // ---- the text
@@ -27,7 +28,7 @@ fn put_numbered(out: &mut [u8], text: &[u8], k: usize) -> usize
     ensures { λ r. ⌜ Wrote (now (out .entry)) 0 (now (text .entry) ++ (decimalText k ++ (10 ∷ []))) (now (out .exit)) r ⌝ }
 {
     let a = put_text(out, 0, text);
-    let b = put_decimal(out, a, k);
+    let b = put_decimal(out, a, k as u64);
     put_byte(out, b, b'\n')
 }
 

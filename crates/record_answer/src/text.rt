@@ -1,41 +1,12 @@
-// Writes text at a place of a lent buffer, and answers the place after it.
+// Writes floats and their lines at a place of a lent buffer, and answers the place after them.
 ghost use mathlib.Core.Path.{_≡_};
-ghost use mathlib.Core.List.{[], _∷_};
 ghost use Prim.Native.Nat.{_+_, _*_, _≤_, _<_};
 ghost use lib.ListN.{length};
-ghost use Rattle.record_answer.specs.Text.{floatText, decimalText, lineText, linesText};
-ghost use Rattle.record_answer.specs.inner.Work.{Wrote};
-
-// One byte.
-pub fn put_byte(out: &mut [u8], at: usize, b: u8) -> usize
-    requires { ⌜ at < length (now out) ⌝ }
-    ensures { λ r. ⌜ Wrote (now (out .entry)) at (b ∷ []) (now (out .exit)) r ⌝ }
-{
-    out[at] = b;
-    at + 1
-}
-
-// The bytes of a slice.
-pub fn put_text(out: &mut [u8], at: usize, text: &[u8]) -> usize
-    requires { ⌜ at + length (now text) ≤ length (now out) ⌝ }
-    ensures { λ r. ⌜ Wrote (now (out .entry)) at (now (text .entry)) (now (out .exit)) r ⌝ }
-{
-    for i in 0..text.len() {
-        out[at + i] = text[i];
-    }
-    at + text.len()
-}
-
-// A number in decimal: at most 20 digits.
-pub fn put_decimal(out: &mut [u8], at: usize, k: usize) -> usize
-    requires { ⌜ at + 20 ≤ length (now out) ⌝ }
-    ensures { λ r. ⌜ Wrote (now (out .entry)) at (decimalText k) (now (out .exit)) r ⌝ }
-    ensures { λ r. ⌜ r ≤ at + 20 ⌝ }
-{
-    let mut digits = [0u8; 20];
-    let n = io::decimal(k as u64, &mut digits);
-    put_text(out, at, &digits[..n])
-}
+ghost use Rattle.record_answer.specs.Text.{floatText, lineText, linesText};
+ghost use Rattle.ascii.specs.inner.Work.{Wrote};
+use ascii::put_byte;
+use ascii::put_decimal;
+use ascii::put_text;
 
 // The 16 hexadecimal digits of a float's bits, or `nan`.
 pub fn put_float(out: &mut [u8], at: usize, x: f64) -> usize
@@ -59,7 +30,7 @@ fn put_line(out: &mut [u8], at: usize, tag: u8, i: usize, x: f64) -> usize
 {
     let a = put_byte(out, at, tag);
     let b = put_byte(out, a, b' ');
-    let c = put_decimal(out, b, i);
+    let c = put_decimal(out, b, i as u64);
     let d = put_byte(out, c, b' ');
     let e = put_float(out, d, x);
     put_byte(out, e, b'\n')

@@ -1,6 +1,6 @@
 -- `put_answer`: the text of each case.
 use native.Mathlib.Omega.{arith}
-use Rattle.record_answer.proofs.Writing.{as-text}
+use Rattle.ascii.proofs.Writing.{as-text}
 use Rattle.record_answer.proofs.Answers.{done-text, failed-text, refused-text}
 use Rattle.record_answer.proofs.put_answer.Statement.{statement}
 use Rattle.record_answer.proofs.put_answer.Tie as tie

@@ -1,6 +1,6 @@
 -- `put_done`: its parts one after the other.
 use native.Mathlib.Omega.{arith}
-use Rattle.record_answer.proofs.Writing.{wrote-then, as-text}
+use Rattle.ascii.proofs.Writing.{wrote-then, as-text}
 use Rattle.record_answer.proofs.Lines.{done-is}
 use Rattle.record_answer.proofs.put_done.Statement.{statement}
 use Rattle.record_answer.proofs.put_done.Tie as tie

@@ -1,6 +1,6 @@
 -- `put_fault`: its text and the number.
 use native.Mathlib.Omega.{arith}
-use Rattle.record_answer.proofs.Writing.{as-text}
+use Rattle.ascii.proofs.Writing.{as-text}
 use Rattle.record_answer.proofs.Lines.{fault-is}
 use Rattle.record_answer.proofs.put_fault.Statement.{statement}
 use Rattle.record_answer.proofs.put_fault.Tie as tie

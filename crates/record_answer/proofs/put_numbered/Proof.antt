@@ -1,6 +1,6 @@
 -- `put_numbered`: its parts one after the other.
 use native.Mathlib.Omega.{arith}
-use Rattle.record_answer.proofs.Writing.{wrote-then}
+use Rattle.ascii.proofs.Writing.{wrote-then}
 use Rattle.record_answer.proofs.put_numbered.Statement.{statement}
 use Rattle.record_answer.proofs.put_numbered.Tie as tie
 

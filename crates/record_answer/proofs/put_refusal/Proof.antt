@@ -2,7 +2,7 @@
 use mathlib.Core.Path.{_≡_, sym}
 use native.Mathlib.Omega.{arith}
 use Rattle.record_answer.specs.Program.{refusedText}
-use Rattle.record_answer.proofs.Writing.{as-text}
+use Rattle.ascii.proofs.Writing.{as-text}
 use Rattle.record_answer.proofs.put_refusal.Statement.{statement}
 use Rattle.record_answer.proofs.put_refusal.Tie as tie
 

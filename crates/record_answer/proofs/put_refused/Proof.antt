@@ -1,6 +1,6 @@
 -- `put_refused`: its text and the number.
 use native.Mathlib.Omega.{arith}
-use Rattle.record_answer.proofs.Writing.{as-text}
+use Rattle.ascii.proofs.Writing.{as-text}
 use Rattle.record_answer.proofs.Lines.{refused-is}
 use Rattle.record_answer.proofs.put_refused.Statement.{statement}
 use Rattle.record_answer.proofs.put_refused.Tie as tie

@@ -3,7 +3,7 @@ use mathlib.Core.Path.{sym, ap, _∙_}
 use native.Mathlib.Omega.{arith}
 use lib.Seq.{length-take-le}
 use Rattle.record_answer.specs.Program.{stepText}
-use Rattle.record_answer.proofs.Writing.{as-text}
+use Rattle.ascii.proofs.Writing.{as-text}
 use Rattle.record_answer.proofs.put_step.Statement.{statement}
 use Rattle.record_answer.proofs.put_step.Tie as tie
 

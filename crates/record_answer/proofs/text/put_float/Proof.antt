@@ -2,7 +2,7 @@
 use mathlib.Core.Path.{_∙_}
 use native.Mathlib.Omega.{arith}
 use Rattle.record_read.proofs.Bytes.{some-bits}
-use Rattle.record_answer.proofs.Writing.{as-text}
+use Rattle.ascii.proofs.Writing.{as-text}
 use Rattle.record_answer.proofs.Numerals.{float-nan, float-hex, hex-is, hex-places, bits-lt}
 use Rattle.record_answer.proofs.text.put_float.Statement.{statement}
 use Rattle.record_answer.proofs.text.put_float.Tie as tie

@@ -1,6 +1,6 @@
 -- `put_line`: its parts one after the other.
 use native.Mathlib.Omega.{arith}
-use Rattle.record_answer.proofs.Writing.{wrote-then, as-text}
+use Rattle.ascii.proofs.Writing.{wrote-then, as-text}
 use Rattle.record_answer.proofs.Lines.{line-is}
 use Rattle.record_answer.proofs.text.put_line.Statement.{statement}
 use Rattle.record_answer.proofs.text.put_line.Tie as tie

@@ -4,7 +4,7 @@ use Prim.Native.Nat.{_+_, _*_, _-_, _≤_}
 use native.Mathlib.Omega.{arith}
 use lib.ListN.{length, drop}
 use Rattle.record_answer.specs.Text.{linesText}
-use Rattle.record_answer.proofs.Writing.{Writing, writing-none, writing-more, writing-end}
+use Rattle.ascii.proofs.Writing.{Writing, writing-none, writing-more, writing-end}
 use Rattle.record_answer.proofs.Lines.{line-more, line-none}
 use Rattle.record_answer.proofs.text.put_lines.Statement.{statement}
 use Rattle.record_answer.proofs.text.put_lines.Tie as tie

@@ -1,0 +1,3 @@
+-- Text as bytes. Definitions only.
+pub mod Text
+pub mod inner

@@ -1,0 +1,2 @@
+-- Reading an input. Definitions only.
+pub mod Reading

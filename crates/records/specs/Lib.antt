@@ -1,2 +1,0 @@
--- The record program. Definitions only.
-pub mod inner

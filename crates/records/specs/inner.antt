@@ -1,2 +1,0 @@
--- What the inner functions tell: it serves their contracts alone. Definitions only.
-pub mod Reading
