@@ -246,6 +246,12 @@ fn try_column(w: &mut [f64], iw: &mut [u32], m: usize, n: usize, t: usize) -> bo
     ensures { λ r. ⌜ TriedColumn m n t r (read m n (now (w .entry)) (now (iw .entry))) (read m n (now (w .exit)) (now (iw .exit))) ⌝ }
 {
     iw[t] = 1;
+    let fits = nnls_passive::fits(iw, m, n);
+    if !fits {
+        iw[t] = 0;
+        iw[nnls_passive::NNLS_REJECTED + t] = 1;
+        return false;
+    }
     let full = nnls_passive::solve_passive(w, iw, m, n);
     if full {
         if w[nnls_passive::NNLS_Z + t] > 0.0 {
