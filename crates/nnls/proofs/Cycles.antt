@@ -116,3 +116,13 @@ module _ (n : ℕ) (dual : List Float → List Float) (solve : List ℕ → Solv
       ∙ ap (λ (u : Settled). rounds n dual solve left (u .x) (u .passive) (past + 1) (u .factorings)) c₀
       ∙ from (s .x) (s .passive) refl refl (omega arith)
       ∙ sym (ap (λ (u : Settled). rounds n dual solve left (u .x) (u .passive) (past + 1) (f₀ + (u .factorings - f))) c)
+
+  -- the counts of a round only grow
+  pub pass-more : (x : List Float) (p : List ℕ) (f : ℕ) (p' : List ℕ) (z : List Float) (g : ℕ) → pass n dual solve x p f ≡ kept p' z g → f ≤ g
+  pass-more x p f p' z g h = same-kept f f p' z g (pass n dual solve x p 0) (sym (pass-raised x p 0 f) ∙ ap (pass n dual solve x p) (omega arith) ∙ h) .1
+
+  pub turns-more : (x z : List Float) (p : List ℕ) (g : ℕ) → g ≤ turns n solve n x z p g .factorings
+  turns-more x z p g =
+      let e : turns n solve n x z p g .factorings ≡ turns n solve n x z p 0 .factorings + g =
+      ap (λ (u : Settled). u .factorings) (ap (turns n solve n x z p) (omega arith) ∙ turns-raised n solve n x z p 0 g) in
+      omega (arith, e)

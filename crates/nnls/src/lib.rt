@@ -1,13 +1,17 @@
 // Nonnegative least squares in one part of each workspace.
+mod memory;
+
 ghost use mathlib.Core.Path.{_≡_};
 ghost use Prim.Native.Nat.{ℕ, _+_, _*_, _<_, _≤_};
-ghost use lib.ListN.{length};
-ghost use Rattle.numbers.specs.Numbers.{Σ, at, nth, _⊖_, _⊗_};
+ghost use lib.ListN.{length, replicate};
+ghost use Rattle.numbers.specs.Numbers.{+0, Σ, at, nth, _⊖_, _⊗_};
 ghost use Rattle.workspace.specs.inner.Readings.{vec, mat, nums, Block};
 ghost use Rattle.nnls.specs.Nnls as Nnls;
 ghost use Rattle.nnls.specs.inner.State.{read, solveIn, dualIn, Rounded};
 ghost use Rattle.nnls.specs.inner.Work.{betterOf, trialOf, nearerOf, obstacleOf, Moved, TriedColumn, Passed, TurnsTaken};
 ghost use Rattle.nnls_passive.specs.inner.Places.{NNLS_DUAL, NNLS_REJECTED, NNLS_RESIDUAL, NNLS_ROOM, NNLS_SIDE, NNLS_WORDS, NNLS_X, NNLS_Z};
+use crate::memory::Course;
+use crate::memory::look_back;
 
 // ---- which column to try
 
@@ -340,30 +344,36 @@ pub enum RoundsEnd {
     Capped(usize, usize),
 }
 
-// Rounds, at most k, from x and the passive marks on.
+// Rounds, at most k, from x = +0 and no passive column on; whole periods of rounds that repeat are counted and not run.
 fn run_rounds(w: &mut [f64], iw: &mut [u32], m: usize, n: usize, k: usize) -> RoundsEnd
-    requires { ⌜ (m ≤ 18) × (n ≤ 66) × (NNLS_ROOM ≤ length (now w)) × (NNLS_WORDS ≤ length (now iw)) × (k ≤ 198) ⌝ }
+    requires { ⌜ (m ≤ 18) × (n ≤ 66) × (NNLS_ROOM ≤ length (now w)) × (NNLS_WORDS ≤ length (now iw)) × (k ≤ 198) × (vec NNLS_X n (now w) ≡ replicate n +0) × (nums 0 n (now iw) ≡ replicate n 0) ⌝ }
     ensures { λ r. ⌜ Rounded (Nnls.rounds n (dualIn m n (read m n (now (w .entry)) (now (iw .entry)))) (solveIn m n (read m n (now (w .entry)) (now (iw .entry)))) k (vec NNLS_X n (now (w .entry))) (nums 0 n (now (iw .entry))) 0 0)
         r (read m n (now (w .entry)) (now (iw .entry))) (read m n (now (w .exit)) (now (iw .exit))) ⌝ }
 {
-    let mut past = 0usize;
-    let mut f = 0usize;
-    while past < k {
-        let pass = one_pass(w, iw, m, n, f);
+    let mut c = Course {
+        past: 0,
+        factorings: 0,
+        low: 0,
+        high: 0,
+        since: 0,
+        spent: 0,
+    };
+    while c.past < k {
+        let pass = one_pass(w, iw, m, n, c.factorings);
         let g = pass.factorings;
         if !pass.kept {
-            return RoundsEnd::Accepted(past, g);
+            return RoundsEnd::Accepted(c.past, g);
         }
-        f = turn_all(w, iw, m, n, g);
+        let f = turn_all(w, iw, m, n, g);
         workspace::copy_down(w, nnls_passive::NNLS_Z, nnls_passive::NNLS_X, n);
-        past += 1;
+        c = look_back(iw, n, k, c, f);
     }
-    let pass = one_pass(w, iw, m, n, f);
+    let pass = one_pass(w, iw, m, n, c.factorings);
     let g = pass.factorings;
     if pass.kept {
-        return RoundsEnd::Capped(past, g);
+        return RoundsEnd::Capped(c.past, g);
     }
-    RoundsEnd::Accepted(past, g)
+    RoundsEnd::Accepted(c.past, g)
 }
 
 // Nonnegative least squares of the A and b in the workspace, with k rounds allowed; both stay.
