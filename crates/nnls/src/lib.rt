@@ -1,15 +1,18 @@
 // Nonnegative least squares in one part of each workspace.
+mod dual;
 mod memory;
 
 ghost use mathlib.Core.Path.{_≡_};
 ghost use Prim.Native.Nat.{ℕ, _+_, _*_, _<_, _≤_};
 ghost use lib.ListN.{length, replicate};
-ghost use Rattle.numbers.specs.Numbers.{+0, Σ, at, nth, _⊖_, _⊗_};
-ghost use Rattle.workspace.specs.inner.Readings.{vec, mat, nums, Block};
+ghost use Rattle.numbers.specs.Numbers.{+0, nth};
+ghost use Rattle.workspace.specs.inner.Readings.{vec, mat, nums};
 ghost use Rattle.nnls.specs.Nnls as Nnls;
 ghost use Rattle.nnls.specs.inner.State.{read, solveIn, dualIn, Rounded};
 ghost use Rattle.nnls.specs.inner.Work.{betterOf, trialOf, nearerOf, obstacleOf, Moved, TriedColumn, Passed, TurnsTaken};
-ghost use Rattle.nnls_passive.specs.inner.Places.{NNLS_DUAL, NNLS_REJECTED, NNLS_RESIDUAL, NNLS_ROOM, NNLS_SIDE, NNLS_WORDS, NNLS_X, NNLS_Z};
+ghost use Rattle.nnls_passive.specs.inner.Places.{NNLS_DUAL, NNLS_REJECTED, NNLS_ROOM, NNLS_SIDE, NNLS_WORDS, NNLS_X, NNLS_Z};
+use crate::dual::write_dual;
+use crate::dual::write_residual;
 use crate::memory::Course;
 use crate::memory::look_back;
 
@@ -206,39 +209,6 @@ fn move_all(w: &mut [f64], iw: &mut [u32], n: usize, q: usize, ratio: f64)
         );
         w[nnls_passive::NNLS_X + j] = next.x;
         iw[j] = next.mark;
-    }
-}
-
-// ---- the dual
-
-// Entry i of b - A x.
-fn residual_at(w: &[f64], i: usize, n: usize) -> f64
-    requires { ⌜ (i < 18) × (n ≤ 66) × (NNLS_ROOM ≤ length (now w)) ⌝ }
-    ensures { λ r. ⌜ r ≡ at (now (w .entry)) (NNLS_SIDE + i) ⊖ Σ n (λ j. at (now (w .entry)) (i + j * 18) ⊗ at (now (w .entry)) (NNLS_X + j * 1)) ⌝ }
-{
-    let t = numbers::dot_strided(w, i, 18, w, nnls_passive::NNLS_X, 1, n);
-    w[nnls_passive::NNLS_SIDE + i] - t
-}
-
-// b - A x, the residual.
-fn write_residual(w: &mut [f64], m: usize, n: usize)
-    requires { ⌜ (m ≤ 18) × (n ≤ 66) × (NNLS_ROOM ≤ length (now w)) ⌝ }
-    ensures { λ _. ⌜ Block NNLS_RESIDUAL m (λ i. at (now (w .entry)) (NNLS_SIDE + i) ⊖ Σ n (λ j. at (now (w .entry)) (i + j * 18) ⊗ at (now (w .entry)) (NNLS_X + j * 1))) (now (w .entry)) (now (w .exit)) ⌝ }
-{
-    for i in 0..m {
-        let v = residual_at(w, i, n);
-        w[nnls_passive::NNLS_RESIDUAL + i] = v;
-    }
-}
-
-// A' times the residual, the dual.
-fn write_dual(w: &mut [f64], m: usize, n: usize)
-    requires { ⌜ (m ≤ 18) × (n ≤ 66) × (NNLS_ROOM ≤ length (now w)) ⌝ }
-    ensures { λ _. ⌜ Block NNLS_DUAL n (λ j. Σ m (λ i. at (now (w .entry)) (j * 18 + i) ⊗ at (now (w .entry)) (NNLS_RESIDUAL + i))) (now (w .entry)) (now (w .exit)) ⌝ }
-{
-    for j in 0..n {
-        let v = numbers::dot_within(w, j * 18, nnls_passive::NNLS_RESIDUAL, m);
-        w[nnls_passive::NNLS_DUAL + j] = v;
     }
 }
 
