@@ -1,5 +1,5 @@
 -- Rounds that come back to where they were repeat: whole periods only raise the counts.
-use mathlib.Core.Path.{_≡_, refl, sym, ap, ap₂, _∙_, subst}
+use mathlib.Core.Path.{_≡_, refl, sym, ap, ap₂, _∙_}
 use mathlib.Core.Bool.{Bool, true, false, true≢false}
 use mathlib.Core.List.{List}
 use mathlib.Core.Option.{Option, none, some}
@@ -8,8 +8,7 @@ use native.Mathlib.Omega.{arith}
 use lib.ListN.{set, replicate}
 use lib.Ieee.{Float}
 use Rattle.nnls_passive.specs.Passive.{Solved}
-use Rattle.nnls.specs.Counted.{Counted}
-use Rattle.nnls.specs.Nnls.{choose, Obstacle, free, block, blocking, moveX, moveP, PassEnd, kept, ended, Settled, Accepted, keeps, judge, tryNext, tries, turnNext, turns, pass, rounds}
+use Rattle.nnls.specs.Nnls.{choose, Obstacle, free, block, blocking, moveX, moveP, PassEnd, kept, ended, Settled, keeps, judge, tryNext, tries, turnNext, turns, pass, rounds}
 use Rattle.nnls.proofs.Unroll.{rounds-again}
 
 -- ---- the counts before a pass or the turns are only added to

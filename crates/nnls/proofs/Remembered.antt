@@ -1,5 +1,5 @@
 -- The passive set that is remembered: the rounds lead from it to where they are, and around where it comes back.
-use mathlib.Core.Path.{_≡_, refl, sym, ap, ap₂, _∙_, subst}
+use mathlib.Core.Path.{_≡_, refl, sym, ap, _∙_, subst}
 use mathlib.Core.Logic.{inl, inr}
 use mathlib.Core.Bool.{Bool, true, false, not, cond, _&&_}
 use mathlib.Core.List.{List}
@@ -15,14 +15,14 @@ use Rattle.numbers.proofs.Cases.{eq-or-ne}
 use Rattle.numbers.proofs.Lists.{tab-of, tab-replicate, getD-tab}
 use Rattle.nnls_passive.specs.Passive.{isIn, Solved}
 use Rattle.nnls.specs.Claims.{Solver}
-use Rattle.nnls.specs.Nnls.{Obstacle, free, block, blocking, leaves, stepTo, nextMark, moveX, moveP, PassEnd, kept, Settled, turnNext, turns, pass, rounds}
+use Rattle.nnls.specs.Nnls.{Obstacle, free, block, blocking, leaves, stepTo, nextMark, moveX, moveP, kept, turnNext, turns, pass, rounds}
 use Rattle.nnls.specs.inner.Memory.{front, Digits, Repeated, LookedBack, onward, came-back, renewed}
 use Rattle.nnls.specs.declared.memory.Course.{Course}
 use Rattle.nnls.specs.declared.memory.Counts.{Counts}
 use Rattle.nnls.proofs.Lists.{none-in}
 use Rattle.nnls.proofs.Count.{count}
 use Rattle.nnls.proofs.Loops.{outside, Keeps, PassOk, pass-ok, TurnsOk, turns-suffice}
-use Rattle.nnls.proofs.Cycles.{Leads, leads-none, leads-then, leads-around, leads-once}
+use Rattle.nnls.proofs.Cycles.{Leads, leads-none, leads-then, leads-around}
 use Rattle.nnls.proofs.Digits.{bits-none, digits-told}
 
 -- ---- marks of at most 1

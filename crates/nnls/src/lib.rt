@@ -3,7 +3,7 @@ mod dual;
 mod memory;
 
 ghost use mathlib.Core.Path.{_≡_};
-ghost use Prim.Native.Nat.{ℕ, _+_, _*_, _<_, _≤_};
+ghost use Prim.Native.Nat.{_+_, _*_, _<_, _≤_};
 ghost use lib.ListN.{length, replicate};
 ghost use Rattle.numbers.specs.Numbers.{+0, nth};
 ghost use Rattle.workspace.specs.inner.Readings.{vec, mat, nums};

@@ -101,7 +101,7 @@ pub fn look_back(iw: &[u32], n: usize, k: usize, c: Course, f: usize) -> Course
             };
         }
     }
-    if past < 2 * c.since {
+    if 2 * past < 3 * c.since {
         return onward(c, f);
     }
     Course {

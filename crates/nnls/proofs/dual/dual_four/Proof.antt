@@ -1,6 +1,6 @@
 -- `dual_four`: after i turns each sum has i terms.
 use mathlib.Core.Path.{_≡_}
-use Prim.Native.Nat.{ℕ, _+_, _*_, _-_, _≤_, _<_}
+use Prim.Native.Nat.{_+_, _*_, _-_, _≤_}
 use native.Mathlib.Omega.{arith}
 use Rattle.numbers.specs.Numbers.{Σ, _⊗_, at}
 use Rattle.numbers.proofs.Sums.{Σ-none, Σ-more}

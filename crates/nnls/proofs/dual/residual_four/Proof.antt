@@ -1,6 +1,6 @@
 -- `residual_four`: after j turns each sum has j terms.
 use mathlib.Core.Path.{_≡_}
-use Prim.Native.Nat.{ℕ, _+_, _*_, _-_, _≤_, _<_}
+use Prim.Native.Nat.{_+_, _*_, _-_, _≤_}
 use native.Mathlib.Omega.{arith}
 use Rattle.numbers.specs.Numbers.{Σ, _⊗_, at}
 use Rattle.numbers.proofs.Sums.{Σ-none, Σ-more}

@@ -1,9 +1,7 @@
 -- `digits`: after i turns the number has the first i digits.
-use mathlib.Core.Path.{_≡_, refl, sym, ap, _∙_}
-use Prim.Native.Nat.{_+_, _-_, _≤_, _^_, _<_}
+use mathlib.Core.Path.{_≡_, sym, ap, _∙_}
+use Prim.Native.Nat.{_-_, _≤_}
 use native.Mathlib.Omega.{arith}
-use lib.Pow.{pow-mono}
-use borrow.Author.Needs.{needs}
 use Rattle.nnls.specs.inner.Memory.{bits}
 use Rattle.nnls.proofs.Digits.{bits-start, bits-more, bits-below}
 use Rattle.nnls.proofs.memory.digits.Statement.{statement}

@@ -1,8 +1,7 @@
 -- `look_back`, each way out by its tests.
-use mathlib.Core.Path.{_≡_, sym, subst}
-use Prim.Native.Nat.{_+_, _-_, _≤_}
+use mathlib.Core.Path.{sym, subst}
+use Prim.Native.Nat.{_+_}
 use native.Mathlib.Omega.{arith}
-use Rattle.nnls.specs.declared.memory.Course.{Course}
 use Rattle.workspace.specs.inner.Readings.{nums}
 use Rattle.nnls.specs.inner.Memory.{LookedBack, onward, came-back, renewed}
 use Rattle.nnls.proofs.Digits.{read-digits}
@@ -62,7 +61,10 @@ returns-2 c =
     (c .before .before .before .before .before .if2 .taken) (c .before .before .before .if3 .taken) (c .repeat .result) (c .repeat .ensures)
 
 mul-if4 : tie.Need-mul-if4
-mul-if4 c = let a = c .before .before .before .before .before .before .before .before .before .pre .earlier in let b = c .before .before .before .before .before .before .before .before .before .pre .within in let l = c .before .before .before .before .before .before .before .before .before .pre .limit in omega (arith, a, b, l)
+mul-if4 c = let b = c .before .before .before .before .before .before .before .before .pre .within in let l = c .before .before .before .before .before .before .before .before .pre .limit in omega (arith, b, l)
+
+mul-if4-2 : tie.Need-mul-if4-2
+mul-if4-2 c = let a = c .before .before .before .before .before .before .before .before .before .pre .earlier in let b = c .before .before .before .before .before .before .before .before .before .pre .within in let l = c .before .before .before .before .before .before .before .before .before .pre .limit in omega (arith, a, b, l)
 
 onward-requires-2 : tie.Need-onward-requires-2
 onward-requires-2 c κs = let w = c .before .before .before .before .before .before .before .before .before .before .pre .within in let l = c .before .before .before .before .before .before .before .before .before .before .pre .limit in omega (arith, w, l)
@@ -93,6 +95,7 @@ look-back-spec =
     repeat-requires
     returns-2
     mul-if4
+    mul-if4-2
     onward-requires-2
     returns-3
     returns-4)

@@ -1,6 +1,5 @@
 -- `repeat`: after each turn one period more is counted.
-use mathlib.Core.Path.{_≡_, refl}
-use Prim.Native.Nat.{_+_, _-_, _*_, _≤_}
+use Prim.Native.Nat.{_-_}
 use native.Mathlib.Omega.{arith}
 use Rattle.nnls.specs.inner.Memory.{Repeated}
 use Rattle.nnls.proofs.Remembered.{repeated-none, repeated-more}
