@@ -11,25 +11,25 @@ use Rattle.workspace.specs.inner.Readings.{vec, mat, nums, Block, Span}
 use Rattle.workspace.proofs.Readings.{vec-is, at-vec, entry-mat}
 use Rattle.numbers.proofs.Sums.{Σ-same}
 use Rattle.nnls.specs.Nnls.{residual, dualOf}
+use Rattle.nnls.specs.inner.Dual.{residualAt, dualAt}
 use Rattle.nnls.specs.inner.State.{State, read, put}
 use Rattle.nnls.proofs.States.{states, same-a, same-b, same-vec, read-unrejected}
 
 module _ (m n : ℕ) (w w₁ w₂ : List Float) (l : List ℕ) (m18 : m ≤ 18) (n66 : n ≤ 66)
-    (R : Block 1404 m (λ i. at w (1188 + i) ⊖ Σ n (λ j. at w (i + j * 18) ⊗ at w (1206 + j * 1))) w w₁)
-    (D : Block 1338 n (λ j. Σ m (λ i. at w₁ (j * 18 + i) ⊗ at w₁ (1404 + i))) w₁ w₂) where
+    (R : Block 1404 m (residualAt n w) w w₁) (D : Block 1338 n (dualAt m w₁) w₁ w₂) where
   residual-is : (i : ℕ) → i < m → at w₁ (1404 + i) ≡ at (residual m n (mat 0 m n w) (vec 1188 m w) (vec 1206 n w)) i
-  unfolding residual
+  unfolding residual residualAt
   residual-is i hi =
       R .inside i hi
       ∙ ap₂ _⊖_ (sym (at-vec 1188 m w i hi))
       (Σ-same n _ _
       (λ j hj.
       ap₂ _⊗_ (ap (λ (x : ℕ). at w x) (omega arith) ∙ sym (entry-mat 0 m n w i j hi hj))
-      (ap (λ (x : ℕ). at w x) (omega arith) ∙ sym (at-vec 1206 n w j hj))))
+      (sym (at-vec 1206 n w j hj))))
       ∙ sym (getD-tab m _ nan i hi)
 
   dual-is : vec 1338 n w₂ ≡ dualOf m n (mat 0 m n w) (vec 1188 m w) (vec 1206 n w)
-  unfolding dualOf
+  unfolding dualOf dualAt
   dual-is =
       vec-is 1338 n w₂ _
       (λ j hj.

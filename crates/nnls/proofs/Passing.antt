@@ -85,7 +85,9 @@ module _ (m n f : ℕ) (s₀ s : State) (count : ℕ) (g : Trying m n f s₀ s c
         → Passed (tries n (solveIn m n s₀) n (s₀ .dual) (s₀ .passive) (s₀ .rejected) f) (f + n) (record { kept = true; factorings = f + (count + 1) }) s₀ s′
     pass-keep h =
         let a : s′ ≡ put (s₀ .x) (solveIn m n s₀ (set (s₀ .passive) t 1) .z) (s₀ .dual) (set (s₀ .passive) t 1) (s .rejected) s₀ =
-        tr₀ .after ∙ ap (λ (b : Bool). put (s₀ .x) (solveIn m n s₀ (set (s₀ .passive) t 1) .z) (s₀ .dual) (cond b (set (s₀ .passive) t 1) (s₀ .passive)) (cond b (s .rejected) (set (s .rejected) t 1)) s₀) h in
+        tr₀ .after
+        ∙ ap (λ (b : Bool). put (s₀ .x) (s′ .z) (s₀ .dual) (cond b (set (s₀ .passive) t 1) (s₀ .passive)) (cond b (s .rejected) (set (s .rejected) t 1)) s₀) h
+        ∙ ap (λ (v : List Float). put (s₀ .x) v (s₀ .dual) (set (s₀ .passive) t 1) (s .rejected) s₀) (tr₀ .values h) in
         record {
           answer =
               ap (λ (q : State). kept (q .passive) (q .z) (f + (count + 1))) a
@@ -98,10 +100,10 @@ module _ (m n f : ℕ) (s₀ s : State) (count : ℕ) (g : Trying m n f s₀ s c
 
     pub pass-again : r ≡ false → Trying m n f s₀ s′ (count + 1)
     pass-again h =
-        let a : s′ ≡ put (s₀ .x) (solveIn m n s₀ (set (s₀ .passive) t 1) .z) (s₀ .dual) (s₀ .passive) (set (s .rejected) t 1) s₀ =
-        tr₀ .after ∙ ap (λ (b : Bool). put (s₀ .x) (solveIn m n s₀ (set (s₀ .passive) t 1) .z) (s₀ .dual) (cond b (set (s₀ .passive) t 1) (s₀ .passive)) (cond b (s .rejected) (set (s .rejected) t 1)) s₀) h in
+        let a : s′ ≡ put (s₀ .x) (s′ .z) (s₀ .dual) (s₀ .passive) (set (s .rejected) t 1) s₀ =
+        tr₀ .after ∙ ap (λ (b : Bool). put (s₀ .x) (s′ .z) (s₀ .dual) (cond b (set (s₀ .passive) t 1) (s₀ .passive)) (cond b (s .rejected) (set (s .rejected) t 1)) s₀) h in
         record {
-          after = a ∙ ap (λ (q : State). put (s₀ .x) (q .z) (s₀ .dual) (s₀ .passive) (q .rejected) s₀) (sym a);
+          after = a ∙ ap (λ (q : State). put (s₀ .x) (s′ .z) (s₀ .dual) (s₀ .passive) (q .rejected) s₀) (sym a);
           within = omega arith;
           rest =
               g .rest

@@ -4,13 +4,20 @@ use mathlib.Core.Bool.{Bool, true, false, cond}
 use mathlib.Core.List.{List}
 use Prim.Native.Nat.{ℕ, _+_, _-_, _*_, _≤_, _<_}
 use native.Mathlib.Omega.{arith}
-use lib.ListN.{replicate}
+use lib.ListN.{length, replicate}
 use lib.Ieee.{Float}
-use Rattle.numbers.specs.Numbers.{+0}
+use Rattle.numbers.specs.Numbers.{+0, nth}
+use Rattle.workspace.specs.inner.Readings.{nums}
+use Rattle.workspace.proofs.Readings.{nth-front}
 use Rattle.nnls.specs.Nnls.{kept, ended, tries, Settled, turns, accept, pass, rounds, activeSet, nnls}
 use Rattle.nnls.specs.inner.State.{State, put, solveIn, dualIn, Rounded}
 use Rattle.nnls.specs.inner.Work.{passEndOf, Passed, TurnsTaken}
+use Rattle.nnls.specs.inner.Memory.{MayLook, LookedBack, onward, came-back, renewed}
+use Rattle.nnls.specs.declared.memory.Course.{Course}
 use Rattle.nnls.proofs.States.{states}
+use Rattle.nnls.proofs.Solves.{solver}
+use Rattle.nnls.proofs.Cycles.{Leads, leads-once, pass-more, turns-more}
+use Rattle.nnls.proofs.Remembered.{Fixed, fixed-none, fixed-again, Memory, memory-none, more-since, few-since, looked}
 use Rattle.nnls.specs.declared.Pass.{Pass}
 use Rattle.nnls.specs.declared.RoundsEnd.{RoundsEnd}
 use Rattle.nnls.specs.declared.RoundsEnd.the-variants as RoundsEnd
@@ -31,21 +38,35 @@ pass-whole m n f s s₁ s′ r e p =
 
 -- ---- the rounds
 
--- after `past` rounds: the problem is as it was, and what is left of the rounds from here is the whole
+-- after `past` rounds: the problem is as it was, x is the solve on the passive set, and what is left of the rounds from here is the whole
 pub record Going (m n k : ℕ) (s₀ s : State) (past f : ℕ) : Type 0 where
   pub after : s ≡ put (s .x) (s .z) (s .dual) (s .passive) (s .rejected) s₀
+  pub fixed : Fixed n (solveIn m n s₀) (s .x) (s .passive)
   pub within : past ≤ k
   pub few : f ≤ 132 * past
   pub rest : rounds n (dualIn m n s₀) (solveIn m n s₀) k (s₀ .x) (s₀ .passive) 0 0
       ≡ rounds n (dualIn m n s₀) (solveIn m n s₀) (k - past) (s .x) (s .passive) past f
 
-pub going-none : (m n k : ℕ) (s : State) → Going m n k s s 0 0
-going-none m n k s =
+-- the same with the memory
+pub record Running (m n k : ℕ) (s₀ s : State) (c : Course) : Type 0 where
+  pub going : Going m n k s₀ s (c .past) (c .factorings)
+  pub memory : Memory n (dualIn m n s₀) (solveIn m n s₀) (s .x) (s .passive) c
+
+pub running-none : (m n k : ℕ) (s : State) → s .x ≡ replicate n +0 → s .passive ≡ replicate n 0
+    → Running m n k s s (record { past = 0; factorings = 0; low = 0; high = 0; since = 0; spent = 0 })
+running-none m n k s ex ep =
+    let none = fixed-none n (solveIn m n s) (solver m n (s .a) (s .b)) in
+    let F₀ : Fixed n (solveIn m n s) (s .x) (replicate n 0) = subst (λ (v : List Float). Fixed n (solveIn m n s) v (replicate n 0)) (sym ex) none in
     record {
-      after = refl;
-      within = omega arith;
-      few = omega arith;
-      rest = ap (λ (l : ℕ). rounds n (dualIn m n s) (solveIn m n s) l (s .x) (s .passive) 0 0) (omega arith);
+      going = record {
+        after = refl;
+        fixed = subst (Fixed n (solveIn m n s) (s .x)) (sym ep) F₀;
+        within = omega arith;
+        few = omega arith;
+        rest = ap (λ (l : ℕ). rounds n (dualIn m n s) (solveIn m n s) l (s .x) (s .passive) 0 0) (omega arith);
+      };
+      memory = subst (λ (p : List ℕ). Memory n (dualIn m n s) (solveIn m n s) (s .x) p (record { past = 0; factorings = 0; low = 0; high = 0; since = 0; spent = 0 })) (sym ep)
+          (memory-none n (dualIn m n s) (solveIn m n s) (s .x) F₀);
     }
 
 module _ (m n k : ℕ) (s₀ s : State) (past f : ℕ) (n66 : n ≤ 66) (g : Going m n k s₀ s past f) (t : Pass) (s′ : State)
@@ -85,32 +106,122 @@ module _ (m n k : ℕ) (s₀ s : State) (past f : ℕ) (n66 : n ≤ 66) (g : Goi
   }
 
   -- s₂ after the turns, s₃ with z in x
-  pub round-again : t .kept ≡ true → past < k → (f′ : ℕ) (s₂ s₃ : State)
-      → TurnsTaken (turns n (solveIn m n s′) n (s′ .x) (s′ .z) (s′ .passive) (t .factorings)) (t .factorings + n) f′ s′ s₂
-      → s₃ ≡ put (s₂ .z) (s₂ .z) (s₂ .dual) (s₂ .passive) (s₂ .rejected) s₂
-      → Going m n k s₀ s₃ (past + 1) f′
-  round-again h l f′ s₂ s₃ T′ e =
-      let i7 = g .few in
-      let i8 = P .few in
-      let i9 = T′ .few in
-      let end : Settled = turns n (solveIn m n s₀) n (s .x) (s′ .z) (s′ .passive) (t .factorings) in
-      let es : turns n (solveIn m n s′) n (s′ .x) (s′ .z) (s′ .passive) (t .factorings) ≡ end =
-      ap (λ (q : State). turns n (solveIn m n q) n (s′ .x) (s′ .z) (s′ .passive) (t .factorings)) (same-problem s′ s₀ a-same b-same)
-      ∙ ap (λ (x : List Float). turns n (solveIn m n s₀) n x (s′ .z) (s′ .passive) (t .factorings)) x-same in
-      let ex : s₃ .x ≡ end .x = ap (λ (q : State). q .x) e ∙ T′ .values ∙ ap (λ (u : Settled). u .x) es in
-      let ep : s₃ .passive ≡ end .passive = ap (λ (q : State). q .passive) e ∙ T′ .marks ∙ ap (λ (u : Settled). u .passive) es in
-      let ef : f′ ≡ end .factorings = T′ .counted ∙ ap (λ (u : Settled). u .factorings) es in
+  module _ (h : t .kept ≡ true) (l : past < k) (f′ : ℕ) (s₂ s₃ : State)
+      (T′ : TurnsTaken (turns n (solveIn m n s′) n (s′ .x) (s′ .z) (s′ .passive) (t .factorings)) (t .factorings + n) f′ s′ s₂)
+      (e : s₃ ≡ put (s₂ .z) (s₂ .z) (s₂ .dual) (s₂ .passive) (s₂ .rejected) s₂) where
+    abbrev end : Settled
+    end = turns n (solveIn m n s₀) n (s .x) (s′ .z) (s′ .passive) (t .factorings)
+
+    es : turns n (solveIn m n s′) n (s′ .x) (s′ .z) (s′ .passive) (t .factorings) ≡ end
+    es =
+        ap (λ (q : State). turns n (solveIn m n q) n (s′ .x) (s′ .z) (s′ .passive) (t .factorings)) (same-problem s′ s₀ a-same b-same)
+        ∙ ap (λ (x : List Float). turns n (solveIn m n s₀) n x (s′ .z) (s′ .passive) (t .factorings)) x-same
+
+    ex : s₃ .x ≡ end .x
+    ex = ap (λ (q : State). q .x) e ∙ T′ .values ∙ ap (λ (u : Settled). u .x) es
+
+    ep : s₃ .passive ≡ end .passive
+    ep = ap (λ (q : State). q .passive) e ∙ T′ .marks ∙ ap (λ (u : Settled). u .passive) es
+
+    ef : f′ ≡ end .factorings
+    ef = T′ .counted ∙ ap (λ (u : Settled). u .factorings) es
+
+    pub round-more : f ≤ f′
+    round-more =
+        omega (
+          arith,
+          ef,
+          pass-more n (dualIn m n s₀) (solveIn m n s₀) (s .x) (s .passive) f (s′ .passive) (s′ .z) (t .factorings) (was-kept h),
+          turns-more n (dualIn m n s₀) (solveIn m n s₀) (s .x) (s′ .z) (s′ .passive) (t .factorings),
+        )
+
+    pub round-few : f′ ≤ f + 132
+    round-few = let i = P .few in let j = T′ .few in omega (arith, i, j)
+
+    pub round-leads : Leads n (dualIn m n s₀) (solveIn m n s₀) (s .x) (s .passive) 1 (f′ - f) (s₃ .x) (s₃ .passive)
+    round-leads =
+        subst (λ (i : ℕ). Leads n (dualIn m n s₀) (solveIn m n s₀) (s .x) (s .passive) 1 (i - f) (s₃ .x) (s₃ .passive)) (sym ef)
+        (subst (λ (v : List Float). Leads n (dualIn m n s₀) (solveIn m n s₀) (s .x) (s .passive) 1 (end .factorings - f) v (s₃ .passive)) (sym ex)
+        (subst (λ (q : List ℕ). Leads n (dualIn m n s₀) (solveIn m n s₀) (s .x) (s .passive) 1 (end .factorings - f) (end .x) q) (sym ep)
+        (leads-once n (dualIn m n s₀) (solveIn m n s₀) (s .x) (s .passive) f (s′ .passive) (s′ .z) (t .factorings) (was-kept h))))
+
+    pub round-again : Going m n k s₀ s₃ (past + 1) f′
+    round-again =
+        let i7 = g .few in
+        let i8 = round-few in
+        record {
+          after =
+              same-problem s₃ s₀ (ap (λ (q : State). q .a) e ∙ ap (λ (q : State). q .a) (T′ .after) ∙ a-same) (ap (λ (q : State). q .b) e ∙ ap (λ (q : State). q .b) (T′ .after) ∙ b-same);
+          fixed =
+              subst (λ (v : List Float). Fixed n (solveIn m n s₀) v (s₃ .passive)) (sym ex)
+              (subst (Fixed n (solveIn m n s₀) (end .x)) (sym ep)
+              (fixed-again n (solveIn m n s₀) (dualIn m n s₀) (s .x) (s .passive) f (s′ .passive) (s′ .z) (t .factorings) (g .fixed) (was-kept h)));
+          within = omega arith;
+          few = omega arith;
+          rest =
+              g .rest
+              ∙ rounds-again n (dualIn m n s₀) (solveIn m n s₀) (s .x) (s .passive) past f (k - past) (k - (past + 1)) (s′ .passive) (s′ .z) (t .factorings) (omega arith) (was-kept h)
+              ∙ ap (λ (v : List Float). rounds n (dualIn m n s₀) (solveIn m n s₀) (k - (past + 1)) v (end .passive) (past + 1) (end .factorings)) (sym ex)
+              ∙ ap₂ (λ (v : List ℕ) (i : ℕ). rounds n (dualIn m n s₀) (solveIn m n s₀) (k - (past + 1)) (s₃ .x) v (past + 1) i) (sym ep) (sym ef);
+        }
+
+-- ---- a look back after a round
+
+module _ (m n k : ℕ) (s₀ s : State) (c : Course) (n66 : n ≤ 66) (R : Running m n k s₀ s c) (t : Pass) (s′ : State)
+    (P : Passed (pass n (dualIn m n s) (solveIn m n s) (s .x) (s .passive) (c .factorings)) (c .factorings + n) t s s′) (h : t .kept ≡ true) (l : c .past < k) (f′ : ℕ) (s₂ s₃ : State)
+    (T′ : TurnsTaken (turns n (solveIn m n s′) n (s′ .x) (s′ .z) (s′ .passive) (t .factorings)) (t .factorings + n) f′ s′ s₂)
+    (e : s₃ ≡ put (s₂ .z) (s₂ .z) (s₂ .dual) (s₂ .passive) (s₂ .rejected) s₂) where
+  next : Going m n k s₀ s₃ (c .past + 1) f′
+  next = round-again m n k s₀ s (c .past) (c .factorings) n66 (R .going) t s′ P h l f′ s₂ s₃ T′ e
+
+  more : c .factorings ≤ f′
+  more = round-more m n k s₀ s (c .past) (c .factorings) n66 (R .going) t s′ P h l f′ s₂ s₃ T′ e
+
+  most : f′ ≤ c .factorings + 132
+  most = round-few m n k s₀ s (c .past) (c .factorings) n66 (R .going) t s′ P h l f′ s₂ s₃ T′ e
+
+  once : Leads n (dualIn m n s₀) (solveIn m n s₀) (s .x) (s .passive) 1 (f′ - c .factorings) (s₃ .x) (s₃ .passive)
+  once = round-leads m n k s₀ s (c .past) (c .factorings) n66 (R .going) t s′ P h l f′ s₂ s₃ T′ e
+
+  pub look-asked : (w : List ℕ) → 264 ≤ length w → k ≤ 198 → s₃ .passive ≡ nums 0 n w → MayLook n k c f′ w
+  look-asked w lw k198 ew = record {
+    columns = n66;
+    room = lw;
+    limit = k198;
+    within = l;
+    earlier = R .memory .earlier;
+    more = more-since n (dualIn m n s₀) (solveIn m n s₀) (s .x) (s₃ .x) (s .passive) (s₃ .passive) c f′ (next .fixed) (R .memory) more most once;
+    few = next .few;
+    few-since = few-since n (dualIn m n s₀) (solveIn m n s₀) (s .x) (s₃ .x) (s .passive) (s₃ .passive) c f′ (next .fixed) (R .memory) more most once;
+    marks = λ j b. subst (λ (v : ℕ). v ≤ 1) (ap (λ (q : List ℕ). nth q j) ew ∙ nth-front n j w b) (next .fixed .low j b);
+  }
+
+  pub look-again : (r : Course) → LookedBack n k (s₃ .passive) c f′ r → Running m n k s₀ s₃ r
+  look-again r L =
+      let K = looked n (dualIn m n s₀) (solveIn m n s₀) (s .x) (s₃ .x) (s .passive) (s₃ .passive) c f′ (next .fixed) (R .memory) more most once k l (next .few) r L in
+      let i1 = K .ahead in
+      let i2 = K .within in
+      let i3 = K .more in
       record {
-        after =
-            same-problem s₃ s₀ (ap (λ (q : State). q .a) e ∙ ap (λ (q : State). q .a) (T′ .after) ∙ a-same) (ap (λ (q : State). q .b) e ∙ ap (λ (q : State). q .b) (T′ .after) ∙ b-same);
-        within = omega arith;
-        few = omega arith;
-        rest =
-            g .rest
-            ∙ rounds-again n (dualIn m n s₀) (solveIn m n s₀) (s .x) (s .passive) past f (k - past) (k - (past + 1)) (s′ .passive) (s′ .z) (t .factorings) (omega arith) (was-kept h)
-            ∙ ap (λ (v : List Float). rounds n (dualIn m n s₀) (solveIn m n s₀) (k - (past + 1)) v (end .passive) (past + 1) (end .factorings)) (sym ex)
-            ∙ ap₂ (λ (v : List ℕ) (i : ℕ). rounds n (dualIn m n s₀) (solveIn m n s₀) (k - (past + 1)) (s₃ .x) v (past + 1) i) (sym ep) (sym ef);
+        going = record {
+          after = next .after;
+          fixed = next .fixed;
+          within = K .within;
+          few = K .few;
+          rest =
+              next .rest
+              ∙ ap (λ (v : ℕ). rounds n (dualIn m n s₀) (solveIn m n s₀) v (s₃ .x) (s₃ .passive) (c .past + 1) f′) (omega (arith, i1, i2))
+              ∙ K .around (k - r .past) (c .past + 1) f′
+              ∙ ap₂ (λ (i j : ℕ). rounds n (dualIn m n s₀) (solveIn m n s₀) (k - r .past) (s₃ .x) (s₃ .passive) i j) (omega (arith, i1)) (omega (arith, i3));
+        };
+        memory = K .memory;
       }
+
+-- it comes further
+pub look-further : (n k : ℕ) (p : List ℕ) (c : Course) (f : ℕ) (r : Course) → LookedBack n k p c f r → c .past < r .past
+look-further n k p c f _ onward = omega arith
+look-further n k p c f _ (came-back low high D e₁ e₂ r R) = let e = R .rounds in omega (arith, e)
+look-further n k p c f _ (renewed low high D) = omega arith
 
 -- ---- the whole
 

@@ -1,13 +1,20 @@
 // Nonnegative least squares in one part of each workspace.
+mod dual;
+mod memory;
+
 ghost use mathlib.Core.Path.{_≡_};
-ghost use Prim.Native.Nat.{ℕ, _+_, _*_, _<_, _≤_};
-ghost use lib.ListN.{length};
-ghost use Rattle.numbers.specs.Numbers.{Σ, at, nth, _⊖_, _⊗_};
-ghost use Rattle.workspace.specs.inner.Readings.{vec, mat, nums, Block};
+ghost use Prim.Native.Nat.{_+_, _*_, _<_, _≤_};
+ghost use lib.ListN.{length, replicate};
+ghost use Rattle.numbers.specs.Numbers.{+0, nth};
+ghost use Rattle.workspace.specs.inner.Readings.{vec, mat, nums};
 ghost use Rattle.nnls.specs.Nnls as Nnls;
 ghost use Rattle.nnls.specs.inner.State.{read, solveIn, dualIn, Rounded};
 ghost use Rattle.nnls.specs.inner.Work.{betterOf, trialOf, nearerOf, obstacleOf, Moved, TriedColumn, Passed, TurnsTaken};
-ghost use Rattle.nnls_passive.specs.inner.Places.{NNLS_DUAL, NNLS_REJECTED, NNLS_RESIDUAL, NNLS_ROOM, NNLS_SIDE, NNLS_WORDS, NNLS_X, NNLS_Z};
+ghost use Rattle.nnls_passive.specs.inner.Places.{NNLS_DUAL, NNLS_REJECTED, NNLS_ROOM, NNLS_SIDE, NNLS_WORDS, NNLS_X, NNLS_Z};
+use crate::dual::write_dual;
+use crate::dual::write_residual;
+use crate::memory::Course;
+use crate::memory::look_back;
 
 // ---- which column to try
 
@@ -205,39 +212,6 @@ fn move_all(w: &mut [f64], iw: &mut [u32], n: usize, q: usize, ratio: f64)
     }
 }
 
-// ---- the dual
-
-// Entry i of b - A x.
-fn residual_at(w: &[f64], i: usize, n: usize) -> f64
-    requires { ⌜ (i < 18) × (n ≤ 66) × (NNLS_ROOM ≤ length (now w)) ⌝ }
-    ensures { λ r. ⌜ r ≡ at (now (w .entry)) (NNLS_SIDE + i) ⊖ Σ n (λ j. at (now (w .entry)) (i + j * 18) ⊗ at (now (w .entry)) (NNLS_X + j * 1)) ⌝ }
-{
-    let t = numbers::dot_strided(w, i, 18, w, nnls_passive::NNLS_X, 1, n);
-    w[nnls_passive::NNLS_SIDE + i] - t
-}
-
-// b - A x, the residual.
-fn write_residual(w: &mut [f64], m: usize, n: usize)
-    requires { ⌜ (m ≤ 18) × (n ≤ 66) × (NNLS_ROOM ≤ length (now w)) ⌝ }
-    ensures { λ _. ⌜ Block NNLS_RESIDUAL m (λ i. at (now (w .entry)) (NNLS_SIDE + i) ⊖ Σ n (λ j. at (now (w .entry)) (i + j * 18) ⊗ at (now (w .entry)) (NNLS_X + j * 1))) (now (w .entry)) (now (w .exit)) ⌝ }
-{
-    for i in 0..m {
-        let v = residual_at(w, i, n);
-        w[nnls_passive::NNLS_RESIDUAL + i] = v;
-    }
-}
-
-// A' times the residual, the dual.
-fn write_dual(w: &mut [f64], m: usize, n: usize)
-    requires { ⌜ (m ≤ 18) × (n ≤ 66) × (NNLS_ROOM ≤ length (now w)) ⌝ }
-    ensures { λ _. ⌜ Block NNLS_DUAL n (λ j. Σ m (λ i. at (now (w .entry)) (j * 18 + i) ⊗ at (now (w .entry)) (NNLS_RESIDUAL + i))) (now (w .entry)) (now (w .exit)) ⌝ }
-{
-    for j in 0..n {
-        let v = numbers::dot_within(w, j * 18, nnls_passive::NNLS_RESIDUAL, m);
-        w[nnls_passive::NNLS_DUAL + j] = v;
-    }
-}
-
 // ---- a pass
 
 // Tries column t: it stays among the passive, and the answer is true; or it is turned back and marked.
@@ -246,6 +220,12 @@ fn try_column(w: &mut [f64], iw: &mut [u32], m: usize, n: usize, t: usize) -> bo
     ensures { λ r. ⌜ TriedColumn m n t r (read m n (now (w .entry)) (now (iw .entry))) (read m n (now (w .exit)) (now (iw .exit))) ⌝ }
 {
     iw[t] = 1;
+    let fits = nnls_passive::fits(iw, m, n);
+    if !fits {
+        iw[t] = 0;
+        iw[nnls_passive::NNLS_REJECTED + t] = 1;
+        return false;
+    }
     let full = nnls_passive::solve_passive(w, iw, m, n);
     if full {
         if w[nnls_passive::NNLS_Z + t] > 0.0 {
@@ -334,30 +314,36 @@ pub enum RoundsEnd {
     Capped(usize, usize),
 }
 
-// Rounds, at most k, from x and the passive marks on.
+// Rounds, at most k, from x = +0 and no passive column on; whole periods of rounds that repeat are counted and not run.
 fn run_rounds(w: &mut [f64], iw: &mut [u32], m: usize, n: usize, k: usize) -> RoundsEnd
-    requires { ⌜ (m ≤ 18) × (n ≤ 66) × (NNLS_ROOM ≤ length (now w)) × (NNLS_WORDS ≤ length (now iw)) × (k ≤ 198) ⌝ }
+    requires { ⌜ (m ≤ 18) × (n ≤ 66) × (NNLS_ROOM ≤ length (now w)) × (NNLS_WORDS ≤ length (now iw)) × (k ≤ 198) × (vec NNLS_X n (now w) ≡ replicate n +0) × (nums 0 n (now iw) ≡ replicate n 0) ⌝ }
     ensures { λ r. ⌜ Rounded (Nnls.rounds n (dualIn m n (read m n (now (w .entry)) (now (iw .entry)))) (solveIn m n (read m n (now (w .entry)) (now (iw .entry)))) k (vec NNLS_X n (now (w .entry))) (nums 0 n (now (iw .entry))) 0 0)
         r (read m n (now (w .entry)) (now (iw .entry))) (read m n (now (w .exit)) (now (iw .exit))) ⌝ }
 {
-    let mut past = 0usize;
-    let mut f = 0usize;
-    while past < k {
-        let pass = one_pass(w, iw, m, n, f);
+    let mut c = Course {
+        past: 0,
+        factorings: 0,
+        low: 0,
+        high: 0,
+        since: 0,
+        spent: 0,
+    };
+    while c.past < k {
+        let pass = one_pass(w, iw, m, n, c.factorings);
         let g = pass.factorings;
         if !pass.kept {
-            return RoundsEnd::Accepted(past, g);
+            return RoundsEnd::Accepted(c.past, g);
         }
-        f = turn_all(w, iw, m, n, g);
+        let f = turn_all(w, iw, m, n, g);
         workspace::copy_down(w, nnls_passive::NNLS_Z, nnls_passive::NNLS_X, n);
-        past += 1;
+        c = look_back(iw, n, k, c, f);
     }
-    let pass = one_pass(w, iw, m, n, f);
+    let pass = one_pass(w, iw, m, n, c.factorings);
     let g = pass.factorings;
     if pass.kept {
-        return RoundsEnd::Capped(past, g);
+        return RoundsEnd::Capped(c.past, g);
     }
-    RoundsEnd::Accepted(past, g)
+    RoundsEnd::Accepted(c.past, g)
 }
 
 // Nonnegative least squares of the A and b in the workspace, with k rounds allowed; both stay.

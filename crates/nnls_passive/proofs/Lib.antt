@@ -3,3 +3,4 @@ pub mod Columns
 pub mod Part
 pub mod Spreads
 pub mod Whole
+pub mod Many

@@ -16,7 +16,7 @@ use Rattle.nnls_passive.specs.inner.Work.{Listed}
 
 -- ---- members
 
-members-suc : (p : List ℕ) (j : ℕ) → members p (j + 1) ≡ cond (isIn p j) (members p j ++ (j ∷ [])) (members p j)
+pub members-suc : (p : List ℕ) (j : ℕ) → members p (j + 1) ≡ cond (isIn p j) (members p j ++ (j ∷ [])) (members p j)
 unfolding members
 members-suc p j = rw add-one
 

@@ -1,11 +1,12 @@
 // The solve on the passive columns of nonnegative least squares, in one part of each workspace.
 ghost use mathlib.Core.Path.{_≡_};
-ghost use mathlib.Core.Bool.{cond, not};
+ghost use mathlib.Core.Bool.{false, cond, not};
 ghost use Prim.Native.Nat.{ℕ, _+_, _*_, _<_, _≤_};
 ghost use lib.Dec.{eqb};
 ghost use lib.ListN.{length, drop};
 ghost use Rattle.numbers.specs.Numbers.{nth};
-ghost use Rattle.nnls_passive.specs.inner.Work.{Listed, Collected, PartFactored, SolvedPart, Spread, PassiveSolved};
+ghost use Rattle.workspace.specs.inner.Readings.{nums};
+ghost use Rattle.nnls_passive.specs.inner.Work.{Dependent, Listed, Collected, PartFactored, SolvedPart, Spread, PassiveSolved};
 ghost use Rattle.nnls_passive.specs.inner.Places.{NNLS_COLUMNS, NNLS_PERM, NNLS_ROOM, NNLS_WORDS};
 
 // ---- where things stand in the part of nonnegative least squares
@@ -59,6 +60,18 @@ fn list_columns(iw: &mut [u32], n: usize) -> usize
         c = c + flag(iw[j]);
     }
     c
+}
+
+// Whether at most m columns are marked; more have no full rank.
+pub fn fits(iw: &[u32], m: usize, n: usize) -> bool
+    requires { ⌜ (n ≤ 66) × (NNLS_WORDS ≤ length (now iw)) ⌝ }
+    ensures { λ r. ⌜ (r ≡ false → Dependent m n (nums 0 n (now (iw .entry)))) ⌝ }
+{
+    let mut c = 0;
+    for j in 0..n {
+        c = c + flag(iw[j]);
+    }
+    c <= m
 }
 
 // The c listed columns, side by side, to the QR part.

@@ -1,6 +1,8 @@
 -- `solve_in`, of its steps.
+use mathlib.Core.Path.{ap}
+use native.Mathlib.Omega.{arith}
 use borrow.Author.Needs.{needs}
-use Rattle.nnls.specs.inner.State.{read}
+use Rattle.nnls.specs.inner.State.{State, read}
 use Rattle.nnls.proofs.States.{read-start}
 use Rattle.nnls.proofs.Rounding.{nnls-whole}
 use Rattle.nnls.proofs.solve_in.Statement.{statement}
@@ -13,7 +15,13 @@ blank-words-requires : tie.Need-blank-words-requires
 blank-words-requires c κs = search needs
 
 run-rounds-requires : tie.Need-run-rounds-requires
-run-rounds-requires c κs = search needs
+run-rounds-requires c κs =
+    let s = c .before .before .before .before .before .before .before .before .before .before .before .before in
+    let a = s .args in
+    let v₁ = c .before .before .before .before .before .before .before .before .blank in
+    let v₂ = c .before .before .before .before .blank-words in
+    let e = read-start (a .m) (a .n) (a .w .now) (v₁ .last .0) (s .pre .0) (s .pre .1) (a .iw .now) (v₂ .last .0) (v₁ .ensures) (v₂ .ensures) in
+    (s .pre .0, s .pre .1, omega (arith, v₁ .kept .0, s .pre .2), omega (arith, v₂ .kept .0, s .pre .3), s .pre .4, ap (λ (q : State). q .x) e, ap (λ (q : State). q .passive) e)
 
 same-length : tie.Need-same-length
 same-length c = search needs

@@ -58,11 +58,12 @@ pub record Moved (n q : ℕ) (r : Float) (w w′ : List Float) (l l′ : List �
   pub after : (x : ℕ) → NNLS_Z ≤ x → at w′ x ≡ at w x
   pub others : (x : ℕ) → 66 ≤ x → nth l′ x ≡ nth l x
 
--- column t was tried: it stays, or was turned back and marked so
+-- column t was tried: it stays, and z has the trial values; or it was turned back and marked so
 pub record TriedColumn (m n t : ℕ) (stays : Bool) (s s′ : State) : Type 0 where
   pub judged : stays ≡ keeps (solveIn m n s (set (s .passive) t 1)) t
+  pub values : stays ≡ true → s′ .z ≡ solveIn m n s (set (s .passive) t 1) .z
   pub after : s′
-      ≡ put (s .x) (solveIn m n s (set (s .passive) t 1) .z) (s .dual) (cond stays (set (s .passive) t 1) (s .passive)) (cond stays (s .rejected) (set (s .rejected) t 1)) s
+      ≡ put (s .x) (s′ .z) (s .dual) (cond stays (set (s .passive) t 1) (s .passive)) (cond stays (s .rejected) (set (s .rejected) t 1)) s
 
 -- how a pass's answer reads, with what it left
 abbrev pub passEndOf : Pass → State → PassEnd

@@ -1,6 +1,6 @@
 -- What the functions here do to the workspaces of nonnegative least squares: steps on the way, and `PassiveSolved` for the callers. Definitions only.
 use mathlib.Core.Path.{_≡_}
-use mathlib.Core.Bool.{Bool}
+use mathlib.Core.Bool.{Bool, false}
 use mathlib.Core.List.{List}
 use Prim.Native.Nat.{ℕ, _+_, _*_, _<_, _≤_}
 use lib.ListN.{drop, length}
@@ -47,3 +47,7 @@ pub record PassiveSolved (m n : ℕ) (full : Bool) (w w′ : List Float) (l l′
   pub before : (x : ℕ) → x < NNLS_Z → at w′ x ≡ at w x
   pub after : (x : ℕ) → NNLS_DUAL ≤ x → x < NNLS_QR → at w′ x ≡ at w x
   pub marks : (x : ℕ) → x < NNLS_COLUMNS → nth l′ x ≡ nth l x
+
+-- whatever A and b are, the marked columns have no full rank
+abbrev pub Dependent : (m n : ℕ) → List ℕ → Type 0
+Dependent m n p = (a b : List Float) → (solveOf m n a b p) .full ≡ false

@@ -1,0 +1,130 @@
+// The residual b - A x and the dual A' (b - A x), four entries side by side: each is summed in its own order.
+ghost use mathlib.Core.Path.{_≡_};
+ghost use Prim.Native.Nat.{_+_, _*_, _/_, _<_, _≤_};
+ghost use lib.ListN.{length};
+ghost use Rattle.workspace.specs.inner.Readings.{Block};
+ghost use Rattle.nnls.specs.inner.Dual.{residualAt, dualAt, fourOf, setFour};
+ghost use Rattle.nnls_passive.specs.inner.Places.{NNLS_DUAL, NNLS_RESIDUAL, NNLS_ROOM};
+
+// Four entries.
+pub struct Four {
+    pub a: f64,
+    pub b: f64,
+    pub c: f64,
+    pub d: f64,
+}
+
+// Four entries from o on.
+fn put_four(w: &mut [f64], o: usize, s: Four)
+    requires { ⌜ (o ≤ 3000) × (NNLS_ROOM ≤ length (now w)) ⌝ }
+    ensures { λ _. ⌜ now (w .exit) ≡ setFour o s (now (w .entry)) ⌝ }
+{
+    w[o] = s.a;
+    w[o + 1] = s.b;
+    w[o + 2] = s.c;
+    w[o + 3] = s.d;
+}
+
+// ---- the residual
+
+// Entry i of b - A x.
+fn residual_at(w: &[f64], i: usize, n: usize) -> f64
+    requires { ⌜ (i < 18) × (n ≤ 66) × (NNLS_ROOM ≤ length (now w)) ⌝ }
+    ensures { λ r. ⌜ r ≡ residualAt n (now (w .entry)) i ⌝ }
+{
+    let t = numbers::dot_strided(w, i, 18, w, nnls_passive::NNLS_X, 1, n);
+    w[nnls_passive::NNLS_SIDE + i] - t
+}
+
+// Entries i to i + 3.
+fn residual_four(w: &[f64], i: usize, n: usize) -> Four
+    requires { ⌜ (i < 15) × (n ≤ 66) × (NNLS_ROOM ≤ length (now w)) ⌝ }
+    ensures { λ r. ⌜ r ≡ fourOf (residualAt n (now (w .entry))) i ⌝ }
+{
+    let mut a = -0.0;
+    let mut b = -0.0;
+    let mut c = -0.0;
+    let mut d = -0.0;
+    for j in 0..n {
+        let x = w[nnls_passive::NNLS_X + j];
+        a = a + w[i + j * 18] * x;
+        b = b + w[i + 1 + j * 18] * x;
+        c = c + w[i + 2 + j * 18] * x;
+        d = d + w[i + 3 + j * 18] * x;
+    }
+    Four {
+        a: w[nnls_passive::NNLS_SIDE + i] - a,
+        b: w[nnls_passive::NNLS_SIDE + (i + 1)] - b,
+        c: w[nnls_passive::NNLS_SIDE + (i + 2)] - c,
+        d: w[nnls_passive::NNLS_SIDE + (i + 3)] - d,
+    }
+}
+
+// The residual by fours: up to three entries are left.
+fn residual_fours(w: &mut [f64], m: usize, n: usize)
+    requires { ⌜ (m ≤ 18) × (n ≤ 66) × (NNLS_ROOM ≤ length (now w)) ⌝ }
+    ensures { λ _. ⌜ Block NNLS_RESIDUAL (m / 4 * 4) (residualAt n (now (w .entry))) (now (w .entry)) (now (w .exit)) ⌝ }
+{
+    let c = m / 4;
+    for q in 0..c {
+        let s = residual_four(w, q * 4, n);
+        put_four(w, nnls_passive::NNLS_RESIDUAL + q * 4, s);
+    }
+}
+
+// b - A x, the residual.
+pub fn write_residual(w: &mut [f64], m: usize, n: usize)
+    requires { ⌜ (m ≤ 18) × (n ≤ 66) × (NNLS_ROOM ≤ length (now w)) ⌝ }
+    ensures { λ _. ⌜ Block NNLS_RESIDUAL m (residualAt n (now (w .entry))) (now (w .entry)) (now (w .exit)) ⌝ }
+{
+    residual_fours(w, m, n);
+    for i in m / 4 * 4..m {
+        let v = residual_at(w, i, n);
+        w[nnls_passive::NNLS_RESIDUAL + i] = v;
+    }
+}
+
+// ---- the dual
+
+// Entries j to j + 3 of A' times the residual.
+fn dual_four(w: &[f64], j: usize, m: usize) -> Four
+    requires { ⌜ (j < 63) × (m ≤ 18) × (NNLS_ROOM ≤ length (now w)) ⌝ }
+    ensures { λ r. ⌜ r ≡ fourOf (dualAt m (now (w .entry))) j ⌝ }
+{
+    let mut a = -0.0;
+    let mut b = -0.0;
+    let mut c = -0.0;
+    let mut d = -0.0;
+    for i in 0..m {
+        let x = w[nnls_passive::NNLS_RESIDUAL + i];
+        a = a + w[j * 18 + i] * x;
+        b = b + w[(j + 1) * 18 + i] * x;
+        c = c + w[(j + 2) * 18 + i] * x;
+        d = d + w[(j + 3) * 18 + i] * x;
+    }
+    Four { a, b, c, d }
+}
+
+// The dual by fours: up to three entries are left.
+fn dual_fours(w: &mut [f64], m: usize, n: usize)
+    requires { ⌜ (m ≤ 18) × (n ≤ 66) × (NNLS_ROOM ≤ length (now w)) ⌝ }
+    ensures { λ _. ⌜ Block NNLS_DUAL (n / 4 * 4) (dualAt m (now (w .entry))) (now (w .entry)) (now (w .exit)) ⌝ }
+{
+    let c = n / 4;
+    for q in 0..c {
+        let s = dual_four(w, q * 4, m);
+        put_four(w, nnls_passive::NNLS_DUAL + q * 4, s);
+    }
+}
+
+// A' times the residual, the dual.
+pub fn write_dual(w: &mut [f64], m: usize, n: usize)
+    requires { ⌜ (m ≤ 18) × (n ≤ 66) × (NNLS_ROOM ≤ length (now w)) ⌝ }
+    ensures { λ _. ⌜ Block NNLS_DUAL n (dualAt m (now (w .entry))) (now (w .entry)) (now (w .exit)) ⌝ }
+{
+    dual_fours(w, m, n);
+    for j in n / 4 * 4..n {
+        let v = numbers::dot_within(w, j * 18, nnls_passive::NNLS_RESIDUAL, m);
+        w[nnls_passive::NNLS_DUAL + j] = v;
+    }
+}
