@@ -14,10 +14,10 @@
  *   for its type and valid for the length passed with it (a length of 0 goes with any pointer that
  *   is not null and is aligned); a slice that is written overlaps no other slice of the call; and
  *   the pointers of single results (rank, rounds, factorings, place, relaxation, tally,
- *   kept_bytes, meters) are distinct and
- *   overlap nothing. The processor rounds to nearest and keeps subnormal numbers, as a C program begins
- *   (some that are linked with -ffast-math do not). Everything else is taken: any size and length,
- *   and any bit pattern as a double, NaN and infinities too.
+ *   kept_bytes, meters) are distinct and overlap nothing. The processor rounds to nearest and keeps
+ *   subnormal numbers, as a C program begins (some that are linked with -ffast-math do not).
+ *   Everything else is taken: any size and length, and any bit pattern as a double, NaN and
+ *   infinities too.
  * - w is a workspace of at least GRITSTRUT_FLOATS doubles (64 KiB) and iw one of at least
  *   GRITSTRUT_WORDS uint32_t (2 KiB). What they hold before a call does not matter.
  * - The result is a number of the table below. Tests are made in the order 1, 2, 3, 4, 14.
@@ -265,17 +265,17 @@ void gritstrut_tally_raise(gritstrut_tally *tally, uint64_t rounds, uint64_t fac
  * In: factor L (n * n), gradient g (n), kinds (m), values c (m), widths (m; those of other kinds
  * are not read), jacobian (m * n, a row for each constraint), lower (n), upper (n).
  * Out: d (n), multipliers (m, in constraint order; a band's is its floor's less its ceiling's, so
- * below zero where the ceiling holds), and the relaxation: 0 where the problem was solved as stated, else the share, up to 1, by which its
- * constraints were relaxed: then they need not hold at d. The number is 0, or that of the relaxed
- * stage: 5, 6 or 7.
+ * below zero where the ceiling holds), and the relaxation: 0 where the problem was solved as
+ * stated, else the share, up to 1, by which its constraints were relaxed: then they need not hold
+ * at d. The number is 0, or that of the relaxed stage: 5, 6 or 7.
  * report (GRITSTRUT_REPORT entries, as above) is written with 0, 5, 6 and 7. Look at it even where
  * the number is 0: an exact number of 11 beside a relaxed one of 0 says that a step came out
  * although an equality depends on others, and the exact place which one it is. That place counts
  * the equalities alone: with kinds 1, 0, 0 the place 1 is constraint 2.
- * tally is raised by the report's rounds and factorings with 0, 5, 6 and 7, and stays with 1 to 4;
- * nothing else depends on it. With p exact inequality rows (constraints of kind 1, closed sides) and
- * q relaxed rows (one of kind 1, two of kind 0, closed sides, two more) a step takes at most
- * 3 + (3p^2 + 4p) + (3q^2 + 4q) factorings.
+ * tally is raised by the report's rounds and factorings with 0, 5, 6 and 7, and stays with 1 to 4
+ * and 14; nothing else depends on it. With p exact inequality rows (one of a floor, two of a band,
+ * one of each closed side) and q relaxed rows (the same, two of an equality, and two more) a step
+ * takes at most 3 + (3p^2 + 4p) + (3q^2 + 4q) factorings.
  * The exact problem reads the whole square of factor, the entries ABOVE the diagonal too: set
  * them to +0, as gritstrut_cholesky does. */
 uint32_t gritstrut_step(size_t n, size_t m, const double *factor, size_t factor_len,

@@ -1,13 +1,14 @@
 -- The tables before the second record, and the constraints' marks at the end.
-use mathlib.Core.Path.{_≡_, refl, sym, _∙_}
+use mathlib.Core.Path.{_≡_, refl, sym}
 use mathlib.Core.Logic.{⊎-elim}
-use mathlib.Core.Bool.{Bool, true, false, _&&_}
+use mathlib.Core.Bool.{Bool, true, false}
 use mathlib.Core.List.{List, append-nil}
 use Prim.Native.Nat.{ℕ, zero, suc, _+_, _≤_, _<_}
 use native.Mathlib.Omega.{arith}
 use lib.ListN.{replicate, length, drop, drop-of-length-le}
 use Rattle.numbers.proofs.Cases.{lt-or-ge}
 use Rattle.workspace.specs.Tables.{cleared}
+use Rattle.workspace.proofs.Tests.{and-true}
 use Rattle.record_read.specs.Input.{allBelow}
 use Rattle.record_read.specs.inner.Tables.{noMarks}
 use Rattle.record_read.proofs.Bytes.{and-false}
@@ -47,14 +48,10 @@ unfolding allBelow
 all-same zero f g h = refl
 all-same (suc m) f g h = rw (all-same m f g (λ i k. h i (omega arith)), h m (omega arith))
 
-both-true : (a b : Bool) → (a && b) ≡ true → (a ≡ true) × (b ≡ true)
-both-true true b h = (refl, h)
-both-true false b h = let z : _≡_ {A = ℕ} 0 1 = cc in absurd (omega arith)
-
 -- and of each of them
 pub all-at : (m : ℕ) (f : ℕ → Bool) → allBelow m f ≡ true → (i : ℕ) → i < m → f i ≡ true
 unfolding allBelow
 all-at zero f h i k = absurd (omega arith)
 all-at (suc m) f h i k =
-    let b = both-true (allBelow m f) (f m) h in
+    let b = and-true (allBelow m f) (f m) h in
     ⊎-elim (λ (l : i < m). all-at m f (b .0) i l) (λ (l : m ≤ i). let z : i ≡ m = omega arith in rw z (b .1)) (lt-or-ge i m)

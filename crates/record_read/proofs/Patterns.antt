@@ -1,6 +1,6 @@
 -- A problem in bits, read as numbers.
-use mathlib.Core.Path.{_≡_, refl, sym, ap, _∙_}
-use mathlib.Core.Bool.{Bool, true, false, not, cond, _&&_, _||_}
+use mathlib.Core.Path.{_≡_, refl, sym, _∙_}
+use mathlib.Core.Bool.{Bool, true, false, cond}
 use mathlib.Core.List.{List, [], _∷_, _++_, map}
 use mathlib.Core.Option.{Option, none, some}
 use Prim.Native.Nat.{ℕ, zero, suc}
@@ -77,10 +77,6 @@ markIn (some r) = tagMark (recordTag r)
 
 never : {A : Type 0} → false ≡ true → A
 never e = let z : _≡_ {A = ℕ} 0 1 = cc in absurd (omega arith)
-
-mark-some : (b : Bool) → not (eqb (cond b 2 1) 0) ≡ true
-mark-some true = refl
-mark-some false = refl
 
 pub whole-marks : (o q : Option (List ℕ)) → areWhole (markIn o) (markIn q) ≡ isWhole o q
 unfolding tagMark
