@@ -1,10 +1,11 @@
 -- Text and numbers as bytes. Definitions only.
 use mathlib.Core.Bool.{cond}
 use mathlib.Core.List.{List, [], _∷_, _++_}
-use Prim.Native.Nat.{ℕ, zero, suc, _/_, _%_}
+use Prim.Native.Nat.{ℕ, zero, suc, _-_, _/_, _%_}
 use Prim.Native.Char.{code}
 use Prim.Native.String.{String, len, charAt}
 use lib.Dec.{ltb}
+use lib.ListN.{length, replicate}
 use Rattle.io.specs.Digits.{glyph}
 use Rattle.numbers.specs.Numbers.{tab}
 
@@ -19,3 +20,7 @@ decimalFrom (suc left) k = cond (ltb k 10) (glyph k ∷ []) (decimalFrom left (k
 
 unfoldable pub decimalText : ℕ → List ℕ
 decimalText k = decimalFrom (suc k) k
+
+-- a text with blanks before it, up to a width
+unfoldable pub padded : ℕ → List ℕ → List ℕ
+padded width text = replicate (width - length text) 32 ++ text
