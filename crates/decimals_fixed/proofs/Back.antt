@@ -4,21 +4,26 @@ use mathlib.Core.Logic.{⊎-elim}
 use mathlib.Core.Bool.{Bool, true, false, _&&_}
 use mathlib.Core.List.{List, [], _∷_, _++_, append-assoc}
 use Prim.Native.Nat.{ℕ, zero, suc, _+_, _-_, _*_, _/_, _%_, _^_, _≤_, _<_}
+use native.Mathlib.Nat.{mul-le-mul-right}
 use native.Mathlib.Omega.{arith}
 use borrow.Author.Tests.{lt-ltb, le-ltb, le-leb}
 use lib.Dec.{ltb}
 use lib.ListN.{length, length-append}
+use lib.Ieee.{fin, up, down}
+use lib.Ieee.Fits.{down-pos}
 use Rattle.io.specs.Digits.{glyph, digits}
 use Rattle.numbers.specs.Numbers.{tab}
 use Rattle.numbers.proofs.Cases.{lt-or-ge}
 use Rattle.ascii.specs.Text.{ascii, decimalFrom, decimalText}
 use Rattle.ascii.proofs.Numerals.{glyph-is}
-use Rattle.decimals.specs.Decimal.{numeralFrom, numeral, minusText, isDigit, within, decimalAt}
-use Rattle.decimals.specs.Claims.{areDigits}
-use Rattle.decimals.proofs.Runs.{numeral-append}
+use Rattle.decimals.specs.declared.Reading.the-variants.{Number}
+use Rattle.decimals.specs.Decimal.{numeralFrom, numeral, minusText, isDigit, valueOf, within, decimalAt}
+use Rattle.decimals.specs.Claims.{areDigits, HalfAway}
+use Rattle.decimals.proofs.Runs.{numeral-append, in-limits}
 use Rattle.decimals.proofs.Grammar.{reads-point}
-use Rattle.decimals_fixed.specs.Fixed.{thousandthsText, signedText}
-use Rattle.decimals_fixed.specs.Claims.{ReadsBack, ReadsWritten}
+use Rattle.decimals_fixed.specs.Fixed.{thousandths, thousandthsText, signedText, fixedText}
+use Rattle.decimals_fixed.specs.Claims.{ReadsBack, ReadsWritten, ComesBack}
+use Rattle.decimals_fixed.proofs.Rounding.{is-nearest}
 
 -- ---- digits of numbers
 digit-back : (a d : ℕ) → d < 10 → 10 * a + (glyph d - 48) ≡ 10 * a + d
@@ -136,3 +141,23 @@ reads-written front rest s t q =
     ∙ reads-point front w p rest (s && ltb 0 t) (all-decimal (t / 1000)) (decimal-some (t / 1000)) (all-three t) (omega arith) q
     ∙ ap (λ (n : ℕ). within (s && ltb 0 t) n 3 (length front) (length front + length m + length w + 1 + length p)) (reads-back t)
     ∙ ap (within (s && ltb 0 t) t 3 (length front)) long
+
+-- below 10 ^ 12 in size, so far below 2 ^ 53
+small : (a d t : ℕ) → 0 < d → t < 10 ^ 15 → HalfAway (1000 * a) d t → a < 2 ^ 53 * d
+small a d t D h n = let m : t * d ≤ 10 ^ 15 * d = mul-le-mul-right d (omega arith) in omega (arith, n .below)
+
+pub comes-back : ComesBack
+unfolding fixedText
+comes-back s m e front rest h q =
+    let t = thousandths (fin s m e) in
+    let n = is-nearest s m e in
+    let text : fixedText (fin s m e) ≡ signedText s t = rw (lt-ltb (m * up e) (2 ^ 53 * down e) (small (m * up e) (down e) t (down-pos e) h n)) in
+    record {
+      t = t;
+      near = n;
+      read =
+          ap (λ (l : List ℕ). decimalAt (front ++ (l ++ rest)) (length front)) text
+          ∙ reads-written front rest s t q
+          ∙ sym (in-limits (s && ltb 0 t) t 3 (length front) (length front + length (signedText s t)) (valueOf (s && ltb 0 t) t 3) h (omega arith) refl)
+          ∙ ap (λ (l : List ℕ). Number (valueOf (s && ltb 0 t) t 3) (length front + length l)) (sym text);
+    }

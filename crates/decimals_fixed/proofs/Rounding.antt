@@ -67,6 +67,7 @@ far-below q k d n e l h =
   where
     fewer : (q k d n : ℕ) → k + d ≡ n → 0 ≡ closest (1000 * q) (2 ^ d) → 0 ≡ closest (1000 * (q * 2 ^ k)) (2 ^ n)
     fewer q k d n e z = z ∙ fewer-places q k d n e
+
 -- ---- the thousandths
 pub is-nearest : Nearest
 unfolding thousandths

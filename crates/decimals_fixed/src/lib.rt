@@ -16,6 +16,7 @@ ghost use Rattle.decimals_fixed.specs.inner.Work.{unitsOf};
 fn nearest(v: u64, d: u64) -> u64
     requires { ⌜ (v < 2 ^ 63) × (d < 64) ⌝ }
     ensures { λ r. ⌜ r ≡ closest v (2 ^ d) ⌝ }
+    ensures { λ r. ⌜ r ≤ v + 1 ⌝ }
 {
     let unit = 1u64 << d;
     let whole = v / unit;
@@ -33,6 +34,7 @@ fn nearest(v: u64, d: u64) -> u64
 fn thousandths_at(q: u64, k: u64) -> u64
     requires { ⌜ (q < 2 ^ 53) × (k ≤ 1074) ⌝ }
     ensures { λ r. ⌜ r ≡ closest (1000 * (q * 2 ^ k)) (2 ^ 1074) ⌝ }
+    ensures { λ r. ⌜ r ≤ 9007199254740992000 ⌝ }
 {
     let d = 1074 - k;
     if 64 <= d {
@@ -45,6 +47,7 @@ fn thousandths_at(q: u64, k: u64) -> u64
 fn thousandths(b: u64) -> u64
     requires { ⌜ b < 1076 * 2 ^ 52 ⌝ }
     ensures { λ r. ⌜ r ≡ closest (1000 * unitsOf b) (2 ^ 1074) ⌝ }
+    ensures { λ r. ⌜ r ≤ 9007199254740992000 ⌝ }
 {
     let e = b / 0x10_0000_0000_0000;
     let t = b % 0x10_0000_0000_0000;
@@ -78,31 +81,33 @@ fn put_minus(out: &mut [u8], at: usize, negative: bool) -> usize
 
 // A number of thousandths with its sign.
 fn put_thousandths(out: &mut [u8], negative: bool, t: u64) -> usize
-    requires { ⌜ 32 ≤ length (now out) ⌝ }
+    requires { ⌜ (t ≤ 9007199254740992000) × (32 ≤ length (now out)) ⌝ }
     ensures { λ r. ⌜ Wrote (now (out .entry)) 0 (signedText negative t) (now (out .exit)) r ⌝ }
+    ensures { λ r. ⌜ r ≤ 21 ⌝ }
 {
     let a = put_minus(out, 0, has_minus(negative, t));
-    let b = put_decimal(out, a, t / 1000);
-    let c = put_byte(out, b, b'.');
-    put_three(out, c, t)
+    let b = ascii::put_decimal(out, a, t / 1000);
+    let c = ascii::put_byte(out, b, b'.');
+    ascii::put_three(out, c, t)
 }
 
 // A word with its sign.
 fn put_word(out: &mut [u8], negative: bool, word: &[u8]) -> usize
-    requires { ⌜ (length (now word) < 32) × (32 ≤ length (now out)) ⌝ }
+    requires { ⌜ (length (now word) ≤ 20) × (32 ≤ length (now out)) ⌝ }
     ensures { λ r. ⌜ Wrote (now (out .entry)) 0 (minusText negative ++ now (word .entry)) (now (out .exit)) r ⌝ }
+    ensures { λ r. ⌜ r ≤ 21 ⌝ }
 {
     let a = put_minus(out, 0, negative);
-    put_text(out, a, word)
+    ascii::put_text(out, a, word)
 }
 
-// The text of a float, at the start of a buffer.
-pub fn put_fixed(out: &mut [u8; 32], x: f64) -> usize
+// The text of a float at the start of a buffer.
+fn put_number(out: &mut [u8; 32], x: f64) -> usize
     ensures { λ r. ⌜ take r (now (out .exit)) ≡ fixedText x ⌝ }
-    ensures { λ r. ⌜ (r ≤ length (now (out .exit))) × (r ≡ length (take r (now (out .exit)))) ⌝ }
+    ensures { λ r. ⌜ (r ≤ 21) × (r ≤ length (now (out .exit))) × (r ≡ length (take r (now (out .exit)))) ⌝ }
 {
     if x != x {
-        return put_text(out, 0, b"nan");
+        return ascii::put_text(out, 0, b"nan");
     }
     let b = f64::to_bits(x);
     let size = b % 0x8000_0000_0000_0000;
@@ -114,4 +119,15 @@ pub fn put_fixed(out: &mut [u8; 32], x: f64) -> usize
         return put_word(out, negative, b"large");
     }
     put_thousandths(out, negative, thousandths(size))
+}
+
+// A float with three decimals, right-aligned in a width: at most 21 bytes.
+pub fn put_fixed(out: &mut [u8], at: usize, width: usize, x: f64) -> usize
+    requires { ⌜ (width ≤ 21) × (at + 21 ≤ length (now out)) ⌝ }
+    ensures { λ r. ⌜ Wrote (now (out .entry)) at (padded width (fixedText x)) (now (out .exit)) r ⌝ }
+    ensures { λ r. ⌜ r ≤ at + 21 ⌝ }
+{
+    let mut text = [0u8; 32];
+    let n = put_number(&mut text, x);
+    ascii::put_padded(out, at, width, &text[..n])
 }
