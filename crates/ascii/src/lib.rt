@@ -1,10 +1,10 @@
-// Writes text at a place of a lent buffer, and answers the place after it.
+// Writes text at a place of a lent buffer, and answers the place after it; compares texts.
 ghost use mathlib.Core.Path.{_≡_};
 ghost use mathlib.Core.List.{[], _∷_};
 ghost use Prim.Native.Nat.{_+_, _-_, _≤_, _<_};
 ghost use lib.ListN.{length, replicate};
 ghost use Rattle.io.specs.Digits.{glyph, digits};
-ghost use Rattle.ascii.specs.Text.{decimalText, padded};
+ghost use Rattle.ascii.specs.Text.{decimalText, padded, sameText};
 ghost use Rattle.ascii.specs.inner.Work.{Wrote};
 
 // One byte.
@@ -104,4 +104,19 @@ pub fn put_six(out: &mut [u8], at: usize, n: u64) -> usize
 {
     let a = put_three(out, at, n / 10 / 10 / 10);
     put_three(out, a, n)
+}
+
+// Whether two texts are the same.
+pub fn is_same(a: &[u8], b: &[u8]) -> bool
+    ensures { λ r. ⌜ r ≡ sameText (now (a .entry)) (now (b .entry)) ⌝ }
+{
+    if a.len() != b.len() {
+        return false;
+    }
+    for i in 0..a.len() {
+        if a[i] != b[i] {
+            return false;
+        }
+    }
+    true
 }

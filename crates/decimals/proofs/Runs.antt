@@ -39,7 +39,7 @@ digit-lt c e = ⊎-elim (λ (l : c < 58). l) (λ (l : 58 ≤ c). let z : leb 48 
 pub capped-le : (n : ℕ) → capped n ≤ 1000000000000000
 capped-le n = omega arith
 
-capped-low : (n : ℕ) → n ≤ 1000000000000000 → capped n ≡ n
+pub capped-low : (n : ℕ) → n ≤ 1000000000000000 → capped n ≡ n
 capped-low n h = min-eq-left h
 
 capped-more : (a d : ℕ) → capped (10 * capped a + d) ≡ capped (10 * a + d)
