@@ -8,6 +8,7 @@
     oracle/day/day.py endless --program target/bin/day   input without an end: a refusal, and the program ends
     oracle/day/day.py decimals write [--count 1000000] [--seed 1] > LINES    decimals to be read, and f64s to be printed
     oracle/day/day.py decimals check [--count 1000000] [--seed 1] < ANSWERS  a program's answers to these lines
+    oracle/day/day.py example                            writes examples/plant.readings, a day of twelve meters
 
 Written from the rules alone: reading and printing of decimals by whole numbers. The corrected volumes are those of gritstrut_reconcile, which is compared with
 the Rust (../README.md). It takes nothing but Python and a C compiler; the library is GRITSTRUT_LIBRARY or, without it, the one that bench/library makes. The
@@ -962,9 +963,29 @@ def decimals(options):
     return not wrong and not rest
 
 
+def example(options):
+    """Twelve meters on the hour over a day: one rolls over, and in the brown-out at 14:00 one record is damaged."""
+    meters = ((412380, 4119, 0.2), (95114, 3572, 0.3), (20417, 425, 0.9), (730266, 2664, 0.2), (268905, 3438, 0.3), (551730, 2029, 0.6),
+              (84812, 1393, 0.1), (9377, 1260, 0.3), (998930, 1835, 0.4), (345020, 1634, 0.2), (610248, 1118, 0.3), (147593, 894, 0.95))
+    shape = [-1, -1, -1, -1, -0.8, -0.4, 0.2, 0.8, 1, 1, 1, 0.9, 0.6, 0.8, 1, 1, 0.9, 0.7, 0.3, -0.2, -0.8, -1, -1, -1]
+    data = bytearray()
+    for hour in range(25):
+        for number, (start, volume, swing) in enumerate(meters):
+            hours = [1 + swing * x for x in shape]
+            reading = (start + round(volume * sum(hours[:hour]) / sum(hours))) % 1000000
+            if (hour, number) == (14, 7):
+                reading |= 1 << 30
+            data += struct.pack("<HHIII", number, 0, 152640 + 60 * hour, reading, 0)
+    with open(os.path.join(ROOT, "examples", "plant.readings"), "wb") as out:
+        out.write(data)
+    print(f"{len(data)} bytes, {len(data) // 16} records")
+    return True
+
+
 def main():
     parser = argparse.ArgumentParser(description=__doc__, formatter_class=argparse.RawDescriptionHelpFormatter)
-    verbs = {"sheets": (sheets, 20000), "slips": (slips, 2000), "one": (one, 1), "report": (report, 1), "endless": (endless, 1), "decimals": (decimals, 1000000)}
+    verbs = {"sheets": (sheets, 20000), "slips": (slips, 2000), "one": (one, 1), "report": (report, 1), "endless": (endless, 1), "decimals": (decimals, 1000000),
+             "example": (example, 1)}
     commands = parser.add_subparsers(dest="verb", required=True)
     for verb, (_, count) in verbs.items():
         command = commands.add_parser(verb)
