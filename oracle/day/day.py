@@ -8,6 +8,7 @@
     oracle/day/day.py endless --program target/bin/day   input without an end: a refusal, and the program ends
     oracle/day/day.py decimals write [--count 1000000] [--seed 1] > LINES    decimals to be read, and f64s to be printed
     oracle/day/day.py decimals check [--count 1000000] [--seed 1] < ANSWERS  a program's answers to these lines
+    oracle/day/day.py accuracy [--count 20000] [--seed 1]    the corrected volumes beside exact ones, worked out with fractions
     oracle/day/day.py example                            writes examples/plant.readings, a day of twelve meters
 
 Written from the rules alone: reading and printing of decimals by whole numbers. The corrected volumes are those of gritstrut_reconcile, which is compared with
@@ -23,6 +24,7 @@ import subprocess
 import sys
 import threading
 from concurrent.futures import ThreadPoolExecutor
+from fractions import Fraction
 from math import ldexp
 
 HERE = os.path.dirname(os.path.abspath(__file__))
@@ -963,6 +965,63 @@ def decimals(options):
     return not wrong and not rest
 
 
+def solved(matrix, right):
+    """The exact solution of a square system, or None."""
+    rows = [list(row) + [r] for row, r in zip(matrix, right)]
+    for k in range(len(rows)):
+        pivot = next((i for i in range(k, len(rows)) if rows[i][k]), None)
+        if pivot is None:
+            return None
+        rows[k], rows[pivot] = rows[pivot], rows[k]
+        rows[k] = [x / rows[k][k] for x in rows[k]]
+        for i in range(len(rows)):
+            if i != k and rows[i][k]:
+                rows[i] = [x - rows[i][k] * y for x, y in zip(rows[i], rows[k])]
+    return [row[-1] for row in rows]
+
+
+def exact(sheet, corrected):
+    """The least corrections without any rounding: the meters at zero are guessed from the answer, and the guess is tried. None where it does not hold."""
+    volumes = [Fraction((new - old) % 1000000) for _, old, new, _ in sheet.meters]
+    squares = [Fraction(spread) ** 2 for _, _, _, spread in sheet.meters]
+    rows = [[Fraction(c) for c in row] for _, row in sheet.balances]
+    free = [x > 1e-3 * spread for x, (_, _, _, spread) in zip(corrected, sheet.meters)]
+    matrix = [[sum(a * b * q for a, b, q, f in zip(r, t, squares, free) if f) for t in rows] for r in rows]
+    shares = solved(matrix, [sum(a * v for a, v, f in zip(r, volumes, free) if f) for r in rows])
+    if shares is None:
+        return None
+    pulls = [sum(row[i] * share for row, share in zip(rows, shares)) for i in range(len(volumes))]
+    answer = [v - q * pull if f else Fraction(0) for v, q, pull, f in zip(volumes, squares, pulls, free)]
+    held = all(x >= 0 for x in answer) and all(f or pull * q >= v for v, q, pull, f in zip(volumes, squares, pulls, free))
+    return answer if held else None
+
+
+def accuracy(options):
+    """Networks of meters as they are drawn for the comparison: how far the answers are from the exact ones, by the largest correction in spreads."""
+    solve, found, undecided = Solver(), {}, 0
+    for index in range(options.count):
+        rng = random.Random(f"accuracy {options.seed} {index}")
+        sheet = sheet_of("\n".join(" ".join(words) for words in sound(rng)).encode())
+        number, _, corrected = solve(sheet)
+        answer = None if number else exact(sheet, corrected)
+        if answer is None:
+            undecided += 1
+            continue
+        off = [abs(Fraction(x) - y) for x, y in zip(corrected, answer)]
+        largest = max(abs(y - (new - old) % 1000000) / Fraction(spread) for y, (_, old, new, spread) in zip(answer, sheet.meters))
+        state = "a meter is marked" if min(corrected) < 0 else "a meter is at zero" if 0 in answer else "no meter is at zero"
+        key = (state, next(k for k in (10, 100, 1000, 10000, 100000, 10 ** 9) if largest <= k))
+        part = found.setdefault(key, [0, 0.0, 0.0, 0.0])
+        part[0] += 1
+        part[1] = max(part[1], float(max(off)))
+        part[2] = max(part[2], float(max(o / Fraction(m[3]) for o, m in zip(off, sheet.meters))))
+        part[3] = max(part[3], max(abs(dot(row, corrected)) for _, row in sheet.balances))
+    for (state, most), (count, off, spreads_off, left) in sorted(found.items()):
+        print(f"{state}, largest correction up to {most:,} spreads: {count:,} networks; off by {off:.2g}, {spreads_off:.2g} spreads; left {left:.2g}")
+    print(f"refused, or not decided: {undecided:,}")
+    return len(found) > 4
+
+
 def example(options):
     """Twelve meters on the hour over a day: one rolls over, and in the brown-out at 14:00 one record is damaged."""
     meters = ((412380, 4119, 0.2), (95114, 3572, 0.3), (20417, 425, 0.9), (730266, 2664, 0.2), (268905, 3438, 0.3), (551730, 2029, 0.6),
@@ -985,7 +1044,7 @@ def example(options):
 def main():
     parser = argparse.ArgumentParser(description=__doc__, formatter_class=argparse.RawDescriptionHelpFormatter)
     verbs = {"sheets": (sheets, 20000), "slips": (slips, 2000), "one": (one, 1), "report": (report, 1), "endless": (endless, 1), "decimals": (decimals, 1000000),
-             "example": (example, 1)}
+             "accuracy": (accuracy, 20000), "example": (example, 1)}
     commands = parser.add_subparsers(dest="verb", required=True)
     for verb, (_, count) in verbs.items():
         command = commands.add_parser(verb)
