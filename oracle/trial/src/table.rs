@@ -157,6 +157,7 @@ impl Counts {
             n[12],
             n[13],
             n[14],
+            n[15],
             self.relaxed,
             self.nan,
             self.blocked,
@@ -173,7 +174,7 @@ impl Counts {
 }
 
 /// Columns of the table.
-const COLUMNS: usize = 25;
+const COLUMNS: usize = 26;
 
 const HEADS: [&str; COLUMNS] = [
     "calls",
@@ -190,6 +191,7 @@ const HEADS: [&str; COLUMNS] = [
     "12",
     "13",
     "14",
+    "15",
     "relaxed",
     "nan",
     "blocked",
