@@ -38,6 +38,8 @@ def build():
         os.makedirs(f"{own}/crates/probe/proofs/floats/{function}")
         with open(f"{own}/crates/probe/proofs/floats/{function}/Proof.antt", "w") as proof:
             proof.write(text)
+    os.makedirs(f"{own}/crates/probe/proofs/main")
+    shutil.copy("oracle/day/main.antt.txt", f"{own}/crates/probe/proofs/main/Proof.antt")
     with open("crates.txt") as listed, open(f"{own}/crates.txt", "w") as out:
         out.writelines(line for line in listed if line.split(":")[0] in NEEDED)
         out.write("probe: numbers endian ascii decimals decimals_fixed workspace step_rows record_read io libc\n")
