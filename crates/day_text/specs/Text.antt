@@ -86,7 +86,7 @@ meterHeading = ascii "meter               old    new  rolled         volume     
 unfoldable pub volumes : ℕ → List ℕ → List Float
 volumes n readings = tab n (λ i. near (volumeAt readings i) 1)
 
--- what balance j comes to on volumes v: its coefficients times these, summed as document 01 sums
+-- what balance j comes to on volumes v: its coefficients times these, summed from left to right, from -0
 abbrev pub imbalance : (n : ℕ) (numbers : List Float) (j : ℕ) (v : List Float) → Float
 imbalance n numbers j v = dot n (coefficients n numbers j) v
 
