@@ -9,7 +9,7 @@ use reference::tally::{NOWHERE, Tally};
 
 /// Whether a call passes a test with a report of the right length.
 fn passes_reported(call: &Call, test: u32) -> bool {
-    let words = if call.op == Op::Step { REPORT } else { call.words };
+    let words = if call.op.is_step() { REPORT } else { call.words };
     passes(&Call { words, ..call.clone() }, test)
 }
 
@@ -63,9 +63,9 @@ edges! {
             if above && root > 0.0 && x.is_finite() { root.next_down() } else { root }
         }
     }
-    LengthsFirst "lengths before sizes" { const TESTS: [u32; 5] = [2, 1, 3, 4, 14]; }
-    WorkspacesFirst "workspaces before lengths" { const TESTS: [u32; 5] = [1, 3, 2, 4, 14]; }
-    KindsBefore "kinds before workspaces" { const TESTS: [u32; 5] = [1, 2, 4, 3, 14]; }
+    LengthsFirst "lengths before sizes" { const TESTS: [u32; 6] = [2, 1, 3, 4, 14, 15]; }
+    WorkspacesFirst "workspaces before lengths" { const TESTS: [u32; 6] = [1, 3, 2, 4, 14, 15]; }
+    KindsBefore "kinds before workspaces" { const TESTS: [u32; 6] = [1, 2, 4, 3, 14, 15]; }
     KindThree "kind 3 taken" {
         fn passes(call: &Call, test: u32) -> bool {
             if test == 4 { call.kinds.iter().all(|&kind| kind <= 3) } else { passes(call, test) }
@@ -76,9 +76,9 @@ edges! {
             if test == 4 { call.kinds.iter().all(|&kind| kind <= 1) } else { passes(call, test) }
         }
     }
-    WidthsBeforeKinds "widths before kinds" { const TESTS: [u32; 5] = [1, 2, 3, 14, 4]; }
-    WidthsBeforeRoom "widths before workspaces" { const TESTS: [u32; 5] = [1, 2, 14, 3, 4]; }
-    WidthsBeforeLengths "widths before lengths" { const TESTS: [u32; 5] = [1, 14, 2, 3, 4]; }
+    WidthsBeforeKinds "widths before kinds" { const TESTS: [u32; 6] = [1, 2, 3, 14, 4, 15]; }
+    WidthsBeforeRoom "widths before workspaces" { const TESTS: [u32; 6] = [1, 2, 14, 3, 4, 15]; }
+    WidthsBeforeLengths "widths before lengths" { const TESTS: [u32; 6] = [1, 14, 2, 3, 4, 15]; }
     WidthOfFloor "a width tested for a floor" {
         fn passes(call: &Call, test: u32) -> bool { passes_widths(call, test, 1, |w| w >= 0.0 && w < f64::INFINITY) }
     }
@@ -293,9 +293,9 @@ edges! {
         }
     }
     ReportFirst "the report's length before the sizes" {
-        const TESTS: [u32; 5] = [2, 1, 3, 4, 14];
+        const TESTS: [u32; 6] = [2, 1, 3, 4, 14, 15];
         fn passes(call: &Call, test: u32) -> bool {
-            let reported = call.op != Op::Step || call.words == REPORT;
+            let reported = !call.op.is_step() || call.words == REPORT;
             if test == 2 && !passes(call, 1) { reported } else { passes(call, test) }
         }
     }
@@ -344,5 +344,31 @@ edges! {
     }
     DayCleared "workspaces of a day cleared after 12 and 13" {
         fn clears(number: u32) -> bool { number >= 12 || Sound::clears(number) }
+    }
+    BoundsBeforeWidths "bounds before widths" { const TESTS: [u32; 6] = [1, 2, 3, 4, 15, 14]; }
+    BoundsBeforeKinds "bounds before kinds" { const TESTS: [u32; 6] = [1, 2, 3, 15, 4, 14]; }
+    HighestVariable "the highest variable with a wrong bound named" {
+        fn variable(wrong: &[usize]) -> usize { wrong[wrong.len() - 1] }
+    }
+    UpperInfinity "an upper +infinity refused" {
+        fn bounded(lower: f64, upper: f64) -> bool { Sound::bounded(lower, upper) && upper < f64::INFINITY }
+    }
+    LowerInfinity "a lower -infinity refused" {
+        fn bounded(lower: f64, upper: f64) -> bool { Sound::bounded(lower, upper) && lower > f64::NEG_INFINITY }
+    }
+    NanLower "a NaN as a lower bound taken" {
+        fn bounded(lower: f64, upper: f64) -> bool { Sound::bounded(if lower.is_nan() { 0.0 } else { lower }, upper) }
+    }
+    NanUpper "a NaN as an upper bound taken" {
+        fn bounded(lower: f64, upper: f64) -> bool { Sound::bounded(lower, if upper.is_nan() { 0.0 } else { upper }) }
+    }
+    OpenBelow "a lower +infinity taken" {
+        fn bounded(lower: f64, upper: f64) -> bool { Sound::bounded(lower.min(f64::MAX), upper) || lower == f64::INFINITY }
+    }
+    OpenAbove "an upper -infinity taken" {
+        fn bounded(lower: f64, upper: f64) -> bool { Sound::bounded(lower, upper.max(f64::MIN)) || upper == f64::NEG_INFINITY }
+    }
+    BoundCleared "cleared after 15" {
+        fn clears(number: u32) -> bool { number == 15 || Sound::clears(number) }
     }
 }

@@ -3,6 +3,7 @@
 use crate::day;
 use crate::shape::{Lengths, Op, REPORT, WORKSPACES};
 use crate::stand_in::{self, Failure};
+use crate::strict;
 use crate::tally::{self, Spent, Tally};
 use crate::triangle;
 
@@ -137,7 +138,7 @@ pub struct Solution {
 /// and what a call leaves in the buffers that it is lent.
 pub trait Edge: 'static {
     /// The numbers of the tests before the arithmetic, in their order.
-    const TESTS: [u32; 5] = [1, 2, 3, 4, 14];
+    const TESTS: [u32; 6] = [1, 2, 3, 4, 14, 15];
     /// How many f64 and u32 of the workspaces are cleared.
     const CLEARED: [usize; 2] = WORKSPACES;
     fn sqrt(x: f64) -> f64 {
@@ -151,7 +152,10 @@ pub trait Edge: 'static {
     }
     /// Whether a call passes the test of a number.
     fn passes(call: &Call, test: u32) -> bool {
-        passes(call, test)
+        match test {
+            15 => strict::wrong(call, Self::bounded).is_empty(),
+            _ => passes(call, test),
+        }
     }
     /// Whether an answer of so many rounds is within the limit.
     fn within(rounds: usize, limit: usize) -> bool {
@@ -192,6 +196,14 @@ pub trait Edge: 'static {
     /// Whether a step writes its report with a number.
     fn reports(number: u32) -> bool {
         matches!(number, 0 | 5..=8 | 11)
+    }
+    /// Whether the strict step takes a variable's bounds.
+    fn bounded(lower: f64, upper: f64) -> bool {
+        strict::bounded(lower, upper)
+    }
+    /// The variable that the strict step names, of those whose bounds it does not take.
+    fn variable(wrong: &[usize]) -> usize {
+        wrong[0]
     }
     /// The value of a band's second row.
     fn ceiling(value: f64, width: f64) -> f64 {
@@ -269,7 +281,8 @@ pub fn passes(call: &Call, test: u32) -> bool {
         2 => fits(call),
         3 => call.work[0] >= WORKSPACES[0] && call.work[1] >= WORKSPACES[1],
         4 => call.kinds.iter().all(|&kind| kind <= 2),
-        _ => call.bands().all(|(_, width)| (0.0..f64::INFINITY).contains(&width)),
+        14 => call.bands().all(|(_, width)| (0.0..f64::INFINITY).contains(&width)),
+        _ => strict::wrong(call, strict::bounded).is_empty(),
     }
 }
 
@@ -293,10 +306,13 @@ pub fn answer<K: Kernels, E: Edge>(call: &Call) -> Answer {
         Op::Lsi | Op::Lsei | Op::Reconcile if E::places(number) => {
             answer.counts.push(answer.tally.short().place);
         }
-        Op::Step if E::reports(number) => answer.words = E::report(&answer.tally).to_vec(),
+        Op::Step | Op::StrictStep if E::reports(number) => {
+            answer.words = E::report(&answer.tally).to_vec();
+        }
+        Op::StrictStep if number == 15 => answer.words = strict::report::<E>(call).to_vec(),
         _ => {}
     }
-    if call.op == Op::Step {
+    if call.op.is_step() {
         answer.spent = E::spent(number, &answer.tally);
     }
     answer
@@ -332,7 +348,7 @@ fn arithmetic<K: Kernels, E: Edge>(call: &Call) -> Answer {
             on_square::<K, E>(call)
         }
         Op::Reconcile => reconciled::<K, E>(call),
-        Op::Step => {
+        Op::Step | Op::StrictStep => {
             let (kinds, rows) = floors::<E>(call);
             match K::step(&kinds, &rows) {
                 Ok((mut solution, relaxation)) => {

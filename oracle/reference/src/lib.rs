@@ -7,6 +7,7 @@ pub mod call;
 pub mod day;
 pub mod shape;
 pub mod stand_in;
+pub mod strict;
 pub mod tally;
 pub mod triangle;
 

@@ -23,10 +23,11 @@ pub enum Op {
     PackedCholesky,
     PackedUpdate,
     Reconcile,
+    StrictStep,
 }
 
 /// Every public operation, in the order of the port.
-pub const OPS: [Op; 18] = [
+pub const OPS: [Op; 19] = [
     Op::Sqrt,
     Op::Sum,
     Op::Norm,
@@ -45,6 +46,7 @@ pub const OPS: [Op; 18] = [
     Op::PackedCholesky,
     Op::PackedUpdate,
     Op::Reconcile,
+    Op::StrictStep,
 ];
 
 /// How many f64 and u32 the workspaces hold at least.
@@ -93,6 +95,7 @@ impl Op {
             Op::PackedCholesky => "packed_cholesky",
             Op::PackedUpdate => "packed_update",
             Op::Reconcile => "reconcile",
+            Op::StrictStep => "strict_step",
         }
     }
 
@@ -110,6 +113,11 @@ impl Op {
             Op::PackedUpdate => Some(Op::Update),
             _ => None,
         }
+    }
+
+    /// Whether it is the step or the strict step.
+    pub fn is_step(self) -> bool {
+        matches!(self, Op::Step | Op::StrictStep)
     }
 
     /// Whether the first input is written too.
@@ -136,7 +144,7 @@ impl Op {
             Op::PackedIdentity | Op::PackedTimes | Op::PackedCholesky | Op::PackedUpdate => {
                 &[(1, 16)]
             }
-            Op::Step => &[(1, 16), (0, 16)],
+            Op::Step | Op::StrictStep => &[(1, 16), (0, 16)],
             Op::Reconcile => &[(0, 16), (0, 16)],
         }
     }
@@ -176,16 +184,16 @@ impl Op {
             Op::PackedTimes => (vec![triangle::count(first), first], vec![first]),
             Op::PackedCholesky => (vec![triangle::count(first)], vec![first * first]),
             Op::PackedUpdate => (vec![triangle::count(first), first, first], vec![]),
-            Op::Step => {
+            Op::Step | Op::StrictStep => {
                 let (n, m) = (first, second);
                 (vec![n * n, n, m, m, m * n, n, n], vec![n, m])
             }
             Op::Reconcile => (vec![first, first, first, second * first], vec![first]),
         };
-        let kinds = if self == Op::Step { second } else { 0 };
+        let kinds = if self.is_step() { second } else { 0 };
         let words = match self {
             Op::Qr => second,
-            Op::Step => REPORT,
+            Op::Step | Op::StrictStep => REPORT,
             Op::Reconcile => first,
             _ => 0,
         };

@@ -5,7 +5,7 @@ use reference::shape::Op;
 use reference::tally::{NOWHERE, Stage};
 
 /// Numbers that a call can be owed, from 0.
-pub const NUMBERS: usize = 15;
+pub const NUMBERS: usize = 21;
 
 /// The numbers that a stage of a step can end with.
 const ENDS: [u32; 5] = [0, 5, 6, 7, 11];
@@ -82,7 +82,7 @@ impl Counts {
             self.placed[owed.number as usize] += u64::from(owed.counts.first() > Some(&0));
         }
         self.named += u64::from(op == Op::Reconcile && owed.words.contains(&1));
-        if op == Op::Step && !owed.words.is_empty() {
+        if op.is_step() && !owed.words.is_empty() {
             let [exact, relaxed] = owed.tally.stages;
             self.stages[end(exact.number)][end(relaxed.number)] += 1;
         }
@@ -157,6 +157,7 @@ impl Counts {
             n[12],
             n[13],
             n[14],
+            n[15],
             self.relaxed,
             self.nan,
             self.blocked,
@@ -173,7 +174,7 @@ impl Counts {
 }
 
 /// Columns of the table.
-const COLUMNS: usize = 25;
+const COLUMNS: usize = 26;
 
 const HEADS: [&str; COLUMNS] = [
     "calls",
@@ -190,6 +191,7 @@ const HEADS: [&str; COLUMNS] = [
     "12",
     "13",
     "14",
+    "15",
     "relaxed",
     "nan",
     "blocked",

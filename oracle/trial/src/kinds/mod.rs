@@ -10,6 +10,7 @@ mod plain;
 mod qr;
 mod spoiled;
 mod step;
+mod strict;
 
 pub use nnls::{decides, overflow_numbered};
 
@@ -92,6 +93,7 @@ fn own(op: Op) -> Vec<Row> {
         Op::PackedCholesky => hessian::CHOLESKY.to_vec(),
         Op::PackedUpdate => hessian::UPDATE.to_vec(),
         Op::Reconcile => day::ROWS.to_vec(),
+        Op::StrictStep => [&step::ROWS[..], &strict::ROWS].concat(),
     }
 }
 
@@ -101,8 +103,11 @@ pub fn of(op: Op) -> Vec<Kind> {
     if op.is_lent() {
         rows.extend(spoiled::ROWS);
     }
-    if op == Op::Step {
+    if op.is_step() {
         rows.extend(spoiled::STEP);
+    }
+    if op == Op::StrictStep {
+        rows.extend(strict::BAD);
     }
     rows.iter().map(|row| kind(op, row)).collect()
 }

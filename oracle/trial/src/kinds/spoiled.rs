@@ -49,7 +49,7 @@ fn sound(op: Op, draw: &mut Draw) -> Call {
 }
 
 /// A sound call with one of the faults, or with some of several.
-fn spoilt(op: Op, draw: &mut Draw, faults: &[fn(&mut Call, &mut Draw)]) -> Call {
+pub fn spoilt(op: Op, draw: &mut Draw, faults: &[fn(&mut Call, &mut Draw)]) -> Call {
     let mut call = sound(op, draw);
     let mut put = 0;
     while put == 0 {
@@ -111,11 +111,11 @@ fn other_length(len: usize, draw: &mut Draw) -> usize {
 }
 
 /// One slice of another length.
-fn bad_length(call: &mut Call, draw: &mut Draw) {
+pub fn bad_length(call: &mut Call, draw: &mut Draw) {
     let (inputs, outputs) = (call.inputs.len(), call.outputs.len());
     let extra = match call.op {
         Op::Qr | Op::Reconcile => 1,
-        Op::Step => 2,
+        Op::Step | Op::StrictStep => 2,
         _ => 0,
     };
     let at = draw.below(inputs + outputs + extra);
@@ -133,12 +133,12 @@ fn bad_length(call: &mut Call, draw: &mut Draw) {
 }
 
 /// A report of another length.
-fn bad_report(call: &mut Call, draw: &mut Draw) {
+pub fn bad_report(call: &mut Call, draw: &mut Draw) {
     call.words = draw.pick(&[5, 7, 0, other_length(call.words, &mut draw.clone())]);
 }
 
 /// One workspace, or both, too short.
-fn bad_workspace(call: &mut Call, draw: &mut Draw) {
+pub fn bad_workspace(call: &mut Call, draw: &mut Draw) {
     let short = |draw: &mut Draw, least: usize| draw.pick(&[least - 1, least - 1, 0, 1, least / 2]);
     let which = draw.below(3);
     let more = draw.below(5);
@@ -150,7 +150,7 @@ fn bad_workspace(call: &mut Call, draw: &mut Draw) {
 }
 
 /// A kind other than 0, 1 and 2, where there is a constraint.
-fn bad_kind(call: &mut Call, draw: &mut Draw) {
+pub fn bad_kind(call: &mut Call, draw: &mut Draw) {
     if !call.kinds.is_empty() {
         let at = draw.below(call.kinds.len());
         call.kinds[at] = draw.pick(&[3, 3, 4, 128, 254, 255]);
@@ -158,9 +158,9 @@ fn bad_kind(call: &mut Call, draw: &mut Draw) {
 }
 
 /// A band whose width is none, where there is a constraint.
-fn bad_width(call: &mut Call, draw: &mut Draw) {
+pub fn bad_width(call: &mut Call, draw: &mut Draw) {
     let constraints = call.kinds.len().min(call.inputs.get(WIDTHS).map_or(0, Vec::len));
-    if call.op == Op::Step && constraints > 0 {
+    if call.op.is_step() && constraints > 0 {
         let at = draw.below(constraints);
         call.kinds[at] = 2;
         call.inputs[WIDTHS][at] = draw.pick(&[
