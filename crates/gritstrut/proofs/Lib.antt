@@ -2,3 +2,4 @@ pub mod Leaves
 pub mod One
 pub mod Days
 pub mod Mends
+pub mod Files

@@ -3,3 +3,4 @@ pub mod Interface
 pub mod Claims
 pub mod Daily
 pub mod Mending
+pub mod Writing

@@ -1,5 +1,6 @@
 // The C interface: every public operation, each slice a pointer and a length. include/gritstrut.h declares it.
 mod day;
+pub mod problems;
 pub mod readings;
 mod steps;
 
