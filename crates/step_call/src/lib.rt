@@ -36,7 +36,7 @@ pub fn are_sizes(n: usize, m: usize) -> bool
 }
 
 // The lengths of the factor, the gradient, the kinds, the values and the Jacobian.
-fn are_lengths(
+pub fn are_lengths(
     n: usize,
     m: usize,
     factor: &[f64],
@@ -64,7 +64,7 @@ fn are_lengths(
 }
 
 // The lengths of the widths and the bounds, and those of the two outputs.
-fn are_other_lengths(
+pub fn are_other_lengths(
     n: usize,
     m: usize,
     widths: &[f64],
@@ -91,7 +91,7 @@ fn are_other_lengths(
 }
 
 // Every kind is 0, 1 or 2.
-fn are_kinds(kinds: &[u8]) -> bool
+pub fn are_kinds(kinds: &[u8]) -> bool
     ensures { λ r. ⌜ r ≡ areKinds (now (kinds .entry)) ⌝ }
 {
     for j in 0..kinds.len() {
@@ -116,7 +116,7 @@ fn is_width(kind: u8, width: f64) -> bool
 }
 
 // Those of m constraints.
-fn are_widths(kinds: &[u8], widths: &[f64], m: usize) -> bool
+pub fn are_widths(kinds: &[u8], widths: &[f64], m: usize) -> bool
     requires { ⌜ (length (now kinds) ≡ m) × (length (now widths) ≡ m) ⌝ }
     ensures { λ r. ⌜ r ≡ areWidths (now (kinds .entry)) (now (widths .entry)) m ⌝ }
 {
