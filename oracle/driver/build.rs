@@ -8,7 +8,7 @@ use std::path::Path;
 const LIBRARY: &str = "GRITSTRUT_LIBRARY";
 
 /// The C interface's names after `gritstrut_`.
-const NAMES: [&str; 18] = [
+const NAMES: [&str; 19] = [
     "sqrt",
     "sum",
     "norm",
@@ -27,6 +27,7 @@ const NAMES: [&str; 18] = [
     "packed_cholesky",
     "packed_update",
     "reconcile",
+    "check",
 ];
 
 fn main() {

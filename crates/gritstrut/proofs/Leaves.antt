@@ -192,8 +192,8 @@ failed-tells o why t k old r r' y y' e h f g = rw e (record { the-number = h; th
 pub refused-tells : (o : StepTold.Outcome) (why : Refusal) (k : ℕ) (old : Float) (r y : List ℕ) → o ≡ step-told.Refused why → k ≡ numberOf why → Tells o k old old r r y y
 refused-tells o why k old r y e h = rw e (record { the-number = h; the-relaxation = refl; the-report = refl; the-tally = refl })
 
--- the call with the report's length among its tests
-reported : (s l r k : Bool) (a : Answer Step) → call s (l && true) r k a ≡ call s l r k a
+-- the call with a further length among its tests, that of the report
+pub reported : {A : Type 0} (s l r k : Bool) (a : Answer A) → call s (l && true) r k a ≡ call s l r k a
 reported s true r k a = refl
 reported true false r k a = refl
 reported false false r k a = refl

@@ -1,4 +1,5 @@
 pub mod Leaves
 pub mod One
 pub mod Days
+pub mod Checking
 pub mod Mends

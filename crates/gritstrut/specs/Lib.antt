@@ -2,4 +2,5 @@
 pub mod Interface
 pub mod Claims
 pub mod Daily
+pub mod Checking
 pub mod Mending

@@ -1,4 +1,5 @@
 // The C interface: every public operation, each slice a pointer and a length. include/gritstrut.h declares it.
+mod check;
 mod day;
 pub mod readings;
 
@@ -15,6 +16,7 @@ ghost use lib.ListN.{length};
 ghost use Rattle.workspace.specs.Tables.{outcomeNumber};
 ghost use Rattle.gritstrut.specs.Interface.{QrLeaves, NnlsLeaves, SolveLeaves, placeLeft, PlaceLeaves, WriteLeaves, entriesOf, raisedCounts, Tells, stepReportCall, StepLeaves};
 ghost use Rattle.step.specs.Step.{reportOf};
+pub use check::gritstrut_check;
 pub use day::gritstrut_reconcile;
 use hessian_call::Hessian;
 use hessian_packed_call::Packed;

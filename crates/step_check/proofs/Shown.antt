@@ -98,11 +98,12 @@ module _ (p : Problem) (s : Pasted) (tol : Float) where
   of-five : Five p s tol → verdict p s tol ≡ Yes
   unfolding verdict slopes
   of-five f =
-      rw
-      (all-yes Stationarity tol (slopes p s) (all-each (Holds Stationarity tol) (p .n) row₁ (f .stationary)),
-      all-yes Residual tol (equalities p s) (f .residuals),
-      all-yes Violation tol (inequalities p s) (f .violations),
-      all-yes Sign tol (inequalities p s) (f .signs))
+      rw (
+        all-yes Stationarity tol (slopes p s) (all-each (Holds Stationarity tol) (p .n) row₁ (f .stationary)),
+        all-yes Residual tol (equalities p s) (f .residuals),
+        all-yes Violation tol (inequalities p s) (f .violations),
+        all-yes Sign tol (inequalities p s) (f .signs),
+      )
       (all-yes Product tol (inequalities p s) (f .products))
 
 pub yes-is-five : YesIsFive

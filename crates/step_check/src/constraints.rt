@@ -161,7 +161,16 @@ pub fn check_equalities(
 {
     for j in 0..m {
         let constraint = Constraint::of(kinds[j], widths[j]);
-        let told = check_equality(constraint, values, jacobian, d, multipliers, n, j, tolerance);
+        let told = check_equality(
+            constraint,
+            values,
+            jacobian,
+            d,
+            multipliers,
+            n,
+            j,
+            tolerance,
+        );
         let Verdict::Yes = told else {
             return told;
         };

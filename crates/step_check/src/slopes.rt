@@ -124,7 +124,14 @@ pub fn check_slopes(
             m,
             i,
         );
-        let told = crate::judge(Test::Stationarity, tolerance, Part::Variable, i as u32, 0.0, v);
+        let told = crate::judge(
+            Test::Stationarity,
+            tolerance,
+            Part::Variable,
+            i as u32,
+            0.0,
+            v,
+        );
         let Verdict::Yes = told else {
             return told;
         };

@@ -63,9 +63,9 @@ edges! {
             if above && root > 0.0 && x.is_finite() { root.next_down() } else { root }
         }
     }
-    LengthsFirst "lengths before sizes" { const TESTS: [u32; 5] = [2, 1, 3, 4, 14]; }
-    WorkspacesFirst "workspaces before lengths" { const TESTS: [u32; 5] = [1, 3, 2, 4, 14]; }
-    KindsBefore "kinds before workspaces" { const TESTS: [u32; 5] = [1, 2, 4, 3, 14]; }
+    LengthsFirst "lengths before sizes" { const TESTS: [u32; 6] = [2, 1, 3, 4, 14, 10]; }
+    WorkspacesFirst "workspaces before lengths" { const TESTS: [u32; 6] = [1, 3, 2, 4, 14, 10]; }
+    KindsBefore "kinds before workspaces" { const TESTS: [u32; 6] = [1, 2, 4, 3, 14, 10]; }
     KindThree "kind 3 taken" {
         fn passes(call: &Call, test: u32) -> bool {
             if test == 4 { call.kinds.iter().all(|&kind| kind <= 3) } else { passes(call, test) }
@@ -76,9 +76,9 @@ edges! {
             if test == 4 { call.kinds.iter().all(|&kind| kind <= 1) } else { passes(call, test) }
         }
     }
-    WidthsBeforeKinds "widths before kinds" { const TESTS: [u32; 5] = [1, 2, 3, 14, 4]; }
-    WidthsBeforeRoom "widths before workspaces" { const TESTS: [u32; 5] = [1, 2, 14, 3, 4]; }
-    WidthsBeforeLengths "widths before lengths" { const TESTS: [u32; 5] = [1, 14, 2, 3, 4]; }
+    WidthsBeforeKinds "widths before kinds" { const TESTS: [u32; 6] = [1, 2, 3, 14, 4, 10]; }
+    WidthsBeforeRoom "widths before workspaces" { const TESTS: [u32; 6] = [1, 2, 14, 3, 4, 10]; }
+    WidthsBeforeLengths "widths before lengths" { const TESTS: [u32; 6] = [1, 14, 2, 3, 4, 10]; }
     WidthOfFloor "a width tested for a floor" {
         fn passes(call: &Call, test: u32) -> bool { passes_widths(call, test, 1, |w| w >= 0.0 && w < f64::INFINITY) }
     }
@@ -293,7 +293,7 @@ edges! {
         }
     }
     ReportFirst "the report's length before the sizes" {
-        const TESTS: [u32; 5] = [2, 1, 3, 4, 14];
+        const TESTS: [u32; 6] = [2, 1, 3, 4, 14, 10];
         fn passes(call: &Call, test: u32) -> bool {
             let reported = call.op != Op::Step || call.words == REPORT;
             if test == 2 && !passes(call, 1) { reported } else { passes(call, test) }

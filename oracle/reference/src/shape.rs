@@ -1,5 +1,6 @@
 //! The public operations: their sizes, and how long each slice is.
 
+use crate::check::VERDICT;
 use crate::triangle;
 
 /// A public operation.
@@ -23,10 +24,11 @@ pub enum Op {
     PackedCholesky,
     PackedUpdate,
     Reconcile,
+    Check,
 }
 
 /// Every public operation, in the order of the port.
-pub const OPS: [Op; 18] = [
+pub const OPS: [Op; 19] = [
     Op::Sqrt,
     Op::Sum,
     Op::Norm,
@@ -45,6 +47,7 @@ pub const OPS: [Op; 18] = [
     Op::PackedCholesky,
     Op::PackedUpdate,
     Op::Reconcile,
+    Op::Check,
 ];
 
 /// How many f64 and u32 the workspaces hold at least.
@@ -56,13 +59,15 @@ pub const REPORT: usize = 6;
 /// The lengths of an operation's slices, each group in the order of the C interface.
 #[derive(Debug, Clone, PartialEq, Eq, Default)]
 pub struct Lengths {
-    /// Slices of f64 that are read, and the readings of a day; the first of `update` is written too.
+    /// Slices of f64 that are read, and the readings of a day; the first of `update` is written too;
+    /// a check's tolerance, a slice of one, is the last.
     pub inputs: Vec<usize>,
     /// Kinds of constraints.
     pub kinds: usize,
     /// Slices of f64 that are written.
     pub outputs: Vec<usize>,
-    /// The slice of u32 that is written: QR's permutation, a step's report; and of u8, a day's marks.
+    /// The slice of u32 that is written: QR's permutation, a step's report, a check's verdict; and of
+    /// u8, a day's marks.
     pub words: usize,
 }
 
@@ -93,6 +98,7 @@ impl Op {
             Op::PackedCholesky => "packed_cholesky",
             Op::PackedUpdate => "packed_update",
             Op::Reconcile => "reconcile",
+            Op::Check => "check",
         }
     }
 
@@ -117,6 +123,11 @@ impl Op {
         matches!(self, Op::Update | Op::PackedUpdate)
     }
 
+    /// Whether constraints have kinds and widths.
+    pub fn has_kinds(self) -> bool {
+        matches!(self, Op::Step | Op::Check)
+    }
+
     /// Whether the operation has sizes, refusals and workspaces: all but part 1.
     pub fn is_lent(self) -> bool {
         !matches!(self, Op::Sqrt | Op::Sum | Op::Norm)
@@ -136,7 +147,7 @@ impl Op {
             Op::PackedIdentity | Op::PackedTimes | Op::PackedCholesky | Op::PackedUpdate => {
                 &[(1, 16)]
             }
-            Op::Step => &[(1, 16), (0, 16)],
+            Op::Step | Op::Check => &[(1, 16), (0, 16)],
             Op::Reconcile => &[(0, 16), (0, 16)],
         }
     }
@@ -181,12 +192,17 @@ impl Op {
                 (vec![n * n, n, m, m, m * n, n, n], vec![n, m])
             }
             Op::Reconcile => (vec![first, first, first, second * first], vec![first]),
+            Op::Check => {
+                let (n, m) = (first, second);
+                (vec![n * n, n, m, m, m * n, n, n, n, m, n, n, 1], vec![])
+            }
         };
-        let kinds = if self == Op::Step { second } else { 0 };
+        let kinds = if self.has_kinds() { second } else { 0 };
         let words = match self {
             Op::Qr => second,
             Op::Step => REPORT,
             Op::Reconcile => first,
+            Op::Check => VERDICT,
             _ => 0,
         };
         Lengths { inputs, kinds, outputs, words }

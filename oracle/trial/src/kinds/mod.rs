@@ -1,5 +1,6 @@
 //! The kinds of calls, by operation.
 
+mod check;
 mod day;
 mod hessian;
 mod lsei;
@@ -92,6 +93,7 @@ fn own(op: Op) -> Vec<Row> {
         Op::PackedCholesky => hessian::CHOLESKY.to_vec(),
         Op::PackedUpdate => hessian::UPDATE.to_vec(),
         Op::Reconcile => day::ROWS.to_vec(),
+        Op::Check => check::ROWS.to_vec(),
     }
 }
 
@@ -103,6 +105,9 @@ pub fn of(op: Op) -> Vec<Kind> {
     }
     if op == Op::Step {
         rows.extend(spoiled::STEP);
+    }
+    if op == Op::Check {
+        rows.extend(spoiled::CHECK);
     }
     rows.iter().map(|row| kind(op, row)).collect()
 }
