@@ -138,16 +138,16 @@ holds Product tol l v = within tol (l ⊗ v)
 
 -- ---- the verdict
 
--- the first of some rows that fails a test
-unfoldable pub firstFailed : Test → (tolerance : Float) → List Margin → Verdict
-firstFailed t tol [] = Yes
-firstFailed t tol (r ∷ rs) = cond (holds t tol (r .multiplier) (r .margin)) (firstFailed t tol rs) (Fails t (r .part) (r .index))
-
 -- where one says yes, what the next says
 infixr 20 _orElse_
 abbrev pub _orElse_ : Verdict → Verdict → Verdict
 Yes orElse v = v
 Fails t p i orElse v = Fails t p i
+
+-- the first of some rows that fails a test
+unfoldable pub firstFailed : Test → (tolerance : Float) → List Margin → Verdict
+firstFailed t tol [] = Yes
+firstFailed t tol (r ∷ rs) = cond (holds t tol (r .multiplier) (r .margin)) (firstFailed t tol rs) (Fails t (r .part) (r .index))
 
 unfoldable pub verdict : Problem → Pasted → (tolerance : Float) → Verdict
 verdict p s tol =

@@ -1,9 +1,10 @@
 //! Slips around the Rust files: in part 1, in the tests, in the round limit, in what is cleared, in
-//! places and reports, in the reading of a day.
+//! places and reports, in the reading of a day and of the check.
 
 use peer::{Library, library};
 use reference::Rust;
 use reference::call::{Call, Edge, Sound, WIDTHS, passes};
+use reference::check::{Slip, TOLERANCE, VERDICT};
 use reference::shape::{Op, REPORT, WORKSPACES};
 use reference::tally::{NOWHERE, Tally};
 
@@ -19,6 +20,14 @@ fn passes_widths(call: &Call, test: u32, kind: u8, good: impl Fn(f64) -> bool) -
     let mut these = call.kinds.iter().zip(widths).filter(|pair| *pair.0 == kind);
     match test {
         14 => (kind == 2 || passes(call, 14)) && these.all(|pair| good(*pair.1)),
+        _ => passes(call, test),
+    }
+}
+
+/// Whether a call passes a test with another test of the tolerance.
+fn passes_tolerance(call: &Call, test: u32, good: impl Fn(f64) -> bool) -> bool {
+    match test {
+        10 if call.op == Op::Check => good(call.inputs[TOLERANCE][0]),
         _ => passes(call, test),
     }
 }
@@ -344,5 +353,59 @@ edges! {
     }
     DayCleared "workspaces of a day cleared after 12 and 13" {
         fn clears(number: u32) -> bool { number >= 12 || Sound::clears(number) }
+    }
+    CheckUpperColumns "check: whole columns of the factor" { const CHECK: Slip = Slip::UpperColumns; }
+    CheckUpperRows "check: whole rows of the factor" { const CHECK: Slip = Slip::UpperRows; }
+    CheckOwnValueRefused "check: the tolerance's own value refused" { const CHECK: Slip = Slip::OwnValueRefused; }
+    CheckNanPasses "check: a NaN passes" { const CHECK: Slip = Slip::NanPasses; }
+    CheckLastRow "check: the last failed row named" { const CHECK: Slip = Slip::LastRow; }
+    CheckOpenProducts "check: a product of an open side" { const CHECK: Slip = Slip::OpenProducts; }
+    CheckOpenSlopes "check: an open side in stationarity" { const CHECK: Slip = Slip::OpenSlopes; }
+    CheckLenientSigns "check: signs by the tolerance" { const CHECK: Slip = Slip::LenientSigns; }
+    CheckSignedResiduals "check: residuals by value" { const CHECK: Slip = Slip::SignedResiduals; }
+    CheckMagnitudes "check: violations by magnitude" { const CHECK: Slip = Slip::Magnitudes; }
+    CheckSignedProducts "check: products by value" { const CHECK: Slip = Slip::SignedProducts; }
+    CheckEqualitySigns "check: an equality's sign tested" { const CHECK: Slip = Slip::EqualitySigns; }
+    CheckEqualityProducts "check: an equality's product tested" { const CHECK: Slip = Slip::EqualityProducts; }
+    CheckCeilingOfFloor "check: a ceiling's margin w less its floor's" { const CHECK: Slip = Slip::CeilingOfFloor; }
+    CheckWholeMultiplier "check: a band's floor with the whole multiplier" { const CHECK: Slip = Slip::WholeMultiplier; }
+    CheckTurnedMultiplier "check: a band's ceiling with the whole multiplier" { const CHECK: Slip = Slip::TurnedMultiplier; }
+    CheckCeilingUnnamed "check: a ceiling named as its constraint" { const CHECK: Slip = Slip::CeilingUnnamed; }
+    CheckNoCeilings "check: a band as a floor" { const CHECK: Slip = Slip::NoCeilings; }
+    CheckProductsFirst "check: products before signs" { const CHECK: Slip = Slip::ProductsFirst; }
+    CheckSidesFirst "check: sides before constraints" { const CHECK: Slip = Slip::SidesFirst; }
+    CheckUpperFirst "check: upper before lower" { const CHECK: Slip = Slip::UpperFirst; }
+    CheckGradientLast "check: the gradient added last" { const CHECK: Slip = Slip::GradientLast; }
+    CheckUpperMultiplierFirst "check: upper multiplier before lower" { const CHECK: Slip = Slip::UpperMultiplierFirst; }
+    CheckSidesExchanged "check: signs of the sides' multipliers exchanged" { const CHECK: Slip = Slip::SidesExchanged; }
+    CheckBackwards "check: sums right to left" { const CHECK: Slip = Slip::Backwards; }
+    CheckEqualityCounted "check: an equality counted among equalities" { const CHECK: Slip = Slip::EqualityCounted; }
+    CheckTwiceTheTolerance "check: twice the tolerance" { const CHECK: Slip = Slip::TwiceTheTolerance; }
+    CheckNanTolerance "check: a NaN tolerance taken" {
+        fn passes(call: &Call, test: u32) -> bool { passes_tolerance(call, test, |t| !(t < 0.0)) }
+    }
+    CheckNegativeTolerance "check: a tolerance below zero taken" {
+        fn passes(call: &Call, test: u32) -> bool { passes_tolerance(call, test, |t| !t.is_nan()) }
+    }
+    CheckMinusZero "check: a tolerance of -0 refused" {
+        fn passes(call: &Call, test: u32) -> bool {
+            passes_tolerance(call, test, |t| t >= 0.0 && t.is_sign_positive())
+        }
+    }
+    CheckEndless "check: an infinite tolerance refused" {
+        fn passes(call: &Call, test: u32) -> bool {
+            passes_tolerance(call, test, |t| t >= 0.0 && t.is_finite())
+        }
+    }
+    CheckToleranceFirst "check: 10 before 14" { const TESTS: [u32; 6] = [1, 2, 3, 4, 10, 14]; }
+    CheckToleranceBeforeKinds "check: 10 before 4" { const TESTS: [u32; 6] = [1, 2, 3, 10, 4, 14]; }
+    CheckAnyVerdict "check: a verdict of any length taken" {
+        fn passes(call: &Call, test: u32) -> bool {
+            let words = if call.op == Op::Check { VERDICT } else { call.words };
+            passes(&Call { words, ..call.clone() }, test)
+        }
+    }
+    CheckCleared "check: workspaces cleared after 10" {
+        fn clears(number: u32) -> bool { number == 10 || Sound::clears(number) }
     }
 }
