@@ -42,7 +42,7 @@ def axes(title, unit):
            f'<rect x="{x(1):.1f}" y="{TOP}" width="{x(10) - x(1):.1f}" height="{HEIGHT - BOTTOM - TOP}" fill="#eef5ea"/>',
            f'<text x="{(x(1) + x(10)) / 2:.1f}" y="{TOP + 30}" text-anchor="middle" fill="#2e7d32">a plant\'s</text>',
            f'<text x="{(x(1) + x(10)) / 2:.1f}" y="{TOP + 43}" text-anchor="middle" fill="#2e7d32">corrections</text>',
-           f'<text x="{WIDTH - RIGHT}" y="{TOP + 6}" text-anchor="end" fill="#777">refused: on this edge</text>']
+           f'<text x="{x(1e6):.1f}" y="{TOP + 6}" text-anchor="end" fill="#777">refused: on this edge</text>']
     for power in range(-16, HIGH + 1, 4):
         at = y(10.0 ** power)
         out.append(f'<line x1="{LEFT}" x2="{WIDTH - RIGHT}" y1="{at:.1f}" y2="{at:.1f}" stroke="#ddd"/>')
