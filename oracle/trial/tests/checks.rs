@@ -45,6 +45,16 @@ fn cases_by_hand() {
 }
 
 #[test]
+fn a_ceiling_is_its_row() {
+    let kinds = of(Op::Check);
+    let kind = kinds.iter().find(|kind| kind.name == "next to a ceiling").expect("that kind");
+    let calls: Vec<Call> = (0..1_000).map(|index| kind.call(1, index).0).collect();
+    let told = calls.iter().filter(|call| verdict(call, Slip::CeilingOfFloor) != verdict(call, Slip::None));
+    let count = told.count();
+    assert!(count > 100, "{count} of 1,000");
+}
+
+#[test]
 fn slips_are_told() {
     for slip in SLIPS {
         let told = of(Op::Check).iter().filter(|kind| !kind.is_spoiled()).any(|kind| {

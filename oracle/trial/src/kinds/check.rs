@@ -6,7 +6,7 @@ use crate::draw::{Draw, Palette, spell};
 use crate::table::Aim::{Number, Verdict};
 use reference::Rust;
 use reference::call::{Call, Sound, answer};
-use reference::check::{LOWERS, MULTIPLIERS, TOLERANCE, UPPERS, measured};
+use reference::check::{D, LOWERS, MULTIPLIERS, TOLERANCE, UPPERS, measured};
 use reference::shape::Op;
 
 /// The grid of whole problems: all their sums are exact.
@@ -26,6 +26,7 @@ pub const ROWS: &[Row] = &[
     ("several", Share::Weight(10), &ALL, several),
     ("at the tolerance", Share::Weight(10), &ALL, edges),
     ("next to it", Share::Weight(10), &ALL, measured_edges),
+    ("next to a ceiling", Share::Weight(5), &[Verdict(0), Verdict(3)], ceilings),
     ("least values", Share::All(4 * 6 * 9 * 9 * 9), &ALL, least),
     ("steps of the Rust", Share::Weight(10), &ALL, solved),
     ("smooth", Share::Weight(6), &[Verdict(1), Verdict(3), Verdict(4)], |_, _, draw| {
@@ -305,6 +306,28 @@ fn measured_edges(_: Op, _: u64, draw: &mut Draw) -> Call {
     let largest = values.iter().copied().fold(0.0, f64::max);
     let value = if draw.one_in(3) && !values.is_empty() { draw.pick(&values) } else { largest };
     call.inputs[TOLERANCE][0] = draw.pick(&[value, value, value.next_down().max(0.0), value.next_up()]);
+    call
+}
+
+/// Bands whose ceilings are passed by more than anything else: the tolerance is the largest of these
+/// violations, or a neighbour, so that the rounding of a ceiling's margin decides.
+fn ceilings(_: Op, _: u64, draw: &mut Draw) -> Call {
+    let (n, m) = (draw.size(1, 16), draw.size(1, 16));
+    let lengths = Op::Check.lengths(&[n, m]).inputs;
+    let inputs = lengths.iter().map(|&len| draw.reals(Palette::Smooth, len)).collect();
+    let mut call = Call::new(Op::Check, &[n, m], inputs);
+    call.kinds = vec![2; m];
+    call.inputs[0].iter_mut().for_each(|entry| *entry /= 4096.0);
+    call.inputs[D].iter_mut().for_each(|d| *d *= 300.0);
+    call.inputs[3].iter_mut().for_each(|width| *width = 4.0 * draw.fraction());
+    for (j, reached) in product(&call.inputs[4], n, &call.inputs[D]).into_iter().enumerate() {
+        call.inputs[2][j] = call.inputs[3][j] + 10.0 + 10.0 * draw.fraction() - reached;
+    }
+    for (at, value) in [(5, f64::NEG_INFINITY), (6, f64::INFINITY), (MULTIPLIERS, 0.0)] {
+        call.inputs[at].fill(value);
+    }
+    let largest = measured(&call).into_iter().fold(0.0, f64::max);
+    call.inputs[TOLERANCE][0] = draw.pick(&[largest, largest.next_down()]);
     call
 }
 
