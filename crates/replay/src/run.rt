@@ -1,4 +1,5 @@
 // Runs a stored call through the C interface on memory full of junk.
+use crate::check::run_check;
 use crate::day::run_day;
 use libc::STDOUT_FILENO;
 use replay_list::Call;
@@ -30,7 +31,7 @@ fn long(x: u32) -> u64 {
 }
 
 // Writes a call's number, with which its digest starts.
-fn told(number: u32) -> u64 {
+pub fn told(number: u32) -> u64 {
     io::print_decimal(STDOUT_FILENO, long(number));
     digest_of(number)
 }
@@ -240,6 +241,7 @@ fn run_any(
         7 => run_lsei(call, values, x, y, w, iw),
         12 => run_step(call, values, x, y, w, iw),
         17 => run_day(call, values, x, w, iw),
+        18 => run_check(call, values, w, iw),
         _ => run_hessian(operation, call, values, x, w, iw),
     }
 }
