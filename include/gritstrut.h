@@ -20,7 +20,7 @@
  *   infinities too.
  * - w is a workspace of at least GRITSTRUT_FLOATS doubles (64 KiB) and iw one of at least
  *   GRITSTRUT_WORDS uint32_t (2 KiB). What they hold before a call does not matter.
- * - The result is a number of the table below. Tests are made in the order 1, 2, 3, 4, 14, 10.
+ * - The result is a number of the table below. Tests are made in the order 1, 2, 3, 4, 14, 10, 15.
  *
  *     number                                 outputs      workspaces
  *     0  GRITSTRUT_DONE                      all written  first 8192 and 512 entries zero
@@ -50,14 +50,17 @@
  *     14 GRITSTRUT_WIDTH: a band's width     untouched    untouched
  *        that is NaN, infinite or below
  *        zero
+ *     15 GRITSTRUT_BOUND: of the strict step untouched    untouched
+ *        a bound that is NaN, a lower one of
+ *        +infinity, an upper one of -infinity
  *
  *   Zero is +0. Untouched means the same bits. (Of an entry that is a NaN it is proved that it
  *   stays a NaN; that its bits stay is compared, not proved: docs/TRUST.md.) Entries of a
  *   workspace past the first 8192 and 512 never change. Inputs never change, except b under
  *   gritstrut_update and gritstrut_packed_update.
  * - Single results are stored through their pointers only where the number is 0; but a place only
- *   where it is 5, 11, 12 or 13, and a step's report and tally where it is 0, 5, 6 or 7. Else they
- *   are untouched.
+ *   where it is 5, 11, 12 or 13, a step's report where it is 0, 5, 6, 7 or 15, and its tally where
+ *   it is 0, 5, 6 or 7. Else they are untouched.
  * - A place with 12 and 13 is a meter. With 5 and 11 it says where rank was lost: the index, from 0,
  *   of the column of the factored matrix that
  *   stands next after those that could be taken. With 11 the columns are the equalities: if one was
@@ -98,6 +101,7 @@ extern "C" {
 #define GRITSTRUT_TOTALISER 12
 #define GRITSTRUT_SPREAD 13
 #define GRITSTRUT_WIDTH 14
+#define GRITSTRUT_BOUND 15
 
 /* The place of a stage that has none. */
 #define GRITSTRUT_NOWHERE UINT32_MAX
@@ -263,7 +267,8 @@ typedef struct gritstrut_tally {
 void gritstrut_tally_raise(gritstrut_tally *tally, uint64_t rounds, uint64_t factorings);
 
 /* The step d that minimizes d'Bd / 2 + g'd, where B = L L', under m constraints, each of a kind
- * above, and under bounds lower <= d <= upper, where a bound that is not finite is open.
+ * above, and under bounds lower <= d <= upper, where a bound that is not finite is open: a lower
+ * +infinity, an upper -infinity and a NaN too, which gritstrut_strict_step refuses.
  * n variables, from 1 to 16; m constraints, from 0 to 16.
  * In: factor L (n * n), gradient g (n), kinds (m), values c (m), widths (m; those of other kinds
  * are not read), jacobian (m * n, a row for each constraint), lower (n), upper (n).
@@ -293,6 +298,26 @@ uint32_t gritstrut_step(size_t n, size_t m, const double *factor, size_t factor_
                         double *relaxation, uint32_t *report, size_t report_len,
                         gritstrut_tally *tally,
                         double *w, size_t w_len, uint32_t *iw, size_t iw_len);
+
+/* The strict step: the step, but that a bound that is NaN, a lower bound of +infinity and an upper
+ * bound of -infinity are refused by 15, directly after 14, and not taken as open; lower -infinity
+ * and upper +infinity are open. With 15 report has GRITSTRUT_BOUND in its exact number and the
+ * lowest such variable in its exact place, 0 and GRITSTRUT_NOWHERE for the relaxed stage, and counts
+ * of 0; nothing else is written, and the tally stays. With every other number all is as the step
+ * has it. The record program runs this one. */
+uint32_t gritstrut_strict_step(size_t n, size_t m, const double *factor, size_t factor_len,
+                               const double *gradient, size_t gradient_len,
+                               const uint8_t *kinds, size_t kinds_len,
+                               const double *values, size_t values_len,
+                               const double *widths, size_t widths_len,
+                               const double *jacobian, size_t jacobian_len,
+                               const double *lower, size_t lower_len,
+                               const double *upper, size_t upper_len,
+                               double *d, size_t d_len,
+                               double *multipliers, size_t multipliers_len,
+                               double *relaxation, uint32_t *report, size_t report_len,
+                               gritstrut_tally *tally,
+                               double *w, size_t w_len, uint32_t *iw, size_t iw_len);
 
 /* The entries of a verdict. */
 enum {

@@ -8,7 +8,7 @@ use std::path::Path;
 const LIBRARY: &str = "GRITSTRUT_LIBRARY";
 
 /// The C interface's names after `gritstrut_`.
-const NAMES: [&str; 19] = [
+const NAMES: [&str; 20] = [
     "sqrt",
     "sum",
     "norm",
@@ -27,6 +27,7 @@ const NAMES: [&str; 19] = [
     "packed_cholesky",
     "packed_update",
     "reconcile",
+    "strict_step",
     "check",
 ];
 

@@ -1,6 +1,6 @@
 -- From an operation's promise to that of its C function.
 use mathlib.Core.Path.{_≡_, refl, sym, ap, _∙_, subst}
-use mathlib.Core.Bool.{Bool, true, false, _&&_}
+use mathlib.Core.Bool.{Bool, true, false, cond, _&&_}
 use mathlib.Core.List.{List, [], _∷_}
 use Prim.Native.Nat.{ℕ, _+_, _*_, _^_, _≤_, _<_, min}
 use native.Mathlib.Nat.{mul-le-mul-right}
@@ -10,7 +10,7 @@ use lib.ListN.{length, set}
 use lib.Ieee.{Float}
 use borrow.Author.Tests.{leb-true, eq-eqb}
 use Rattle.workspace.specs.Tables.{Answer, done, refused, call, test, number, numberOf, placeOf, nowhere, outcomeOf, outcomeNumber, output, isMatrix, isDimension, isConstraints, isRoom, has}
-use Rattle.workspace.specs.declared.Refusal.the-variants.{Length, Width}
+use Rattle.workspace.specs.declared.Refusal.the-variants.{Size, Length, Width}
 use Rattle.workspace.specs.declared.Refusal.{Refusal}
 use Rattle.workspace.specs.declared.Outcome.{Outcome}
 use Rattle.workspace.specs.declared.Outcome.the-variants.{Refused}
@@ -29,12 +29,12 @@ use Rattle.lsei_call.specs.Promise.{Solves}
 use Rattle.hessian_call.specs.Promise.{Writes}
 use Rattle.step_rows.specs.Problem.{Problem}
 use Rattle.nnls.specs.Counted.{Counted}
-use Rattle.step.specs.Step.{Step, step, reportOf, stageNumber, stagePlace}
+use Rattle.step.specs.Step.{Step, reportOf, stageNumber, stagePlace}
 use Rattle.step.specs.declared.Report.{Report}
 use Rattle.step_call.specs.declared.Outcome as StepTold
 use Rattle.step_call.specs.Promise as Step
 use Rattle.step_call.specs.declared.Outcome.the-variants as step-told
-use Rattle.gritstrut.specs.Interface.{QrLeaves, NnlsLeaves, SolveLeaves, placeLeft, PlaceLeaves, WriteLeaves, entriesOf, raisedCounts, Tells, stepReportCall, StepLeaves}
+use Rattle.gritstrut.specs.Interface.{QrLeaves, NnlsLeaves, SolveLeaves, placeLeft, PlaceLeaves, WriteLeaves, entriesOf, boundEntries, raisedCounts, Tells, reportCall, StepLeaves}
 
 -- ---- operations that tell nothing beside their outputs
 
@@ -164,7 +164,7 @@ some-place why o at old q e h = rw (q, ← e, h)
 pub no-place : (why : Refusal) (o : Outcome) (at old : ℕ) → o ≡ Refused why → at ≡ placeOf why → eqb at nowhere ≡ true → old ≡ placeLeft o old
 no-place why o at old q e h = rw (q, ← e, h)
 
-six : (l : List ℕ) (a b c d e f : ℕ) → length l ≡ 6 → set (set (set (set (set (set l 0 a) 1 b) 2 c) 3 d) 4 e) 5 f ≡ a ∷ b ∷ c ∷ d ∷ e ∷ f ∷ []
+pub six : (l : List ℕ) (a b c d e f : ℕ) → length l ≡ 6 → set (set (set (set (set (set l 0 a) 1 b) 2 c) 3 d) 4 e) 5 f ≡ a ∷ b ∷ c ∷ d ∷ e ∷ f ∷ []
 six [] a b c d e f h = absurd (omega arith)
 six (x ∷ []) a b c d e f h = absurd (omega arith)
 six (x ∷ y ∷ []) a b c d e f h = absurd (omega arith)
@@ -173,10 +173,6 @@ six (x ∷ y ∷ z ∷ u ∷ []) a b c d e f h = absurd (omega arith)
 six (x ∷ y ∷ z ∷ u ∷ v ∷ []) a b c d e f h = absurd (omega arith)
 six (x ∷ y ∷ z ∷ u ∷ v ∷ w ∷ []) a b c d e f h = refl
 six (x ∷ y ∷ z ∷ u ∷ v ∷ w ∷ s ∷ l) a b c d e f h = absurd (omega arith)
-
-pub report-written : (t : Report) (l : List ℕ) (a b c d : ℕ) → length l ≡ 6 → a ≡ stageNumber (t .exact) → b ≡ stagePlace (t .exact) → c ≡ stageNumber (t .relaxed) → d ≡ stagePlace (t .relaxed)
-    → set (set (set (set (set (set l 0 a) 1 b) 2 c) 3 d) 4 (t .rounds)) 5 (t .factorings) ≡ entriesOf t
-report-written t l a b c d h ea eb ec ed = six l a b c d (t .rounds) (t .factorings) h ∙ rw (ea, eb, ec, ed)
 
 -- ---- the step
 
@@ -189,8 +185,15 @@ pub failed-tells : (o : StepTold.Outcome) (why : Refusal) (t : Report) (k : ℕ)
     → y' ≡ raisedCounts y (t .rounds) (t .factorings) → Tells o k old old r r' y y'
 failed-tells o why t k old r r' y y' e h f g = rw e (record { the-number = h; the-relaxation = refl; the-report = f; the-tally = g })
 
-pub refused-tells : (o : StepTold.Outcome) (why : Refusal) (k : ℕ) (old : Float) (r y : List ℕ) → o ≡ step-told.Refused why → k ≡ numberOf why → Tells o k old old r r y y
-refused-tells o why k old r y e h = rw e (record { the-number = h; the-relaxation = refl; the-report = refl; the-tally = refl })
+pub refused-tells : (o : StepTold.Outcome) (why : Refusal) (k : ℕ) (old : Float) (r r' y : List ℕ) → o ≡ step-told.Refused why → k ≡ numberOf why → r' ≡ boundEntries why r → Tells o k old old r r' y y
+refused-tells o why k old r r' y e h f = rw e (record { the-number = h; the-relaxation = refl; the-report = f; the-tally = refl })
+
+-- a test that names a variable
+pub bound-written : (why : Refusal) (l r : List ℕ) (a b : ℕ) → a ≡ numberOf why → b ≡ placeOf why → eqb b nowhere ≡ false → r ≡ a ∷ b ∷ 0 ∷ nowhere ∷ 0 ∷ 0 ∷ [] → r ≡ boundEntries why l
+bound-written why l r a b ea eb e h = h ∙ rw (← ea, ← eb, e)
+
+pub bound-left : (why : Refusal) (l : List ℕ) (b : ℕ) → b ≡ placeOf why → eqb b nowhere ≡ true → l ≡ boundEntries why l
+bound-left why l b eb e = rw (← eb, e)
 
 -- the call with a further length among its tests, that of the report
 pub reported : {A : Type 0} (s l r k : Bool) (a : Answer A) → call s (l && true) r k a ≡ call s l r k a
@@ -198,44 +201,45 @@ reported s true r k a = refl
 reported true false r k a = refl
 reported false false r k a = refl
 
-module _ (p : Problem) (d d' l l' : List Float) (r : List ℕ) (w w' : List Float) (iw iw' : List ℕ) (old : Float) where
-  module _ (six : length r ≡ 6) where
-    abbrev c : Answer Step
-    c = stepReportCall p d l r w iw
+-- the tests of a call, and what follows them
+abbrev tested : Problem → (d l w : List Float) (iw : List ℕ) → Answer Step → Answer Step
+tested p d l w iw a = call (isDimension (p .n) && isConstraints (p .m)) (Step.areLengths p d l) (isRoom w iw) (Step.areKinds (p .kinds)) (test (Step.areWidths (p .kinds) (p .widths) (p .m)) Width a)
 
-    same : Step.stepCall p d l w iw ≡ c
-    same =
-        sym (reported (isDimension (p .n) && isConstraints (p .m)) (Step.areLengths p d l) (isRoom w iw) (Step.areKinds (p .kinds)) (test (Step.areWidths (p .kinds) (p .widths) (p .m)) Width (step p .answer)))
-        ∙ ap (λ (b : Bool). call (isDimension (p .n) && isConstraints (p .m)) (Step.areLengths p d l && b) (isRoom w iw) (Step.areKinds (p .kinds)) (test (Step.areWidths (p .kinds) (p .widths) (p .m)) Width (step p .answer)))
-        (sym (eq-eqb (length r) 6 six))
+module _ (p : Problem) (a : Answer Step) (d d' l l' : List Float) (r : List ℕ) (w w' : List Float) (iw iw' : List ℕ) (old : Float) (entries : length r ≡ 6) where
+  same : tested p d l w iw a ≡ reportCall p d l r w iw a
+  same =
+      sym (reported (isDimension (p .n) && isConstraints (p .m)) (Step.areLengths p d l) (isRoom w iw) (Step.areKinds (p .kinds)) (test (Step.areWidths (p .kinds) (p .widths) (p .m)) Width a))
+      ∙ ap (λ (b : Bool). call (isDimension (p .n) && isConstraints (p .m)) (Step.areLengths p d l && b) (isRoom w iw) (Step.areKinds (p .kinds)) (test (Step.areWidths (p .kinds) (p .widths) (p .m)) Width a))
+      (sym (eq-eqb (length r) 6 entries))
 
-    pub step-leaves : (o : StepTold.Outcome) (k : ℕ) (x : Float) (r' y y' : List ℕ) → Step.Steps (Step.stepCall p d l w iw) (reportOf p) o d d' l l' w w' iw iw'
-        → Tells o k old x r r' y y' → StepLeaves c (reportOf p) k old x r r' y y' d d' l l' w w' iw iw'
-    step-leaves o k x r' y y' q t =
-        let v = subst (λ (a : Answer Step). Step.Steps a (reportOf p) o d d' l l' w w' iw iw') same q in
-        record {
-          the-call = record { the-outcome = refl; the-d = v .the-d; the-multipliers = v .the-multipliers; the-floats = v .the-floats; the-words = v .the-words };
-          told = subst (λ (a : StepTold.Outcome). Tells a k old x r r' y y') (v .the-outcome) t;
-        }
+  pub step-leaves : (o : StepTold.Outcome) (k : ℕ) (x : Float) (r' y y' : List ℕ) → Step.Steps (tested p d l w iw a) (reportOf p) o d d' l l' w w' iw iw'
+      → Tells o k old x r r' y y' → StepLeaves (reportCall p d l r w iw a) (reportOf p) k old x r r' y y' d d' l l' w w' iw iw'
+  step-leaves o k x r' y y' q t =
+      let v = subst (λ (b : Answer Step). Step.Steps b (reportOf p) o d d' l l' w w' iw iw') same q in
+      record {
+        the-call = record { the-outcome = refl; the-d = v .the-d; the-multipliers = v .the-multipliers; the-floats = v .the-floats; the-words = v .the-words };
+        told = subst (λ (b : StepTold.Outcome). Tells b k old x r r' y y') (v .the-outcome) t;
+      }
 
 -- a report of another length
-module _ (p : Problem) (d l : List Float) (r : List ℕ) (w : List Float) (iw : List ℕ) (old : Float) (other : eqb (length r) 6 ≡ false) where
-  shut : (s b : Bool) (k : Bool) → (a : Answer Step) (m : Bool) → s ≡ true → call s (b && false) m k a ≡ refused Length
-  shut s true k a m e = rw e
-  shut s false k a m e = rw e
+module _ (p : Problem) (a : Answer Step) (d l : List Float) (r : List ℕ) (w : List Float) (iw : List ℕ) (old : Float) (other : eqb (length r) 6 ≡ false) where
+  shut : (s b k m : Bool) → call s (b && false) m k (test (Step.areWidths (p .kinds) (p .widths) (p .m)) Width a) ≡ refused (cond s Length Size)
+  shut true true k m = refl
+  shut true false k m = refl
+  shut false b k m = refl
 
-  pub no-report : isDimension (p .n) && isConstraints (p .m) ≡ true → (k : ℕ) (y : List ℕ) → k ≡ 2 → StepLeaves (stepReportCall p d l r w iw) (reportOf p) k old old r r y y d d l l w w iw iw
-  no-report s k y h =
-      rw (other, h, shut (isDimension (p .n) && isConstraints (p .m)) (Step.areLengths p d l) (Step.areKinds (p .kinds)) (test (Step.areWidths (p .kinds) (p .widths) (p .m)) Width (step p .answer)) (isRoom w iw) s)
-      (record {
+  untold : (s : Bool) (k : ℕ) (y : List ℕ) → k ≡ cond s 2 1 → StepLeaves (refused (cond s Length Size)) (reportOf p) k old old r r y y d d l l w w iw iw
+  untold true k y h =
+      record {
         the-call = record { the-outcome = refl; the-d = refl; the-multipliers = refl; the-floats = refl; the-words = refl };
-        told = record { the-number = refl; the-relaxation = refl; the-report = refl; the-tally = refl };
-      })
+        told = record { the-number = h; the-relaxation = refl; the-report = refl; the-tally = refl };
+      }
+  untold false k y h =
+      record {
+        the-call = record { the-outcome = refl; the-d = refl; the-multipliers = refl; the-floats = refl; the-words = refl };
+        told = record { the-number = h; the-relaxation = refl; the-report = refl; the-tally = refl };
+      }
 
-  pub no-size : isDimension (p .n) && isConstraints (p .m) ≡ false → (k : ℕ) (y : List ℕ) → k ≡ 1 → StepLeaves (stepReportCall p d l r w iw) (reportOf p) k old old r r y y d d l l w w iw iw
-  no-size s k y h =
-      rw (s, h)
-      (record {
-        the-call = record { the-outcome = refl; the-d = refl; the-multipliers = refl; the-floats = refl; the-words = refl };
-        told = record { the-number = refl; the-relaxation = refl; the-report = refl; the-tally = refl };
-      })
+  pub no-report : (k : ℕ) (y : List ℕ) → k ≡ cond (isDimension (p .n) && isConstraints (p .m)) 2 1 → StepLeaves (reportCall p d l r w iw a) (reportOf p) k old old r r y y d d l l w w iw iw
+  no-report k y h =
+      rw (other, shut (isDimension (p .n) && isConstraints (p .m)) (Step.areLengths p d l) (Step.areKinds (p .kinds)) (isRoom w iw)) (untold (isDimension (p .n) && isConstraints (p .m)) k y h)

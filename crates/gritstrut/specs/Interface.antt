@@ -8,6 +8,7 @@ use Prim.Native.Nat.{ℕ}
 use lib.Ieee.{Float}
 use Rattle.numbers.specs.Numbers.{nth}
 use Rattle.tally.specs.Tally.{saturated}
+use Rattle.workspace.specs.declared.Refusal.{Refusal}
 use Rattle.workspace.specs.declared.Refusal.the-variants.{Width}
 use Rattle.workspace.specs.Tables.{Answer, number, numberOf, output, placeOf, nowhere, call, test, isDimension, isConstraints, isRoom, has}
 use Rattle.workspace.specs.declared.Outcome.{Outcome}
@@ -26,6 +27,7 @@ use Rattle.step.specs.declared.Report.{Report}
 use Rattle.step_call.specs.declared.Outcome as Told
 use Rattle.step_call.specs.declared.Outcome.the-variants as told
 use Rattle.step_call.specs.Promise as Step
+use Rattle.step_call.specs.Strict.{bounds}
 
 pub record QrLeaves (c : Answer Factors) (k rank rank' : ℕ) (r r' : List Float) (perm perm' : List ℕ) (u u' b b' w w' : List Float) (iw iw' : List ℕ) : Type 0 where
   pub the-number : k ≡ number c
@@ -66,12 +68,23 @@ entriesOf t = stageNumber (t .exact) ∷ stagePlace (t .exact) ∷ stageNumber (
 abbrev pub raisedCounts : List ℕ → (rounds factorings : ℕ) → List ℕ
 raisedCounts y r f = saturated (nth y 0) r ∷ saturated (nth y 1) f ∷ []
 
--- the whole call: the report's length is one of those that number 2 tests
-abbrev pub stepReportCall : Problem → (d multipliers : List Float) (report : List ℕ) (w : List Float) (iw : List ℕ) → Answer Step
-stepReportCall p d l r w iw =
-    call (isDimension (p .n) && isConstraints (p .m)) (Step.areLengths p d l && has r 6) (isRoom w iw) (Step.areKinds (p .kinds)) (test (Step.areWidths (p .kinds) (p .widths) (p .m)) Width (step p .answer))
+-- the tests of a call and what follows them: the report's length is one of those that number 2 tests
+abbrev pub reportCall : Problem → (d multipliers : List Float) (report : List ℕ) (w : List Float) (iw : List ℕ) → Answer Step → Answer Step
+reportCall p d l r w iw a =
+    call (isDimension (p .n) && isConstraints (p .m)) (Step.areLengths p d l && has r 6) (isRoom w iw) (Step.areKinds (p .kinds)) (test (Step.areWidths (p .kinds) (p .widths) (p .m)) Width a)
 
--- From an outcome: the number; the relaxation, stored where the step is done; report and tally, which move unless a test before the arithmetic refuses.
+-- the whole call of the step, and of the strict step
+abbrev pub stepReportCall : Problem → (d multipliers : List Float) (report : List ℕ) (w : List Float) (iw : List ℕ) → Answer Step
+stepReportCall p d l r w iw = reportCall p d l r w iw (step p .answer)
+
+abbrev pub strictReportCall : Problem → (d multipliers : List Float) (report : List ℕ) (w : List Float) (iw : List ℕ) → Answer Step
+strictReportCall p d l r w iw = reportCall p d l r w iw (bounds (p .lower) (p .upper) (p .n) 0 (step p .answer))
+
+-- a test that names a variable: its number and the variable stand for the exact stage, and nothing was tried or spent
+abbrev pub boundEntries : Refusal → List ℕ → List ℕ
+boundEntries r old = cond (eqb (placeOf r) nowhere) old (numberOf r ∷ placeOf r ∷ 0 ∷ nowhere ∷ 0 ∷ 0 ∷ [])
+
+-- From an outcome: the number; the relaxation, stored where the step is done; the tally, which moves unless a test before the arithmetic refuses; and the report, which such a test leaves too unless it names a variable.
 abbrev pub numberTold : Told.Outcome → ℕ
 numberTold (told.Done relaxation t) = 0
 numberTold (told.Failed r t) = numberOf r
@@ -85,7 +98,7 @@ relaxationLeft (told.Refused r) old = old
 abbrev pub reportLeft : Told.Outcome → List ℕ → List ℕ
 reportLeft (told.Done relaxation t) old = entriesOf t
 reportLeft (told.Failed r t) old = entriesOf t
-reportLeft (told.Refused r) old = old
+reportLeft (told.Refused r) old = boundEntries r old
 
 abbrev pub tallyLeft : Told.Outcome → List ℕ → List ℕ
 tallyLeft (told.Done relaxation t) old = raisedCounts old (t .rounds) (t .factorings)

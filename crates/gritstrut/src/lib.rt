@@ -2,6 +2,7 @@
 mod check;
 mod day;
 pub mod readings;
+mod steps;
 
 ghost use mathlib.Core.Path.{_≡_};
 ghost use Rattle.numbers.specs.Root.{sqrtOf, sumOf};
@@ -11,11 +12,8 @@ ghost use Rattle.nnls_call.specs.Promise.{nnlsCall};
 ghost use Rattle.lsei_call.specs.Promise.{ldpCall, lsiCall, lseiCall};
 ghost use Rattle.hessian_call.specs.Promise.{identityCall, timesCall, choleskyCall, updateCall};
 ghost use Rattle.hessian_packed_call.specs.Promise.{packedIdentityCall, packedTimesCall, packedCholeskyCall, packedUpdateCall};
-ghost use Rattle.step_rows.specs.Problem.{problemOf};
-ghost use lib.ListN.{length};
 ghost use Rattle.workspace.specs.Tables.{outcomeNumber};
-ghost use Rattle.gritstrut.specs.Interface.{QrLeaves, NnlsLeaves, SolveLeaves, placeLeft, PlaceLeaves, WriteLeaves, entriesOf, raisedCounts, Tells, stepReportCall, StepLeaves};
-ghost use Rattle.step.specs.Step.{reportOf};
+ghost use Rattle.gritstrut.specs.Interface.{QrLeaves, NnlsLeaves, SolveLeaves, placeLeft, PlaceLeaves, WriteLeaves};
 pub use check::gritstrut_check;
 pub use day::gritstrut_reconcile;
 use hessian_call::Hessian;
@@ -25,9 +23,9 @@ use lsei_call::Ldp;
 use lsei_call::Lsei;
 use lsei_call::Lsi;
 use nnls_call::Nnls;
-use step_call::Step;
-use tally::Tally;
-use workspace::Refusal;
+pub use steps::gritstrut_step;
+pub use steps::gritstrut_strict_step;
+pub use steps::gritstrut_tally_raise;
 
 // The version that include/gritstrut.h names: major, minor and patch, two digits each.
 #[no_mangle]
@@ -319,112 +317,4 @@ pub extern "C" fn gritstrut_packed_update(
 {
     let answer = Packed::update(n, b, s, y, w, iw);
     answer.number()
-}
-
-// ---- the step
-
-// How many entries a report has.
-const REPORT: usize = 6;
-
-// A step's report: number and place of the exact stage, then of the relaxed one, rounds and factorings.
-fn write_report(t: step::Report, report: &mut [u32])
-    requires { ⌜ length (now report) ≡ 6 ⌝ }
-    ensures { λ _. ⌜ now (report .exit) ≡ entriesOf t ⌝ }
-{
-    let exact = t.exact;
-    let relaxed = t.relaxed;
-    report[0] = exact.number();
-    report[1] = exact.place();
-    report[2] = relaxed.number();
-    report[3] = relaxed.place();
-    report[4] = t.rounds;
-    report[5] = t.factorings;
-}
-
-// Raises a tally, rounds and then factorings; a count that would pass the u64 range stays at its largest value.
-#[no_mangle]
-pub extern "C" fn gritstrut_tally_raise(tally: &mut [u64; 2], rounds: u64, factorings: u64)
-    ensures { λ _. ⌜ now (tally .exit) ≡ raisedCounts (now (tally .entry)) rounds factorings ⌝ }
-{
-    let before = Tally {
-        rounds: tally[0],
-        factorings: tally[1],
-    };
-    let after = before.plus(rounds, factorings);
-    *tally = [after.rounds, after.factorings];
-}
-
-// What a step's outcome tells: its number, the relaxation, the report, and the tally raised by what was spent.
-fn tell(
-    o: step_call::Outcome,
-    relaxation: &mut f64,
-    report: &mut [u32],
-    tally: &mut [u64; 2],
-) -> u32
-    requires { ⌜ length (now report) ≡ 6 ⌝ }
-    ensures { λ k. ⌜ Tells o k (now (relaxation .entry)) (now (relaxation .exit)) (now (report .entry)) (now (report .exit)) (now (tally .entry)) (now (tally .exit)) ⌝ }
-{
-    match o {
-        step_call::Outcome::Done(delta, t) => {
-            *relaxation = delta;
-            write_report(t, report);
-            gritstrut_tally_raise(tally, t.rounds as u64, t.factorings as u64);
-            0
-        }
-        step_call::Outcome::Failed(why, t) => {
-            write_report(t, report);
-            gritstrut_tally_raise(tally, t.rounds as u64, t.factorings as u64);
-            why.number()
-        }
-        step_call::Outcome::Refused(why) => why.number(),
-    }
-}
-
-// The step of one SQP iteration.
-#[no_mangle]
-pub extern "C" fn gritstrut_step(
-    n: usize,
-    m: usize,
-    factor: &[f64],
-    gradient: &[f64],
-    kinds: &[u8],
-    values: &[f64],
-    widths: &[f64],
-    jacobian: &[f64],
-    lower: &[f64],
-    upper: &[f64],
-    d: &mut [f64],
-    multipliers: &mut [f64],
-    relaxation: &mut f64,
-    report: &mut [u32],
-    tally: &mut [u64; 2],
-    w: &mut [f64],
-    iw: &mut [u32],
-) -> u32
-    ensures { λ k. ⌜ StepLeaves (stepReportCall (problemOf n m (now (factor .entry)) (now (gradient .entry)) (now (kinds .entry)) (now (values .entry)) (now (widths .entry)) (now (jacobian .entry)) (now (lower .entry)) (now (upper .entry))) (now (d .entry)) (now (multipliers .entry)) (now (report .entry)) (now (w .entry)) (now (iw .entry))) (reportOf (problemOf n m (now (factor .entry)) (now (gradient .entry)) (now (kinds .entry)) (now (values .entry)) (now (widths .entry)) (now (jacobian .entry)) (now (lower .entry)) (now (upper .entry)))) k (now (relaxation .entry)) (now (relaxation .exit))
-        (now (report .entry)) (now (report .exit)) (now (tally .entry)) (now (tally .exit)) (now (d .entry)) (now (d .exit)) (now (multipliers .entry)) (now (multipliers .exit)) (now (w .entry)) (now (w .exit)) (now (iw .entry)) (now (iw .exit)) ⌝ }
-{
-    if report.len() != REPORT {
-        if step_call::are_sizes(n, m) {
-            return Refusal::Length.number();
-        }
-        return Refusal::Size.number();
-    }
-    let answer = Step::solve(
-        n,
-        m,
-        factor,
-        gradient,
-        kinds,
-        values,
-        widths,
-        jacobian,
-        lower,
-        upper,
-        d,
-        multipliers,
-        w,
-        iw,
-    );
-    tell(answer, relaxation, report, tally)
 }

@@ -1,4 +1,4 @@
--- On the parts of the tables no test of the step refuses before that of the widths.
+-- On the parts of the tables no test of the strict step refuses before that of the widths.
 use mathlib.Core.Path.{_≡_, refl}
 use mathlib.Core.Bool.{Bool, true, false, cond, _&&_}
 use mathlib.Core.List.{List}
@@ -12,7 +12,8 @@ use lib.Ieee.{Float}
 use Rattle.numbers.specs.Numbers.{tab}
 use Rattle.numbers.proofs.Lists.{length-tab}
 use Rattle.workspace.specs.Tables.{Answer, call, isDimension, isConstraints, isRoom}
-use Rattle.step_call.specs.Promise.{areKinds, areLengths, stepCall}
+use Rattle.step_call.specs.Promise.{areKinds, areLengths}
+use Rattle.step_call.specs.Strict.{strictCall}
 use Rattle.record_answer.specs.Program.{stepAnswer}
 use Rattle.record_read.specs.inner.Tables.{kindAt, problemIn}
 use Rattle.record_read.proofs.Areas.{square}
@@ -40,7 +41,7 @@ part-length : (vals : List Float) (o k : ℕ) → o + k ≤ length vals → leng
 part-length vals o k h = length-take-le k (drop o vals) (simp length-drop (omega arith))
 
 pub passes : (m n : ℕ) (marks : List ℕ) (vals d l w : List Float) (iw : List ℕ) → InTable m n → length vals ≡ 592 → length d ≡ n → length l ≡ m
-    → 8192 ≤ length w → 512 ≤ length iw → stepCall (problemIn m n marks vals) d l w iw ≡ stepAnswer (problemIn m n marks vals)
+    → 8192 ≤ length w → 512 ≤ length iw → strictCall (problemIn m n marks vals) d l w iw ≡ stepAnswer (problemIn m n marks vals)
 unfolding problemIn
 passes m n marks vals d l w iw t hv hd hl hw hi =
     let nn = square n n (t .most) (t .most) in

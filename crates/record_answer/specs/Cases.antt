@@ -91,9 +91,21 @@ stepCases =
     ∷ case (sizesRecord 0 1 ++ recordOf "L" 0 0 0) (ascii "refused 5\n")
     ∷ []
 
+-- bounds that mean nothing, each fault at each side, the width first, and both sides open
+abbrev pub boundCases : List RecordCase
+boundCases =
+    case (sizesRecord 0 1 ++ recordOf "B" 0 0 0x7ff0_0000_0000_0000) (ascii "refused 15\n")
+    ∷ case (sizesRecord 0 2 ++ recordOf "T" 0 1 0xfff0_0000_0000_0000) (ascii "refused 15\n")
+    ∷ case (sizesRecord 0 1 ++ recordOf "B" 0 0 0x7ff8_0000_0000_0000) (ascii "refused 15\n")
+    ∷ case (sizesRecord 0 1 ++ recordOf "T" 0 0 0xfff0_0000_0000_0001) (ascii "refused 15\n")
+    ∷ case (sizesRecord 1 1 ++ (recordOf "I" 0 0 oneBits ++ (recordOf "W" 0 0 0x7ff0_0000_0000_0000 ++ recordOf "B" 0 0 0x7ff0_0000_0000_0000))) (ascii "refused 14\n")
+    ∷ case (sizesRecord 0 1 ++ (recordOf "G" 0 0 oneBits ++ (recordOf "B" 0 0 0xfff0_0000_0000_0000 ++ recordOf "T" 0 0 0x7ff0_0000_0000_0000))) (ascii "ok\nrelaxation 0000000000000000\nd 0 bff0000000000000\n")
+    ∷ []
+
 -- the definitions answer so
 pub record CasesHold : Type 0 where
   pub rule : withText ruleCase ≡ ruleCase
   pub faults : map withText faultCases ≡ faultCases
   pub sizes : map withText sizeCases ≡ sizeCases
   pub steps : map withText stepCases ≡ stepCases
+  pub open-bounds : map withText boundCases ≡ boundCases

@@ -8,6 +8,7 @@ use Rattle.nnls.specs.Counted.{Counted}
 use Rattle.step_rows.specs.Problem.{Problem}
 use Rattle.step.specs.Step.{Step, step}
 use Rattle.step_call.specs.Promise.{areWidths}
+use Rattle.step_call.specs.Strict.{bounds}
 use Rattle.record_read.specs.Input.{Decoded, fault, tooLarge, problem, readNumbers}
 use Rattle.ascii.specs.Text.{ascii, decimalText}
 use Rattle.record_answer.specs.Text.{floatText, linesText}
@@ -30,9 +31,9 @@ abbrev pub stepText : Answer Step → List ℕ
 stepText (done s) = doneText s
 stepText (refused r) = refusedText (numberOf r)
 
--- the step on a problem that was read: its sizes, lengths and kinds are right, so of the tests before the arithmetic that of the widths is left
+-- the strict step on a problem that was read: its sizes, lengths and kinds are right, so of the tests before the arithmetic those of the widths and of the bounds are left
 abbrev pub stepAnswer : Problem → Answer Step
-stepAnswer p = test (areWidths (p .kinds) (p .widths) (p .m)) Width (step p .answer)
+stepAnswer p = test (areWidths (p .kinds) (p .widths) (p .m)) Width (bounds (p .lower) (p .upper) (p .n) 0 (step p .answer))
 
 abbrev pub decodedText : Decoded Problem → List ℕ
 decodedText (fault k) = faultText k

@@ -96,7 +96,7 @@ pub fn word_room() -> [u32; 512]
     [0; 512]
 }
 
-// The step on the parts of the two tables, with workspaces of its own.
+// The strict step on the parts of the two tables, with workspaces of its own.
 fn solve(
     m: usize,
     n: usize,
@@ -114,7 +114,7 @@ fn solve(
     let mut space = [0u8; 16];
     let ks = &mut space[..m];
     tables::load_kinds(marks, ks);
-    step_call::Step::solve(
+    step_call::Step::solve_strictly(
         n,
         m,
         tables::factor(n, vals),

@@ -1,19 +1,16 @@
 // Runs a stored call through the C interface on memory full of junk.
 use crate::check::run_check;
 use crate::day::run_day;
+use crate::step::run_step;
 use libc::STDOUT_FILENO;
 use replay_list::Call;
 use replay_list::Values;
 use replay_list::digest_of;
 use replay_list::first_output;
-use replay_list::junk;
-use replay_list::kinds;
 use replay_list::length_at;
 use replay_list::lent_output;
 use replay_list::mark;
-use replay_list::mix_count;
 use replay_list::mix_float;
-use replay_list::mix_kinds;
 use replay_list::mix_mark;
 use replay_list::mix_output;
 use replay_list::mix_places;
@@ -23,7 +20,6 @@ use replay_list::part;
 use replay_list::places;
 use replay_list::room;
 use replay_list::size;
-use replay_list::tally;
 
 // A u32 as a word.
 fn long(x: u32) -> u64 {
@@ -88,46 +84,6 @@ fn told_counts(number: u32, rounds: u32, factorings: u32) -> u64 {
 // The number of LSI, of LSEI or of a day, and the place.
 pub fn told_place(number: u32, place: u32) -> u64 {
     mix_mark(told(number), place)
-}
-
-// The step: its number, the relaxation, the tally, the report's whole memory and the kinds, which it has read.
-fn run_step(
-    call: &Call,
-    values: &Values,
-    d: &mut [f64],
-    multipliers: &mut [f64],
-    w: &mut [f64],
-    iw: &mut [u32],
-) -> u64 {
-    let reports = length_at(call, 5, 551);
-    let g = kinds(call);
-    let mut relaxation = junk(call);
-    let mut report = places(call);
-    let mut counts = tally(call);
-    let number = gritstrut::gritstrut_step(
-        size(call, 0),
-        size(call, 1),
-        part(call, values, 0),
-        part(call, values, 1),
-        g,
-        part(call, values, 2),
-        part(call, values, 3),
-        part(call, values, 4),
-        part(call, values, 5),
-        part(call, values, 6),
-        d,
-        multipliers,
-        &mut relaxation,
-        &mut report[..reports],
-        &mut counts,
-        w,
-        iw,
-    );
-    let spent = mix_count(
-        mix_count(mix_float(told(number), relaxation), counts[0]),
-        counts[1],
-    );
-    mix_kinds(mix_places(spent, &report), g)
 }
 
 // The approximation B, square or as its lower triangle: the identity, a product, the factor, or the update of the
@@ -239,9 +195,10 @@ fn run_any(
         5 => told(gritstrut::gritstrut_ldp(i, j, a, b, x, y, w, iw)),
         6 => run_lsi(call, values, x, y, w, iw),
         7 => run_lsei(call, values, x, y, w, iw),
-        12 => run_step(call, values, x, y, w, iw),
+        12 => run_step(operation, call, values, x, y, w, iw),
         17 => run_day(call, values, x, w, iw),
-        18 => run_check(call, values, w, iw),
+        18 => run_step(operation, call, values, x, y, w, iw),
+        19 => run_check(call, values, w, iw),
         _ => run_hessian(operation, call, values, x, w, iw),
     }
 }

@@ -12,6 +12,7 @@ use lib.Ieee.{Float}
 use borrow.Author.Tests.{le-leb, lt-leb, eqb-true}
 use Rattle.numbers.specs.Numbers.{+0, nth}
 use Rattle.workspace.specs.Tables.{Answer, done, refused, isLate, call, test, cleared, isDimension, isConstraints}
+use Rattle.workspace.specs.declared.Refusal.{Refusal}
 use Rattle.workspace.specs.declared.Refusal.the-variants.{Size, Length, Room, Kind, Width}
 use Rattle.workspace.specs.inner.Readings.{vec}
 use Rattle.workspace.proofs.Parts.{vec-front, front-cleared}
@@ -84,9 +85,15 @@ pub width-refused : (a : Answer Step) (t : Report) (s l r k v : Bool) (d x w : L
     → s ≡ true → l ≡ true → r ≡ true → k ≡ true → v ≡ false → Steps (call s l r k (test v Width a)) t (Refused Width) d d x x w w iw iw
 width-refused a t s l r k v d x w iw e f g h i = rw (e, f, g, h, i) (record { the-outcome = refl; the-d = refl; the-multipliers = refl; the-floats = refl; the-words = refl })
 
-pub call-answered : (a : Answer Step) (y : Report) (s l r k v : Bool) (o : Outcome) (d d' x x' w w' : List Float) (iw iw' : List ℕ)
-    → s ≡ true → l ≡ true → r ≡ true → k ≡ true → v ≡ true → Steps a y o d d' x x' w w' iw iw' → Steps (call s l r k (test v Width a)) y o d d' x x' w w' iw iw'
-call-answered a y s l r k v o d d' x x' w w' iw iw' e f g h i t = rw (e, f, g, h, i) t
+-- a bound is refused, and nothing is written
+pub bound-refused : (a : Answer Step) (t : Report) (s l r k v : Bool) (q : Refusal) (d x w : List Float) (iw : List ℕ)
+    → s ≡ true → l ≡ true → r ≡ true → k ≡ true → v ≡ true → (a ≡ refused q) × (isLate q ≡ false) → Steps (call s l r k (test v Width a)) t (Refused q) d d x x w w iw iw
+bound-refused a t s l r k v q d x w iw e f g h i j =
+    rw (e, f, g, h, i, j .0) (record { the-outcome = rw (j .1) refl; the-d = refl; the-multipliers = refl; the-floats = rw (j .1) refl; the-words = rw (j .1) refl })
+
+pub call-answered : (a b : Answer Step) (y : Report) (s l r k v : Bool) (o : Outcome) (d d' x x' w w' : List Float) (iw iw' : List ℕ)
+    → s ≡ true → l ≡ true → r ≡ true → k ≡ true → v ≡ true → a ≡ b → Steps b y o d d' x x' w w' iw iw' → Steps (call s l r k (test v Width a)) y o d d' x x' w w' iw iw'
+call-answered a b y s l r k v o d d' x x' w w' iw iw' e f g h i j t = rw (e, f, g, h, i, j) t
 
 -- the ten lengths in two tests
 pub lengths-bad : (a b c d e f : Bool) → a ≡ false → (a && b && c && d && e && f) ≡ false

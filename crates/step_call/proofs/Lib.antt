@@ -1,4 +1,5 @@
 pub mod Widths
+pub mod Bounds
 pub mod Calls
 pub mod Before
 pub mod Clear
@@ -6,3 +7,4 @@ pub mod Costs
 pub mod Lower
 pub mod One
 pub mod Called
+pub mod Strictly

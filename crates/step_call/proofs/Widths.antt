@@ -16,10 +16,10 @@ use Rattle.step_call.specs.Promise.{isWidth, areWidths}
 -- ---- one
 
 -- infinity, as the code writes it
-abbrev above : Float
+abbrev pub above : Float
 above = div binary64 (ofBits binary64 0x3ff0_0000_0000_0000) (ofBits binary64 0)
 
-lit-infinity : above ≡ inf false
+pub lit-infinity : above ≡ inf false
 unfolding div ofBits
 lit-infinity = refl
 

@@ -1,12 +1,14 @@
--- What is shown of the step and of its calls: its multipliers, that without bands they are as before, what it reads of the factor, what it costs, and that the promise allows one answer only. Definitions only.
+-- What is shown of the step and of its calls: its multipliers, that without bands they are as before, what it reads of the factor, what it costs, how the strict step differs, and that the promise allows one answer only. Definitions only.
 use mathlib.Core.Path.{_≡_}
-use mathlib.Core.Bool.{true}
+use mathlib.Core.Bool.{true, false}
 use mathlib.Core.List.{List}
+use mathlib.Core.Logic.{_⊎_}
 use Prim.Native.Nat.{ℕ, _+_, _*_, _<_, _≤_}
 use lib.ListN.{length}
 use lib.Ieee.{Float}
 use Rattle.numbers.specs.Numbers.{_⊖_, at, nth, SameLower}
 use Rattle.workspace.specs.Tables.{Answer, done, refused, has}
+use Rattle.workspace.specs.declared.Refusal.the-variants.{Bound}
 use Rattle.nnls.specs.Counted.{Counted}
 use Rattle.nnls.specs.Claims.{NotNegative}
 use Rattle.lsei_call.specs.Claims.{ClearFrom}
@@ -16,6 +18,7 @@ use Rattle.step_rows.specs.declared.Constraint.the-variants.{Equality, Floor, B
 use Rattle.step.specs.Step.{Step, target, exactSolution, relaxedSolution, relaxed, step, reportOf}
 use Rattle.step.specs.declared.Report.{Report}
 use Rattle.step_call.specs.Promise.{stepCall, outcomeOf, Steps}
+use Rattle.step_call.specs.Strict.{isBounded, bounds, strictCall}
 use Rattle.step_call.specs.NoBands as NoBands
 use Rattle.step_call.specs.declared.Outcome.{Outcome}
 use Rattle.step_call.specs.declared.Outcome.the-variants.{Done, Failed, Refused}
@@ -96,6 +99,26 @@ CostBound = (p : Problem) (o : Outcome) (d d' l l' w w' : List Float) (iw iw' : 
 -- and so, of 64 and 66 rows at most, no call takes more than this
 abbrev pub CostMost : Type 0
 CostMost = (p : Problem) (o : Outcome) (d d' l l' w w' : List Float) (iw iw' : List ℕ) → Steps (stepCall p d l w iw) (reportOf p) o d d' l l' w w' iw iw' → factoringsTold o ≤ 25879
+
+-- ---- the strict step
+
+-- every bound is a number, or open as it should be, and what follows the tests answers; or here is the lowest variable of which that is not so
+pub data LowestBound {A : Type 0} (lower upper : List Float) (n : ℕ) (a c : Answer A) : Type 0 where
+  all-bounded : ((i : ℕ) → i < n → isBounded lower upper i ≡ true) → c ≡ a → LowestBound lower upper n a c
+  wrong-bound : (i : ℕ) → i < n → ((j : ℕ) → j < i → isBounded lower upper j ≡ true) → isBounded lower upper i ≡ false → c ≡ refused (Bound i)
+      → LowestBound lower upper n a c
+
+abbrev pub LowestVariable : Type 1
+LowestVariable = (A : Type 0) (lower upper : List Float) (n : ℕ) (a : Answer A) → LowestBound {A = A} lower upper n a (bounds lower upper n 0 a)
+
+-- a call refuses by 15, where a variable has such a bound, or it is the step
+abbrev pub StrictIsStep : Type 0
+StrictIsStep = (p : Problem) (d l w : List Float) (iw : List ℕ)
+    → ((i : ℕ) × (i < p .n) × (isBounded (p .lower) (p .upper) i ≡ false) × (strictCall p d l w iw ≡ refused (Bound i))) ⊎ (strictCall p d l w iw ≡ stepCall p d l w iw)
+
+-- so with such bounds only as mean something, whatever the call is lent, both answer and leave the same
+abbrev pub StrictAsStep : Type 0
+StrictAsStep = (p : Problem) (d l w : List Float) (iw : List ℕ) → ((i : ℕ) → i < p .n → isBounded (p .lower) (p .upper) i ≡ true) → strictCall p d l w iw ≡ stepCall p d l w iw
 
 -- ---- that the promise allows one answer only
 

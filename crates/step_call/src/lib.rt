@@ -1,4 +1,6 @@
-// The public step: tests, the kernel in the front of the lent workspaces, and its answer out.
+// The public step and the strict step: tests, the kernel in the front of the lent workspaces, and its answer out.
+mod strict;
+
 ghost use mathlib.Core.Path.{_≡_};
 ghost use mathlib.Core.Bool.{_&&_};
 ghost use Prim.Native.Nat.{_*_, _≤_};
@@ -9,7 +11,9 @@ ghost use Rattle.nnls.specs.Counted.{Counted};
 ghost use Rattle.step_rows.specs.Problem.{problemOf, constraintOf};
 ghost use Rattle.step.specs.Step.{step, reportOf};
 ghost use Rattle.step_call.specs.Promise.{areKinds, isWidth, areWidths, stepCall, Steps};
-ghost use Rattle.step_call.specs.inner.Work.{Lent, StepGiven};
+ghost use Rattle.step_call.specs.Strict.{strictCall};
+ghost use Rattle.step_call.specs.inner.Work.{Lent, testedCall, StepGiven};
+use crate::strict::test_bounds;
 use workspace::Refusal;
 
 // The solver of the step.
@@ -196,6 +200,66 @@ fn step_all(
     give(t, d, multipliers, w, iw, n, m)
 }
 
+// The call with the bounds of the first `tested` variables among its tests: the step has none of them tested, the strict step all.
+fn solve_tested(
+    tested: usize,
+    n: usize,
+    m: usize,
+    factor: &[f64],
+    gradient: &[f64],
+    kinds: &[u8],
+    values: &[f64],
+    widths: &[f64],
+    jacobian: &[f64],
+    lower: &[f64],
+    upper: &[f64],
+    d: &mut [f64],
+    multipliers: &mut [f64],
+    w: &mut [f64],
+    iw: &mut [u32],
+) -> Outcome
+    requires { ⌜ tested ≤ n ⌝ }
+    ensures { λ r. ⌜ Steps (testedCall tested (problemOf n m (now (factor .entry)) (now (gradient .entry)) (now (kinds .entry)) (now (values .entry)) (now (widths .entry)) (now (jacobian .entry)) (now (lower .entry)) (now (upper .entry))) (now (d .entry)) (now (multipliers .entry)) (now (w .entry)) (now (iw .entry))) (reportOf (problemOf n m (now (factor .entry)) (now (gradient .entry)) (now (kinds .entry)) (now (values .entry)) (now (widths .entry)) (now (jacobian .entry)) (now (lower .entry)) (now (upper .entry)))) r (now (d .entry)) (now (d .exit)) (now (multipliers .entry)) (now (multipliers .exit)) (now (w .entry)) (now (w .exit)) (now (iw .entry)) (now (iw .exit)) ⌝ }
+{
+    if !are_sizes(n, m) {
+        return Outcome::Refused(Refusal::Size);
+    }
+    if !are_lengths(n, m, factor, gradient, kinds, values, jacobian) {
+        return Outcome::Refused(Refusal::Length);
+    }
+    if !are_other_lengths(n, m, widths, lower, upper, d.len(), multipliers.len()) {
+        return Outcome::Refused(Refusal::Length);
+    }
+    if !workspace::is_room(w.len(), iw.len()) {
+        return Outcome::Refused(Refusal::Room);
+    }
+    if !are_kinds(kinds) {
+        return Outcome::Refused(Refusal::Kind);
+    }
+    if !are_widths(kinds, widths, m) {
+        return Outcome::Refused(Refusal::Width);
+    }
+    match test_bounds(lower, upper, tested) {
+        workspace::Outcome::Refused(why) => Outcome::Refused(why),
+        workspace::Outcome::Done => step_all(
+            factor,
+            gradient,
+            kinds,
+            values,
+            widths,
+            jacobian,
+            lower,
+            upper,
+            d,
+            multipliers,
+            w,
+            iw,
+            n,
+            m,
+        ),
+    }
+}
+
 impl Step {
     // The step d of n variables and m constraints, with a multiplier for each constraint, the relaxation and the report.
     pub fn solve(
@@ -216,25 +280,10 @@ impl Step {
     ) -> Outcome
         ensures { λ r. ⌜ Steps (stepCall (problemOf n m (now (factor .entry)) (now (gradient .entry)) (now (kinds .entry)) (now (values .entry)) (now (widths .entry)) (now (jacobian .entry)) (now (lower .entry)) (now (upper .entry))) (now (d .entry)) (now (multipliers .entry)) (now (w .entry)) (now (iw .entry))) (reportOf (problemOf n m (now (factor .entry)) (now (gradient .entry)) (now (kinds .entry)) (now (values .entry)) (now (widths .entry)) (now (jacobian .entry)) (now (lower .entry)) (now (upper .entry)))) r (now (d .entry)) (now (d .exit)) (now (multipliers .entry)) (now (multipliers .exit)) (now (w .entry)) (now (w .exit)) (now (iw .entry)) (now (iw .exit)) ⌝ }
     {
-        if !are_sizes(n, m) {
-            return Outcome::Refused(Refusal::Size);
-        }
-        if !are_lengths(n, m, factor, gradient, kinds, values, jacobian) {
-            return Outcome::Refused(Refusal::Length);
-        }
-        if !are_other_lengths(n, m, widths, lower, upper, d.len(), multipliers.len()) {
-            return Outcome::Refused(Refusal::Length);
-        }
-        if !workspace::is_room(w.len(), iw.len()) {
-            return Outcome::Refused(Refusal::Room);
-        }
-        if !are_kinds(kinds) {
-            return Outcome::Refused(Refusal::Kind);
-        }
-        if !are_widths(kinds, widths, m) {
-            return Outcome::Refused(Refusal::Width);
-        }
-        step_all(
+        solve_tested(
+            0,
+            n,
+            m,
             factor,
             gradient,
             kinds,
@@ -247,8 +296,44 @@ impl Step {
             multipliers,
             w,
             iw,
+        )
+    }
+
+    // The same, but a bound that is not finite and not open is refused, with the lowest such variable.
+    pub fn solve_strictly(
+        n: usize,
+        m: usize,
+        factor: &[f64],
+        gradient: &[f64],
+        kinds: &[u8],
+        values: &[f64],
+        widths: &[f64],
+        jacobian: &[f64],
+        lower: &[f64],
+        upper: &[f64],
+        d: &mut [f64],
+        multipliers: &mut [f64],
+        w: &mut [f64],
+        iw: &mut [u32],
+    ) -> Outcome
+        ensures { λ r. ⌜ Steps (strictCall (problemOf n m (now (factor .entry)) (now (gradient .entry)) (now (kinds .entry)) (now (values .entry)) (now (widths .entry)) (now (jacobian .entry)) (now (lower .entry)) (now (upper .entry))) (now (d .entry)) (now (multipliers .entry)) (now (w .entry)) (now (iw .entry))) (reportOf (problemOf n m (now (factor .entry)) (now (gradient .entry)) (now (kinds .entry)) (now (values .entry)) (now (widths .entry)) (now (jacobian .entry)) (now (lower .entry)) (now (upper .entry)))) r (now (d .entry)) (now (d .exit)) (now (multipliers .entry)) (now (multipliers .exit)) (now (w .entry)) (now (w .exit)) (now (iw .entry)) (now (iw .exit)) ⌝ }
+    {
+        solve_tested(
+            n,
             n,
             m,
+            factor,
+            gradient,
+            kinds,
+            values,
+            widths,
+            jacobian,
+            lower,
+            upper,
+            d,
+            multipliers,
+            w,
+            iw,
         )
     }
 }

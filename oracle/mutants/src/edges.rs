@@ -10,7 +10,7 @@ use reference::tally::{NOWHERE, Tally};
 
 /// Whether a call passes a test with a report of the right length.
 fn passes_reported(call: &Call, test: u32) -> bool {
-    let words = if call.op == Op::Step { REPORT } else { call.words };
+    let words = if call.op.is_step() { REPORT } else { call.words };
     passes(&Call { words, ..call.clone() }, test)
 }
 
@@ -72,9 +72,9 @@ edges! {
             if above && root > 0.0 && x.is_finite() { root.next_down() } else { root }
         }
     }
-    LengthsFirst "lengths before sizes" { const TESTS: [u32; 6] = [2, 1, 3, 4, 14, 10]; }
-    WorkspacesFirst "workspaces before lengths" { const TESTS: [u32; 6] = [1, 3, 2, 4, 14, 10]; }
-    KindsBefore "kinds before workspaces" { const TESTS: [u32; 6] = [1, 2, 4, 3, 14, 10]; }
+    LengthsFirst "lengths before sizes" { const TESTS: [u32; 7] = [2, 1, 3, 4, 14, 15, 10]; }
+    WorkspacesFirst "workspaces before lengths" { const TESTS: [u32; 7] = [1, 3, 2, 4, 14, 15, 10]; }
+    KindsBefore "kinds before workspaces" { const TESTS: [u32; 7] = [1, 2, 4, 3, 14, 15, 10]; }
     KindThree "kind 3 taken" {
         fn passes(call: &Call, test: u32) -> bool {
             if test == 4 { call.kinds.iter().all(|&kind| kind <= 3) } else { passes(call, test) }
@@ -85,9 +85,9 @@ edges! {
             if test == 4 { call.kinds.iter().all(|&kind| kind <= 1) } else { passes(call, test) }
         }
     }
-    WidthsBeforeKinds "widths before kinds" { const TESTS: [u32; 6] = [1, 2, 3, 14, 4, 10]; }
-    WidthsBeforeRoom "widths before workspaces" { const TESTS: [u32; 6] = [1, 2, 14, 3, 4, 10]; }
-    WidthsBeforeLengths "widths before lengths" { const TESTS: [u32; 6] = [1, 14, 2, 3, 4, 10]; }
+    WidthsBeforeKinds "widths before kinds" { const TESTS: [u32; 7] = [1, 2, 3, 14, 4, 15, 10]; }
+    WidthsBeforeRoom "widths before workspaces" { const TESTS: [u32; 7] = [1, 2, 14, 3, 4, 15, 10]; }
+    WidthsBeforeLengths "widths before lengths" { const TESTS: [u32; 7] = [1, 14, 2, 3, 4, 15, 10]; }
     WidthOfFloor "a width tested for a floor" {
         fn passes(call: &Call, test: u32) -> bool { passes_widths(call, test, 1, |w| w >= 0.0 && w < f64::INFINITY) }
     }
@@ -302,9 +302,9 @@ edges! {
         }
     }
     ReportFirst "the report's length before the sizes" {
-        const TESTS: [u32; 6] = [2, 1, 3, 4, 14, 10];
+        const TESTS: [u32; 7] = [2, 1, 3, 4, 14, 15, 10];
         fn passes(call: &Call, test: u32) -> bool {
-            let reported = call.op != Op::Step || call.words == REPORT;
+            let reported = !call.op.is_step() || call.words == REPORT;
             if test == 2 && !passes(call, 1) { reported } else { passes(call, test) }
         }
     }
@@ -354,6 +354,32 @@ edges! {
     DayCleared "workspaces of a day cleared after 12 and 13" {
         fn clears(number: u32) -> bool { number >= 12 || Sound::clears(number) }
     }
+    BoundsBeforeWidths "bounds before widths" { const TESTS: [u32; 7] = [1, 2, 3, 4, 15, 14, 10]; }
+    BoundsBeforeKinds "bounds before kinds" { const TESTS: [u32; 7] = [1, 2, 3, 15, 4, 14, 10]; }
+    HighestVariable "the highest variable with a wrong bound named" {
+        fn variable(wrong: &[usize]) -> usize { wrong[wrong.len() - 1] }
+    }
+    UpperInfinity "an upper +infinity refused" {
+        fn bounded(lower: f64, upper: f64) -> bool { Sound::bounded(lower, upper) && upper < f64::INFINITY }
+    }
+    LowerInfinity "a lower -infinity refused" {
+        fn bounded(lower: f64, upper: f64) -> bool { Sound::bounded(lower, upper) && lower > f64::NEG_INFINITY }
+    }
+    NanLower "a NaN as a lower bound taken" {
+        fn bounded(lower: f64, upper: f64) -> bool { Sound::bounded(if lower.is_nan() { 0.0 } else { lower }, upper) }
+    }
+    NanUpper "a NaN as an upper bound taken" {
+        fn bounded(lower: f64, upper: f64) -> bool { Sound::bounded(lower, if upper.is_nan() { 0.0 } else { upper }) }
+    }
+    OpenBelow "a lower +infinity taken" {
+        fn bounded(lower: f64, upper: f64) -> bool { Sound::bounded(lower.min(f64::MAX), upper) || lower == f64::INFINITY }
+    }
+    OpenAbove "an upper -infinity taken" {
+        fn bounded(lower: f64, upper: f64) -> bool { Sound::bounded(lower, upper.max(f64::MIN)) || upper == f64::NEG_INFINITY }
+    }
+    BoundCleared "cleared after 15" {
+        fn clears(number: u32) -> bool { number == 15 || Sound::clears(number) }
+    }
     CheckUpperColumns "check: whole columns of the factor" { const CHECK: Slip = Slip::UpperColumns; }
     CheckUpperRows "check: whole rows of the factor" { const CHECK: Slip = Slip::UpperRows; }
     CheckOwnValueRefused "check: the tolerance's own value refused" { const CHECK: Slip = Slip::OwnValueRefused; }
@@ -397,8 +423,8 @@ edges! {
             passes_tolerance(call, test, |t| t >= 0.0 && t.is_finite())
         }
     }
-    CheckToleranceFirst "check: 10 before 14" { const TESTS: [u32; 6] = [1, 2, 3, 4, 10, 14]; }
-    CheckToleranceBeforeKinds "check: 10 before 4" { const TESTS: [u32; 6] = [1, 2, 3, 10, 4, 14]; }
+    CheckToleranceFirst "check: 10 before 14" { const TESTS: [u32; 7] = [1, 2, 3, 4, 10, 14, 15]; }
+    CheckToleranceBeforeKinds "check: 10 before 4" { const TESTS: [u32; 7] = [1, 2, 3, 10, 4, 14, 15]; }
     CheckAnyVerdict "check: a verdict of any length taken" {
         fn passes(call: &Call, test: u32) -> bool {
             let words = if call.op == Op::Check { VERDICT } else { call.words };

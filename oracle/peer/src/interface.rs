@@ -48,6 +48,11 @@ macro_rules! interface {
                 (before before_len reading) (after after_len reading) (spreads spreads_len read)
                 (balances balances_len read) (volumes volumes_len write) (named named_len mark)
                 {place count};
+            StrictStep strict_step "gritstrut_strict_step" [n m]
+                (factor factor_len read) (gradient gradient_len read) (kinds kinds_len kind)
+                (values values_len read) (widths widths_len read) (jacobian jacobian_len read)
+                (lower lower_len read) (upper upper_len read) (d d_len write) (multipliers l_len write)
+                {relaxation real} [report report_len index] <tally>;
             Check check "gritstrut_check" [n m]
                 (factor factor_len read) (gradient gradient_len read) (kinds kinds_len kind)
                 (values values_len read) (widths widths_len read) (jacobian jacobian_len read)

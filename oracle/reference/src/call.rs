@@ -4,6 +4,7 @@ use crate::check;
 use crate::day;
 use crate::shape::{Lengths, Op, REPORT, WORKSPACES};
 use crate::stand_in::{self, Failure};
+use crate::strict;
 use crate::tally::{self, Spent, Tally};
 use crate::triangle;
 
@@ -138,7 +139,7 @@ pub struct Solution {
 /// and what a call leaves in the buffers that it is lent.
 pub trait Edge: 'static {
     /// The numbers of the tests before the arithmetic, in their order.
-    const TESTS: [u32; 6] = [1, 2, 3, 4, 14, 10];
+    const TESTS: [u32; 7] = [1, 2, 3, 4, 14, 15, 10];
     /// How the check is read.
     const CHECK: check::Slip = check::Slip::None;
     /// How many f64 and u32 of the workspaces are cleared.
@@ -154,7 +155,10 @@ pub trait Edge: 'static {
     }
     /// Whether a call passes the test of a number.
     fn passes(call: &Call, test: u32) -> bool {
-        passes(call, test)
+        match test {
+            15 => strict::wrong(call, Self::bounded).is_empty(),
+            _ => passes(call, test),
+        }
     }
     /// Whether an answer of so many rounds is within the limit.
     fn within(rounds: usize, limit: usize) -> bool {
@@ -195,6 +199,14 @@ pub trait Edge: 'static {
     /// Whether a step writes its report with a number.
     fn reports(number: u32) -> bool {
         matches!(number, 0 | 5..=8 | 11)
+    }
+    /// Whether the strict step takes a variable's bounds.
+    fn bounded(lower: f64, upper: f64) -> bool {
+        strict::bounded(lower, upper)
+    }
+    /// The variable that the strict step names, of those whose bounds it does not take.
+    fn variable(wrong: &[usize]) -> usize {
+        wrong[0]
     }
     /// The value of a band's second row.
     fn ceiling(value: f64, width: f64) -> f64 {
@@ -273,7 +285,8 @@ pub fn passes(call: &Call, test: u32) -> bool {
         3 => call.work[0] >= WORKSPACES[0] && call.work[1] >= WORKSPACES[1],
         4 => call.kinds.iter().all(|&kind| kind <= 2),
         10 => call.op != Op::Check || check::is_tolerance(call.inputs[check::TOLERANCE][0]),
-        _ => call.bands().all(|(_, width)| (0.0..f64::INFINITY).contains(&width)),
+        14 => call.bands().all(|(_, width)| (0.0..f64::INFINITY).contains(&width)),
+        _ => strict::wrong(call, strict::bounded).is_empty(),
     }
 }
 
@@ -297,10 +310,13 @@ pub fn answer<K: Kernels, E: Edge>(call: &Call) -> Answer {
         Op::Lsi | Op::Lsei | Op::Reconcile if E::places(number) => {
             answer.counts.push(answer.tally.short().place);
         }
-        Op::Step if E::reports(number) => answer.words = E::report(&answer.tally).to_vec(),
+        Op::Step | Op::StrictStep if E::reports(number) => {
+            answer.words = E::report(&answer.tally).to_vec();
+        }
+        Op::StrictStep if number == 15 => answer.words = strict::report::<E>(call).to_vec(),
         _ => {}
     }
-    if call.op == Op::Step {
+    if call.op.is_step() {
         answer.spent = E::spent(number, &answer.tally);
     }
     answer
@@ -337,7 +353,7 @@ fn arithmetic<K: Kernels, E: Edge>(call: &Call) -> Answer {
         }
         Op::Reconcile => reconciled::<K, E>(call),
         Op::Check => Answer { words: check::verdict(call, E::CHECK), ..Answer::default() },
-        Op::Step => {
+        Op::Step | Op::StrictStep => {
             let (kinds, rows) = floors::<E>(call);
             match K::step(&kinds, &rows) {
                 Ok((mut solution, relaxation)) => {

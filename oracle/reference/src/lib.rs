@@ -8,6 +8,7 @@ pub mod check;
 pub mod day;
 pub mod shape;
 pub mod stand_in;
+pub mod strict;
 pub mod tally;
 pub mod triangle;
 

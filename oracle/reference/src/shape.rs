@@ -24,11 +24,12 @@ pub enum Op {
     PackedCholesky,
     PackedUpdate,
     Reconcile,
+    StrictStep,
     Check,
 }
 
 /// Every public operation, in the order of the port.
-pub const OPS: [Op; 19] = [
+pub const OPS: [Op; 20] = [
     Op::Sqrt,
     Op::Sum,
     Op::Norm,
@@ -47,6 +48,7 @@ pub const OPS: [Op; 19] = [
     Op::PackedCholesky,
     Op::PackedUpdate,
     Op::Reconcile,
+    Op::StrictStep,
     Op::Check,
 ];
 
@@ -98,6 +100,7 @@ impl Op {
             Op::PackedCholesky => "packed_cholesky",
             Op::PackedUpdate => "packed_update",
             Op::Reconcile => "reconcile",
+            Op::StrictStep => "strict_step",
             Op::Check => "check",
         }
     }
@@ -118,6 +121,11 @@ impl Op {
         }
     }
 
+    /// Whether it is the step or the strict step.
+    pub fn is_step(self) -> bool {
+        matches!(self, Op::Step | Op::StrictStep)
+    }
+
     /// Whether the first input is written too.
     pub fn is_update(self) -> bool {
         matches!(self, Op::Update | Op::PackedUpdate)
@@ -125,7 +133,7 @@ impl Op {
 
     /// Whether constraints have kinds and widths.
     pub fn has_kinds(self) -> bool {
-        matches!(self, Op::Step | Op::Check)
+        self.is_step() || self == Op::Check
     }
 
     /// Whether the operation has sizes, refusals and workspaces: all but part 1.
@@ -147,7 +155,7 @@ impl Op {
             Op::PackedIdentity | Op::PackedTimes | Op::PackedCholesky | Op::PackedUpdate => {
                 &[(1, 16)]
             }
-            Op::Step | Op::Check => &[(1, 16), (0, 16)],
+            Op::Step | Op::StrictStep | Op::Check => &[(1, 16), (0, 16)],
             Op::Reconcile => &[(0, 16), (0, 16)],
         }
     }
@@ -187,7 +195,7 @@ impl Op {
             Op::PackedTimes => (vec![triangle::count(first), first], vec![first]),
             Op::PackedCholesky => (vec![triangle::count(first)], vec![first * first]),
             Op::PackedUpdate => (vec![triangle::count(first), first, first], vec![]),
-            Op::Step => {
+            Op::Step | Op::StrictStep => {
                 let (n, m) = (first, second);
                 (vec![n * n, n, m, m, m * n, n, n], vec![n, m])
             }
@@ -200,7 +208,7 @@ impl Op {
         let kinds = if self.has_kinds() { second } else { 0 };
         let words = match self {
             Op::Qr => second,
-            Op::Step => REPORT,
+            Op::Step | Op::StrictStep => REPORT,
             Op::Reconcile => first,
             Op::Check => VERDICT,
             _ => 0,

@@ -98,7 +98,7 @@ fn mix_own(digest: &mut Digest, stored: &Stored, owed: &Answer) {
             digest.mix_all([counts(0), ROOMS[1] as u64]);
             digest.mix_all(places(owed, mark % 128 + 128));
         }
-        Op::Step => {
+        Op::Step | Op::StrictStep => {
             digest.mix(owed.value.map_or(pattern(f64::from_bits(*output)), pattern));
             digest.mix_all(tally(stored, owed).map(halves).into_iter().flatten());
             digest.mix_all(places(owed, *mark));

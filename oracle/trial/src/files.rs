@@ -17,7 +17,7 @@ pub enum Aim {
 }
 
 /// The kinds of files, with what each is for.
-pub const KINDS: [(&str, &[Aim]); 23] = [
+pub const KINDS: [(&str, &[Aim]); 24] = [
     ("smallest", &[Aim::Ok, Aim::Refused(1), Aim::Refused(9)]),
     ("sound", &[Aim::Ok, Aim::Relaxed, Aim::Nan, Aim::Refused(5), Aim::Refused(6)]),
     ("largest", &[Aim::Ok]),
@@ -41,6 +41,7 @@ pub const KINDS: [(&str, &[Aim]); 23] = [
     ("flipped bits", &[Aim::Ok, Aim::Refused(9)]),
     ("any bytes", &[Aim::Refused(9)]),
     ("bad width", &[Aim::Refused(14)]),
+    ("bad bound", &[Aim::Refused(15)]),
 ];
 
 /// A record's bytes.
@@ -229,6 +230,13 @@ fn alter(sort: &str, at: usize, records: &mut Vec<[u8; RECORD]>, draw: &mut Draw
                 Some(at) => drop(records.remove(at)),
                 None => records[0][2] = 1,
             }
+        }
+        "bad bound" => {
+            let (tag, facing) = draw.pick(&[(b'B', f64::INFINITY), (b'T', f64::NEG_INFINITY)]);
+            let bound = draw.pick(&[f64::NAN, -f64::NAN, facing, facing]);
+            let variable = draw.below(usize::from(records[0][4]));
+            records.retain(|bytes| bytes[0] != tag || usize::from(bytes[4]) != variable);
+            records.push(record(tag, 0, variable, bound.to_bits()));
         }
         "bad width" => {
             let found = records.iter().find(|bytes| bytes[0] == b'I').map(|bytes| bytes[2]);

@@ -249,7 +249,7 @@ pub fn compare(
     if !call.op.is_lent() {
         return compare_value(library, call, owed, junk, draw);
     }
-    let mut tally = if call.op == Op::Step { some_tally(draw) } else { [0; 2] };
+    let mut tally = if call.op.is_step() { some_tally(draw) } else { [0; 2] };
     compare_on(&mut tally, library, call, owed, junk, draw)
 }
 
@@ -370,7 +370,7 @@ fn compare_outputs(buffers: &Buffers, op: Op, owed: &Answer, found: &mut Vec<Str
     let reported = !owed.words.is_empty();
     if reported && buffers.words.body() != owed.words {
         let name = match op {
-            Op::Step => "report",
+            Op::Step | Op::StrictStep => "report",
             Op::Check => "verdict",
             _ => "perm",
         };

@@ -118,7 +118,7 @@ impl Problem {
             vec![-bound; n],
             vec![bound; n],
         ];
-        let call = Call::new(Op::Step, &[n, m], inputs);
+        let call = Call::new(Op::StrictStep, &[n, m], inputs);
         Self { call, stated: vec![false; m], banded: vec![false; m], seen: HashSet::new() }
     }
 

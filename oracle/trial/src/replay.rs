@@ -33,7 +33,7 @@ const SELDOM: u64 = 12;
 /// The words that a call and its answer take: by them calls are chosen.
 fn words(call: &Call, owed: &Answer) -> usize {
     let groups = [call.sizes.len(), call.inputs.len(), call.outputs.len()];
-    let single = usize::from(call.op == Op::Step) + usize::from(call.op == Op::Qr);
+    let single = usize::from(call.op.is_step()) + usize::from(call.op == Op::Qr);
     let rooms = if call.op.is_lent() { 2 } else { 0 };
     let lengths = 1 + groups.iter().sum::<usize>() + single + rooms;
     let inputs = call.inputs.iter().map(Vec::len).sum::<usize>() + call.kinds.len();

@@ -39,7 +39,7 @@ impl Fill {
         let taken: Vec<u64> = answers.map(|&value| pattern(value)).chain([0]).collect();
         let mut output = unlike(&mut draw, &taken);
         let mut room = unlike(&mut draw, &[0]);
-        if op == Op::Step && draw.below(4) == 0 && !taken.contains(&NAN) {
+        if op.is_step() && draw.below(4) == 0 && !taken.contains(&NAN) {
             [output, room] = [0, 1].map(|_| u64::MAX - draw.below(12) as u64);
         }
         let mark = (draw.bits() as u32 | 1 << 31).min(NOWHERE - 1);

@@ -5,7 +5,7 @@ use reference::shape::Op;
 use reference::tally::{NOWHERE, Stage};
 
 /// Numbers that a call can be owed, from 0.
-pub const NUMBERS: usize = 15;
+pub const NUMBERS: usize = 21;
 
 /// The numbers that a stage of a step can end with.
 const ENDS: [u32; 5] = [0, 5, 6, 7, 11];
@@ -89,7 +89,7 @@ impl Counts {
         if op == Op::Check && done {
             self.verdicts[owed.words[0] as usize] += 1;
         }
-        if op == Op::Step && !owed.words.is_empty() {
+        if op.is_step() && !owed.words.is_empty() {
             let [exact, relaxed] = owed.tally.stages;
             self.stages[end(exact.number)][end(relaxed.number)] += 1;
         }
@@ -169,6 +169,7 @@ impl Counts {
             n[12],
             n[13],
             n[14],
+            n[15],
             self.relaxed,
             self.nan,
             self.blocked,
@@ -186,7 +187,7 @@ impl Counts {
 }
 
 /// Columns of the table.
-const COLUMNS: usize = 27;
+const COLUMNS: usize = 28;
 
 const HEADS: [&str; COLUMNS] = [
     "calls",
@@ -204,6 +205,7 @@ const HEADS: [&str; COLUMNS] = [
     "12",
     "13",
     "14",
+    "15",
     "relaxed",
     "nan",
     "blocked",

@@ -139,7 +139,7 @@ fn replay_lent(library: &Library, stored: &Stored, digest: &mut Digest) -> u32 {
             digest.mix_all([u64::from(memory.counts[0]), memory.marks.len() as u64]);
             digest.mix_all(memory.marks.iter().map(|&mark| u64::from(mark)));
         }
-        Op::Step => {
+        Op::Step | Op::StrictStep => {
             digest.mix(pattern(memory.value));
             let halves = |count: u64| [count >> 32, count & 0xffff_ffff];
             digest.mix_all(memory.tally.into_iter().flat_map(halves));

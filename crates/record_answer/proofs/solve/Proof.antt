@@ -3,7 +3,7 @@ use mathlib.Core.Path.{sym, ap, _∙_}
 use native.Mathlib.Omega.{arith}
 use lib.Seq.{length-take-le}
 use Rattle.step_rows.specs.Problem.{Problem}
-use Rattle.step_call.specs.Promise.{stepCall}
+use Rattle.step_call.specs.Strict.{strictCall}
 use Rattle.record_answer.proofs.Passes.{passes}
 use Rattle.record_answer.proofs.Answers.{answer-is, parts-are}
 use Rattle.record_answer.proofs.solve.Statement.{statement}
@@ -45,14 +45,14 @@ lower-requires c κs = let s = c .before .before .before .before .before .before
 upper-requires : tie.Need-upper-requires
 upper-requires c κs = let s = c .before .before .before .before .before .before .before .before .before .before .before .before .before .before .before .before .before .before in (s .pre .0 .2, s .pre .0 .4)
 
-slice-aggregate-solve : tie.Need-slice-aggregate-solve
-slice-aggregate-solve c = c .before .before .before .before .before .before .before .before .before .before .before .before .before .before .before .before .before .float-room .ensures
+slice-aggregate-solve-strictly : tie.Need-slice-aggregate-solve-strictly
+slice-aggregate-solve-strictly c = c .before .before .before .before .before .before .before .before .before .before .before .before .before .before .before .before .before .float-room .ensures
 
-slice-aggregate-solve-2 : tie.Need-slice-aggregate-solve-2
-slice-aggregate-solve-2 c = c .before .before .before .before .before .before .before .before .before .before .before .before .before .before .before .before .before .word-room .ensures
+slice-aggregate-solve-strictly-2 : tie.Need-slice-aggregate-solve-strictly-2
+slice-aggregate-solve-strictly-2 c = c .before .before .before .before .before .before .before .before .before .before .before .before .before .before .before .before .before .word-room .ensures
 
-solve-requires : tie.Need-solve-requires
-solve-requires c κs = tt
+solve-strictly-requires : tie.Need-solve-strictly-requires
+solve-strictly-requires c κs = tt
 
 same-length : tie.Need-same-length
 same-length c = omega arith
@@ -64,11 +64,11 @@ returns : tie.Need-returns
 returns c =
     let s = c .before .before .before .before .before .before .before .before .before .before .before .before .before .before .before .before .before .before .before .before .before .before .before .before .before .before .before .before .before .before .before in
     let a = s .args in
-    let k = c .before .before .before .before .before .before .before .solve in
+    let k = c .before .before .before .before .before .before .before .solve-strictly in
     let w = c .before .before .before .before .before .before .before .before .before .before .before .before .before .before .before .before .before .before .before .before .before .before .before .before .before .before .float-room in
     let iw = c .before .before .before .before .before .before .before .before .before .before .before .before .before .before .before .before .before .before .before .before .before .before .before .before .before .word-room in
     answer-is _ _ (k .result) (a .d .now) _ (a .multipliers .now) _ _ _ _ _ (k .ensures)
-    ∙ ap (λ (p : Problem). stepCall p (a .d .now) (a .multipliers .now) (w .result) (iw .result))
+    ∙ ap (λ (p : Problem). strictCall p (a .d .now) (a .multipliers .now) (w .result) (iw .result))
     (parts-are (a .m) (a .n) _ (a .marks .now) (a .vals .now) _ _ _ _ _ _ _ _ (c .before .before .before .before .before .before .before .before .before .before .before .before .before .before .before .before .before .before .before .factor .ensures) (c .before .before .before .before .before .before .before .before .before .before .before .before .before .before .before .before .before .before .gradient .ensures) (c .before .before .before .before .before .before .before .before .before .before .before .before .before .before .before .before .before .before .before .before .before .before .load-kinds .ensures) (length-take-le (a .m) _ (s .pre .0 .0))
     (c .before .before .before .before .before .before .before .before .before .before .before .before .before .before .before .before .values .ensures) (c .before .before .before .before .before .before .before .before .before .before .before .before .before .before .before .widths .ensures) (c .before .before .before .before .before .before .before .before .before .before .before .before .before .before .jacobian .ensures) (c .before .before .before .before .before .before .before .before .before .before .before .before .before .lower .ensures) (c .before .before .before .before .before .before .before .before .before .before .before .before .upper .ensures))
     ∙ passes (a .m) (a .n) (a .marks .now) (a .vals .now) (a .d .now) (a .multipliers .now) (w .result) (iw .result) (record { few = s .pre .0 .0; some = s .pre .0 .1; most = s .pre .0 .2 })
@@ -90,9 +90,9 @@ solve-spec =
     jacobian-requires
     lower-requires
     upper-requires
-    slice-aggregate-solve
-    slice-aggregate-solve-2
-    solve-requires
+    slice-aggregate-solve-strictly
+    slice-aggregate-solve-strictly-2
+    solve-strictly-requires
     same-length
     same-length-2
     returns)

@@ -28,7 +28,7 @@ pub const ROWS: &[Row] = &[
     ("next to it", Share::Weight(10), &ALL, measured_edges),
     ("next to a ceiling", Share::Weight(5), &[Verdict(0), Verdict(3)], ceilings),
     ("least values", Share::All(4 * 6 * 9 * 9 * 9), &ALL, least),
-    ("steps of the Rust", Share::Weight(10), &ALL, solved),
+    ("steps of the Rust", Share::Weight(10), &[Verdict(0), Verdict(1), Verdict(3), Verdict(5)], solved),
     ("smooth", Share::Weight(6), &[Verdict(1), Verdict(3), Verdict(4)], |_, _, draw| {
         drawn(draw, Palette::Smooth)
     }),

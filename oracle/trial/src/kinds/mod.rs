@@ -11,6 +11,7 @@ mod plain;
 mod qr;
 mod spoiled;
 mod step;
+mod strict;
 
 pub use nnls::{decides, overflow_numbered};
 
@@ -93,6 +94,7 @@ fn own(op: Op) -> Vec<Row> {
         Op::PackedCholesky => hessian::CHOLESKY.to_vec(),
         Op::PackedUpdate => hessian::UPDATE.to_vec(),
         Op::Reconcile => day::ROWS.to_vec(),
+        Op::StrictStep => [&step::ROWS[..], &strict::ROWS].concat(),
         Op::Check => check::ROWS.to_vec(),
     }
 }
@@ -103,8 +105,11 @@ pub fn of(op: Op) -> Vec<Kind> {
     if op.is_lent() {
         rows.extend(spoiled::ROWS);
     }
-    if op == Op::Step {
+    if op.is_step() {
         rows.extend(spoiled::STEP);
+    }
+    if op == Op::StrictStep {
+        rows.extend(strict::BAD);
     }
     if op == Op::Check {
         rows.extend(spoiled::CHECK);

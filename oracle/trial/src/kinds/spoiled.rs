@@ -77,7 +77,7 @@ fn sound(op: Op, draw: &mut Draw) -> Call {
 }
 
 /// A sound call with one of the faults, or with some of several.
-fn spoilt(op: Op, draw: &mut Draw, faults: &[fn(&mut Call, &mut Draw)]) -> Call {
+pub fn spoilt(op: Op, draw: &mut Draw, faults: &[fn(&mut Call, &mut Draw)]) -> Call {
     let mut call = sound(op, draw);
     let mut put = 0;
     while put == 0 {
@@ -139,13 +139,13 @@ fn other_length(len: usize, draw: &mut Draw) -> usize {
 }
 
 /// One slice of another length.
-fn bad_length(call: &mut Call, draw: &mut Draw) {
+pub fn bad_length(call: &mut Call, draw: &mut Draw) {
     // A check's tolerance is no slice.
     let slices = call.inputs.len() - usize::from(call.op == Op::Check);
     let (inputs, outputs) = (slices, call.outputs.len());
     let extra = match call.op {
         Op::Qr | Op::Reconcile => 1,
-        Op::Step | Op::Check => 2,
+        Op::Step | Op::StrictStep | Op::Check => 2,
         _ => 0,
     };
     let at = draw.below(inputs + outputs + extra);
@@ -163,13 +163,13 @@ fn bad_length(call: &mut Call, draw: &mut Draw) {
 }
 
 /// A report or a verdict of another length.
-fn bad_report(call: &mut Call, draw: &mut Draw) {
+pub fn bad_report(call: &mut Call, draw: &mut Draw) {
     let (less, more) = (call.words - 1, call.words + 1);
     call.words = draw.pick(&[less, more, 0, other_length(call.words, &mut draw.clone())]);
 }
 
 /// One workspace, or both, too short.
-fn bad_workspace(call: &mut Call, draw: &mut Draw) {
+pub fn bad_workspace(call: &mut Call, draw: &mut Draw) {
     let short = |draw: &mut Draw, least: usize| draw.pick(&[least - 1, least - 1, 0, 1, least / 2]);
     let which = draw.below(3);
     let more = draw.below(5);
@@ -181,7 +181,7 @@ fn bad_workspace(call: &mut Call, draw: &mut Draw) {
 }
 
 /// A kind other than 0, 1 and 2, where there is a constraint.
-fn bad_kind(call: &mut Call, draw: &mut Draw) {
+pub fn bad_kind(call: &mut Call, draw: &mut Draw) {
     if !call.kinds.is_empty() {
         let at = draw.below(call.kinds.len());
         call.kinds[at] = draw.pick(&[3, 3, 4, 128, 254, 255]);
@@ -204,7 +204,7 @@ fn bad_tolerance(call: &mut Call, draw: &mut Draw) {
 }
 
 /// A band whose width is none, where there is a constraint.
-fn bad_width(call: &mut Call, draw: &mut Draw) {
+pub fn bad_width(call: &mut Call, draw: &mut Draw) {
     let constraints = call.kinds.len().min(call.inputs.get(WIDTHS).map_or(0, Vec::len));
     if call.op.has_kinds() && constraints > 0 {
         let at = draw.below(constraints);

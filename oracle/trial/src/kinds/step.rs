@@ -13,8 +13,8 @@ const FACTOR: usize = 0;
 const GRADIENT: usize = 1;
 const VALUES: usize = 2;
 const JACOBIAN: usize = 4;
-const LOWER: usize = 5;
-const UPPER: usize = 6;
+pub const LOWER: usize = 5;
+pub const UPPER: usize = 6;
 
 pub const ROWS: [Row; 37] = [
     ("every size", Share::All(16 * 17 * 8), &[Number(0), Relaxed], |_, index, draw| {
@@ -237,7 +237,7 @@ fn posed(draw: &mut Draw, n: usize, m: usize, palette: Palette) -> Call {
     call
 }
 
-fn of(draw: &mut Draw, palette: Palette) -> Call {
+pub fn of(draw: &mut Draw, palette: Palette) -> Call {
     let (n, m) = (draw.size(1, 16), draw.size(0, 16));
     posed(draw, n, m, palette)
 }

@@ -1,81 +1,11 @@
--- `solve`: the tests in their order, then the step.
-use mathlib.Core.Path.{_≡_, sym, _∙_}
-use mathlib.Core.Bool.{_&&_}
-use Prim.Native.Nat.{_*_, _≤_}
+-- `Step::solve`: no bound is tested.
 use native.Mathlib.Omega.{arith}
-use borrow.Author.Tests.{not-true, not-false}
-use Rattle.workspace.specs.Tables.{test, isDimension, isConstraints, isRoom, has}
-use Rattle.workspace.specs.declared.Refusal.the-variants.{Width}
-use Rattle.workspace.proofs.Tests.{room-ge}
-use Rattle.nnls.specs.Counted.{Counted}
-use Rattle.step.specs.Step.{step}
-use Rattle.step_call.specs.Promise.{areKinds, areWidths, areLengths}
-use Rattle.step_rows.specs.Problem.{problemOf}
-use Rattle.step_call.proofs.Calls.{sizes-le, lengths-are, others-are, size-refused, length-refused, room-refused, kind-refused, width-refused, call-answered, lengths-bad, lengths-good, lengths-rest}
+use Rattle.step_call.specs.Strict.{bounds}
 use Rattle.step_call.proofs.Step.solve.Statement.{statement}
 use Rattle.step_call.proofs.Step.solve.Tie as tie
 
-are-sizes-requires : tie.Need-are-sizes-requires
-are-sizes-requires c κs = tt
-
-returns : tie.Need-returns
-returns c = let a = c .before .before .before .before .before .before .before .before .before .before .before .before .before .before .args in
-    size-refused (test (areWidths (a .kinds .now) (a .widths .now) (a .m)) Width (step (problemOf (a .n) (a .m) (a .factor .now) (a .gradient .now) (a .kinds .now) (a .values .now) (a .widths .now) (a .jacobian .now) (a .lower .now) (a .upper .now)) .answer)) _ (isDimension (a .n) && isConstraints (a .m)) (areLengths (problemOf (a .n) (a .m) (a .factor .now) (a .gradient .now) (a .kinds .now) (a .values .now) (a .widths .now) (a .jacobian .now) (a .lower .now) (a .upper .now)) (a .d .now) (a .multipliers .now)) (isRoom (a .w .now) (a .iw .now)) (areKinds (a .kinds .now)) (a .d .now) (a .multipliers .now) (a .w .now) (a .iw .now) (sym (c .before .are-sizes .ensures) ∙ not-true _ (c .if1 .taken))
-
-are-lengths-requires : tie.Need-are-lengths-requires
-are-lengths-requires c κs = let a = c .before .before .before .before .before .before .before .before .before .before .before .before .before .before .args in
-    sizes-le (a .n) (a .m) (sym (c .before .are-sizes .ensures) ∙ not-false _ (c .if1 .left))
-
-returns-2 : tie.Need-returns-2
-returns-2 c = let a = c .before .before .before .before .before .before .before .before .before .before .before .before .before .before .before .before .args in
-    length-refused (test (areWidths (a .kinds .now) (a .widths .now) (a .m)) Width (step (problemOf (a .n) (a .m) (a .factor .now) (a .gradient .now) (a .kinds .now) (a .values .now) (a .widths .now) (a .jacobian .now) (a .lower .now) (a .upper .now)) .answer)) _ (isDimension (a .n) && isConstraints (a .m)) (areLengths (problemOf (a .n) (a .m) (a .factor .now) (a .gradient .now) (a .kinds .now) (a .values .now) (a .widths .now) (a .jacobian .now) (a .lower .now) (a .upper .now)) (a .d .now) (a .multipliers .now)) (isRoom (a .w .now) (a .iw .now)) (areKinds (a .kinds .now)) (a .d .now) (a .multipliers .now) (a .w .now) (a .iw .now) (sym (c .before .before .before .are-sizes .ensures) ∙ not-false _ (c .before .before .if1 .left)) (lengths-bad (has (a .factor .now) (a .n * a .n) && has (a .gradient .now) (a .n) && has (a .kinds .now) (a .m) && has (a .values .now) (a .m) && has (a .jacobian .now) (a .m * a .n)) (has (a .widths .now) (a .m)) (has (a .lower .now) (a .n)) (has (a .upper .now) (a .n)) (has (a .d .now) (a .n)) (has (a .multipliers .now) (a .m)) (sym (c .before .are-lengths .ensures) ∙ not-true _ (c .if2 .taken)))
-
-are-other-lengths-requires : tie.Need-are-other-lengths-requires
-are-other-lengths-requires c κs = tt
-
-returns-3 : tie.Need-returns-3
-returns-3 c = let a = c .before .before .before .before .before .before .before .before .before .before .before .before .before .before .before .before .before .before .args in
-    length-refused (test (areWidths (a .kinds .now) (a .widths .now) (a .m)) Width (step (problemOf (a .n) (a .m) (a .factor .now) (a .gradient .now) (a .kinds .now) (a .values .now) (a .widths .now) (a .jacobian .now) (a .lower .now) (a .upper .now)) .answer)) _ (isDimension (a .n) && isConstraints (a .m)) (areLengths (problemOf (a .n) (a .m) (a .factor .now) (a .gradient .now) (a .kinds .now) (a .values .now) (a .widths .now) (a .jacobian .now) (a .lower .now) (a .upper .now)) (a .d .now) (a .multipliers .now)) (isRoom (a .w .now) (a .iw .now)) (areKinds (a .kinds .now)) (a .d .now) (a .multipliers .now) (a .w .now) (a .iw .now) (sym (c .before .before .before .before .before .are-sizes .ensures) ∙ not-false _ (c .before .before .before .before .if1 .left)) (lengths-rest (has (a .factor .now) (a .n * a .n) && has (a .gradient .now) (a .n) && has (a .kinds .now) (a .m) && has (a .values .now) (a .m) && has (a .jacobian .now) (a .m * a .n)) (has (a .widths .now) (a .m)) (has (a .lower .now) (a .n)) (has (a .upper .now) (a .n)) (has (a .d .now) (a .n)) (has (a .multipliers .now) (a .m)) (sym (c .before .before .before .are-lengths .ensures) ∙ not-false _ (c .before .before .if2 .left)) (sym (c .before .are-other-lengths .ensures) ∙ not-true _ (c .if3 .taken)))
-
-is-room-requires : tie.Need-is-room-requires
-is-room-requires c κs = tt
-
-returns-4 : tie.Need-returns-4
-returns-4 c = let a = c .before .before .before .before .before .before .before .before .before .before .before .before .before .before .before .before .before .before .before .before .args in
-    room-refused (test (areWidths (a .kinds .now) (a .widths .now) (a .m)) Width (step (problemOf (a .n) (a .m) (a .factor .now) (a .gradient .now) (a .kinds .now) (a .values .now) (a .widths .now) (a .jacobian .now) (a .lower .now) (a .upper .now)) .answer)) _ (isDimension (a .n) && isConstraints (a .m)) (areLengths (problemOf (a .n) (a .m) (a .factor .now) (a .gradient .now) (a .kinds .now) (a .values .now) (a .widths .now) (a .jacobian .now) (a .lower .now) (a .upper .now)) (a .d .now) (a .multipliers .now)) (isRoom (a .w .now) (a .iw .now)) (areKinds (a .kinds .now)) (a .d .now) (a .multipliers .now) (a .w .now) (a .iw .now) (sym (c .before .before .before .before .before .before .before .are-sizes .ensures) ∙ not-false _ (c .before .before .before .before .before .before .if1 .left)) (lengths-good (has (a .factor .now) (a .n * a .n) && has (a .gradient .now) (a .n) && has (a .kinds .now) (a .m) && has (a .values .now) (a .m) && has (a .jacobian .now) (a .m * a .n)) (has (a .widths .now) (a .m)) (has (a .lower .now) (a .n)) (has (a .upper .now) (a .n)) (has (a .d .now) (a .n)) (has (a .multipliers .now) (a .m)) (sym (c .before .before .before .before .before .are-lengths .ensures) ∙ not-false _ (c .before .before .before .before .if2 .left)) (sym (c .before .before .before .are-other-lengths .ensures) ∙ not-false _ (c .before .before .if3 .left))) (sym (c .before .is-room .ensures) ∙ not-true _ (c .if4 .taken))
-
-are-kinds-requires : tie.Need-are-kinds-requires
-are-kinds-requires c κs = tt
-
-returns-5 : tie.Need-returns-5
-returns-5 c = let a = c .before .before .before .before .before .before .before .before .before .before .before .before .before .before .before .before .before .before .before .before .before .before .args in
-    kind-refused (test (areWidths (a .kinds .now) (a .widths .now) (a .m)) Width (step (problemOf (a .n) (a .m) (a .factor .now) (a .gradient .now) (a .kinds .now) (a .values .now) (a .widths .now) (a .jacobian .now) (a .lower .now) (a .upper .now)) .answer)) _ (isDimension (a .n) && isConstraints (a .m)) (areLengths (problemOf (a .n) (a .m) (a .factor .now) (a .gradient .now) (a .kinds .now) (a .values .now) (a .widths .now) (a .jacobian .now) (a .lower .now) (a .upper .now)) (a .d .now) (a .multipliers .now)) (isRoom (a .w .now) (a .iw .now)) (areKinds (a .kinds .now)) (a .d .now) (a .multipliers .now) (a .w .now) (a .iw .now) (sym (c .before .before .before .before .before .before .before .before .before .are-sizes .ensures) ∙ not-false _ (c .before .before .before .before .before .before .before .before .if1 .left)) (lengths-good (has (a .factor .now) (a .n * a .n) && has (a .gradient .now) (a .n) && has (a .kinds .now) (a .m) && has (a .values .now) (a .m) && has (a .jacobian .now) (a .m * a .n)) (has (a .widths .now) (a .m)) (has (a .lower .now) (a .n)) (has (a .upper .now) (a .n)) (has (a .d .now) (a .n)) (has (a .multipliers .now) (a .m)) (sym (c .before .before .before .before .before .before .before .are-lengths .ensures) ∙ not-false _ (c .before .before .before .before .before .before .if2 .left)) (sym (c .before .before .before .before .before .are-other-lengths .ensures) ∙ not-false _ (c .before .before .before .before .if3 .left))) (sym (c .before .before .before .is-room .ensures) ∙ not-false _ (c .before .before .if4 .left)) (sym (c .before .are-kinds .ensures) ∙ not-true _ (c .if5 .taken))
-
-are-widths-requires : tie.Need-are-widths-requires
-are-widths-requires c κs = let a = c .before .before .before .before .before .before .before .before .before .before .before .before .before .before .before .before .before .before .before .before .before .before .args in
-    let l = lengths-are (a .n) (a .m) _ _ _ _ _ (sym (c .before .before .before .before .before .before .before .are-lengths .ensures) ∙ not-false _ (c .before .before .before .before .before .before .if2 .left)) in
-    let d = others-are (a .n) (a .m) _ _ _ _ _ (sym (c .before .before .before .before .before .are-other-lengths .ensures) ∙ not-false _ (c .before .before .before .before .if3 .left)) in
-    (l .2, d .0)
-
-returns-6 : tie.Need-returns-6
-returns-6 c = let a = c .before .before .before .before .before .before .before .before .before .before .before .before .before .before .before .before .before .before .before .before .before .before .before .before .args in
-    width-refused (step (problemOf (a .n) (a .m) (a .factor .now) (a .gradient .now) (a .kinds .now) (a .values .now) (a .widths .now) (a .jacobian .now) (a .lower .now) (a .upper .now)) .answer) _ (isDimension (a .n) && isConstraints (a .m)) (areLengths (problemOf (a .n) (a .m) (a .factor .now) (a .gradient .now) (a .kinds .now) (a .values .now) (a .widths .now) (a .jacobian .now) (a .lower .now) (a .upper .now)) (a .d .now) (a .multipliers .now)) (isRoom (a .w .now) (a .iw .now)) (areKinds (a .kinds .now)) (areWidths (a .kinds .now) (a .widths .now) (a .m)) (a .d .now) (a .multipliers .now) (a .w .now) (a .iw .now) (sym (c .before .before .before .before .before .before .before .before .before .before .before .are-sizes .ensures) ∙ not-false _ (c .before .before .before .before .before .before .before .before .before .before .if1 .left)) (lengths-good (has (a .factor .now) (a .n * a .n) && has (a .gradient .now) (a .n) && has (a .kinds .now) (a .m) && has (a .values .now) (a .m) && has (a .jacobian .now) (a .m * a .n)) (has (a .widths .now) (a .m)) (has (a .lower .now) (a .n)) (has (a .upper .now) (a .n)) (has (a .d .now) (a .n)) (has (a .multipliers .now) (a .m)) (sym (c .before .before .before .before .before .before .before .before .before .are-lengths .ensures) ∙ not-false _ (c .before .before .before .before .before .before .before .before .if2 .left)) (sym (c .before .before .before .before .before .before .before .are-other-lengths .ensures) ∙ not-false _ (c .before .before .before .before .before .before .if3 .left))) (sym (c .before .before .before .before .before .is-room .ensures) ∙ not-false _ (c .before .before .before .before .if4 .left)) (sym (c .before .before .before .are-kinds .ensures) ∙ not-false _ (c .before .before .if5 .left)) (sym (c .before .are-widths .ensures) ∙ not-true _ (c .if6 .taken))
-
-step-all-requires : tie.Need-step-all-requires
-step-all-requires c κs = let a = c .before .before .before .before .before .before .before .before .before .before .before .before .before .before .before .before .before .before .before .before .before .before .before .before .before .before .before .before .args in
-    let s = sizes-le (a .n) (a .m) (sym (c .before .before .before .before .before .before .before .before .before .before .before .before .before .before .before .are-sizes .ensures) ∙ not-false _ (c .before .before .before .before .before .before .before .before .before .before .before .before .before .before .if1 .left)) in
-    let l = lengths-are (a .n) (a .m) _ _ _ _ _ (sym (c .before .before .before .before .before .before .before .before .before .before .before .before .before .are-lengths .ensures) ∙ not-false _ (c .before .before .before .before .before .before .before .before .before .before .before .before .if2 .left)) in
-    let d = others-are (a .n) (a .m) _ _ _ _ _ (sym (c .before .before .before .before .before .before .before .before .before .before .before .are-other-lengths .ensures) ∙ not-false _ (c .before .before .before .before .before .before .before .before .before .before .if3 .left)) in
-    let r = room-ge (a .w .now) (a .iw .now) (sym (c .before .before .before .before .before .before .before .before .before .is-room .ensures) ∙ not-false _ (c .before .before .before .before .before .before .before .before .if4 .left)) in
-    record {
-      lengths = record { variables = s .0; constraints = s .1; kind = l .2; value = l .3; width = d .0; entries = l .4; low = d .1; high = d .2 };
-      square = l .0;
-      slope = l .1;
-      step = d .3;
-      prices = d .4;
-      floats = r .0;
-      words = r .1;
-    }
+solve-tested-requires : tie.Need-solve-tested-requires
+solve-tested-requires c κs = omega arith
 
 same-length : tie.Need-same-length
 same-length c = omega arith
@@ -89,30 +19,11 @@ same-length-3 c = omega arith
 same-length-4 : tie.Need-same-length-4
 same-length-4 c = omega arith
 
-returns-7 : tie.Need-returns-7
-returns-7 c = let a = c .before .before .before .before .before .before .before .before .before .before .before .before .before .before .before .before .before .before .before .before .before .before .before .before .before .before .before .before .before .before .before .before .before .before .before .before .before .args in
-    call-answered (step (problemOf (a .n) (a .m) (a .factor .now) (a .gradient .now) (a .kinds .now) (a .values .now) (a .widths .now) (a .jacobian .now) (a .lower .now) (a .upper .now)) .answer) _ (isDimension (a .n) && isConstraints (a .m)) (areLengths (problemOf (a .n) (a .m) (a .factor .now) (a .gradient .now) (a .kinds .now) (a .values .now) (a .widths .now) (a .jacobian .now) (a .lower .now) (a .upper .now)) (a .d .now) (a .multipliers .now)) (isRoom (a .w .now) (a .iw .now)) (areKinds (a .kinds .now)) (areWidths (a .kinds .now) (a .widths .now) (a .m)) _ (a .d .now) _ (a .multipliers .now) _ (a .w .now) _ (a .iw .now) _ (sym (c .before .before .before .before .before .before .before .before .before .before .before .before .before .before .before .before .before .before .before .before .before .before .before .before .are-sizes .ensures) ∙ not-false _ (c .before .before .before .before .before .before .before .before .before .before .before .before .before .before .before .before .before .before .before .before .before .before .before .if1 .left)) (lengths-good (has (a .factor .now) (a .n * a .n) && has (a .gradient .now) (a .n) && has (a .kinds .now) (a .m) && has (a .values .now) (a .m) && has (a .jacobian .now) (a .m * a .n)) (has (a .widths .now) (a .m)) (has (a .lower .now) (a .n)) (has (a .upper .now) (a .n)) (has (a .d .now) (a .n)) (has (a .multipliers .now) (a .m)) (sym (c .before .before .before .before .before .before .before .before .before .before .before .before .before .before .before .before .before .before .before .before .before .before .are-lengths .ensures) ∙ not-false _ (c .before .before .before .before .before .before .before .before .before .before .before .before .before .before .before .before .before .before .before .before .before .if2 .left)) (sym (c .before .before .before .before .before .before .before .before .before .before .before .before .before .before .before .before .before .before .before .before .are-other-lengths .ensures) ∙ not-false _ (c .before .before .before .before .before .before .before .before .before .before .before .before .before .before .before .before .before .before .before .if3 .left))) (sym (c .before .before .before .before .before .before .before .before .before .before .before .before .before .before .before .before .before .before .is-room .ensures) ∙ not-false _ (c .before .before .before .before .before .before .before .before .before .before .before .before .before .before .before .before .before .if4 .left)) (sym (c .before .before .before .before .before .before .before .before .before .before .before .before .before .before .before .before .are-kinds .ensures) ∙ not-false _ (c .before .before .before .before .before .before .before .before .before .before .before .before .before .before .before .if5 .left)) (sym (c .before .before .before .before .before .before .before .before .before .before .before .before .before .before .are-widths .ensures) ∙ not-false _ (c .before .before .before .before .before .before .before .before .before .before .before .before .before .if6 .left))
-    (c .before .before .before .before .before .before .before .before .step-all .ensures)
+returns : tie.Need-returns
+unfolding bounds
+returns c = c .before .before .before .before .before .before .before .before .solve-tested .ensures
 
 pub solve-spec : {M : Type 1} → statement M
 solve-spec =
     tie.close
-    (tie.spec
-    are-sizes-requires
-    returns
-    are-lengths-requires
-    returns-2
-    are-other-lengths-requires
-    returns-3
-    is-room-requires
-    returns-4
-    are-kinds-requires
-    returns-5
-    are-widths-requires
-    returns-6
-    step-all-requires
-    same-length
-    same-length-2
-    same-length-3
-    same-length-4
-    returns-7)
+    (tie.spec solve-tested-requires same-length same-length-2 same-length-3 same-length-4 returns)

@@ -1,8 +1,8 @@
 -- `tell`: an outcome of three.
 use borrow.Author.Needs.{needs}
 use Rattle.gritstrut.proofs.Leaves.{done-tells, failed-tells, refused-tells}
-use Rattle.gritstrut.proofs.tell.Statement.{statement}
-use Rattle.gritstrut.proofs.tell.Tie as tie
+use Rattle.gritstrut.proofs.steps.tell.Statement.{statement}
+use Rattle.gritstrut.proofs.steps.tell.Tie as tie
 
 enum-known-o : tie.Need-enum-known-o
 enum-known-o c = search needs
@@ -40,6 +40,9 @@ number-requires c κs = tt
 enum-known-o-3 : tie.Need-enum-known-o-3
 enum-known-o-3 c = search needs
 
+write-bound-requires : tie.Need-write-bound-requires
+write-bound-requires c κs = c .before .before .before .before .before .pre
+
 number-requires-2 : tie.Need-number-requires-2
 number-requires-2 c κs = tt
 
@@ -55,8 +58,11 @@ same-length-2 c = search needs
 returns-2 : tie.Need-returns-2
 returns-2 c = failed-tells _ _ _ _ _ _ _ _ _ (c .before .before .before .before .before .before .before .before .before .before .o2 .given .1) (c .number .ensures) (c .before .before .before .before .before .before .before .write-report2 .ensures) (c .before .gritstrut-tally-raise2 .ensures)
 
+same-length-3 : tie.Need-same-length-3
+same-length-3 c = search needs
+
 returns-3 : tie.Need-returns-3
-returns-3 c = refused-tells _ _ _ _ _ _ (c .before .before .o3 .given .1) (c .number2 .ensures)
+returns-3 c = refused-tells _ _ _ _ _ _ _ (c .before .before .before .before .before .before .o3 .given .1) (c .number2 .ensures) (c .before .before .before .write-bound .ensures)
 
 pub tell-spec : {M : Type 1} → statement M
 tell-spec =
@@ -74,9 +80,11 @@ tell-spec =
     gritstrut-tally-raise-requires-2
     number-requires
     enum-known-o-3
+    write-bound-requires
     number-requires-2
     same-length
     returns
     same-length-2
     returns-2
+    same-length-3
     returns-3)

@@ -1,7 +1,7 @@
 -- `gritstrut_tally_raise`: both counts, by `Tally::plus`.
 use borrow.Author.Needs.{needs}
-use Rattle.gritstrut.proofs.gritstrut_tally_raise.Statement.{statement}
-use Rattle.gritstrut.proofs.gritstrut_tally_raise.Tie as tie
+use Rattle.gritstrut.proofs.steps.gritstrut_tally_raise.Statement.{statement}
+use Rattle.gritstrut.proofs.steps.gritstrut_tally_raise.Tie as tie
 
 element-copy-out-t8 : tie.Need-element-copy-out-t8
 element-copy-out-t8 c = search needs
