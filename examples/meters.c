@@ -6,8 +6,13 @@
  * The corrections d of the measured flows are the least squares, each weighed by its meter's
  * spread, such that the corrected flows balance and none is below zero. With any word after
  * target/meters the header's balance is entered twice, behind a band on vessel 2, to show what the
- * report then says. Last the step is checked, as one that was pasted from elsewhere would be. */
+ * report then says. Last the step is checked, as one that was pasted from elsewhere would be.
+ *
+ * With -o FILE in front of that word the problem is written to FILE, as the record program reads
+ * it, and the answer is printed as that program prints it, bit for bit: whoever has the file can
+ * run the day again. */
 #include <stdio.h>
+#include <string.h>
 
 #include "gritstrut.h"
 
@@ -48,9 +53,48 @@ static void sides(size_t n, size_t m, const double *factor, const double *gradie
     }
 }
 
+/* Writes the problem's file; the numbers go as their bits. 0 where that is done. */
+static int write_problem(const char *name, size_t m, const double *factor, const double *gradient,
+                         const uint8_t *kinds, const double *values, const double *widths,
+                         const double *jacobian, const double *lower, const double *upper)
+{
+    static uint8_t file[GRITSTRUT_FILE];
+    size_t written = 0;
+    uint32_t variable = 0;
+    uint32_t number = gritstrut_write_problem(
+        METERS, m, (const uint64_t *)factor, METERS * METERS, (const uint64_t *)gradient, METERS, kinds, m,
+        (const uint64_t *)values, m, (const uint64_t *)widths, m, (const uint64_t *)jacobian, m * METERS,
+        (const uint64_t *)lower, METERS, (const uint64_t *)upper, METERS, file, GRITSTRUT_FILE, &written,
+        &variable, w, GRITSTRUT_FLOATS, iw, GRITSTRUT_WORDS);
+    if (number != GRITSTRUT_DONE) {
+        fprintf(stderr, "no file: refused %u\n", (unsigned)number);
+        return 1;
+    }
+    FILE *out = fopen(name, "wb");
+    int failed = out == NULL || fwrite(file, 1, written, out) != written;
+    if (out != NULL && fclose(out) != 0)
+        failed = 1;
+    if (failed)
+        fprintf(stderr, "%s could not be written\n", name);
+    return failed;
+}
+
+/* A value as the record program prints it. */
+static void print_bits(double value)
+{
+    uint64_t bits;
+    memcpy(&bits, &value, sizeof bits);
+    if (value != value)
+        printf("nan\n");
+    else
+        printf("%016llx\n", (unsigned long long)bits);
+}
+
 int main(int argc, char **argv)
 {
-    (void)argv;
+    const char *file = argc > 2 && strcmp(argv[1], "-o") == 0 ? argv[2] : NULL;
+    if (file != NULL)
+        argc -= 2;
     const char *names[METERS] = {"generator A", "generator B", "vessel 1", "vessel 2"};
     const double measured[METERS] = {120.4, 79.1, 131.9, 70.2};
     const double spread[METERS] = {1.0, 1.0, 2.0, 0.5};
@@ -85,10 +129,25 @@ int main(int argc, char **argv)
         for (int i = 0; i < METERS; i++)
             values[j] += coefficients[j * METERS + i] * measured[i];
     }
+    if (file != NULL && write_problem(file, m, factor, gradient, kinds, values, widths, coefficients, lower, upper))
+        return 1;
     uint32_t number = gritstrut_step(METERS, m, factor, METERS * METERS, gradient, METERS, kinds, m,
                                      values, m, widths, m, coefficients, m * METERS, lower, METERS,
                                      upper, METERS, d, METERS, multipliers, m, &relaxation, report,
                                      GRITSTRUT_REPORT, &tally, w, GRITSTRUT_FLOATS, iw, GRITSTRUT_WORDS);
+    if (file != NULL && number == GRITSTRUT_DONE) {
+        printf("ok\nrelaxation ");
+        print_bits(relaxation);
+        for (int i = 0; i < METERS; i++) {
+            printf("d %d ", i);
+            print_bits(d[i]);
+        }
+        for (size_t j = 0; j < m; j++) {
+            printf("m %zu ", j);
+            print_bits(multipliers[j]);
+        }
+        return 0;
+    }
     /* The report is written with 0, 5, 6 and 7: a step can come out although a balance stands twice. */
     int reported = number == GRITSTRUT_DONE || (number >= GRITSTRUT_DEFICIENT && number <= GRITSTRUT_CAPPED);
     if (reported && report[GRITSTRUT_EXACT_NUMBER] == GRITSTRUT_DEPENDENT) {

@@ -14,13 +14,14 @@
  *   for its type and valid for the length passed with it (a length of 0 goes with any pointer that
  *   is not null and is aligned); a slice that is written overlaps no other slice of the call; and
  *   the pointers of single results (rank, rounds, factorings, place, relaxation, tally,
- *   kept_bytes, meters) are distinct and overlap nothing. The processor rounds to nearest and keeps
+ *   kept_bytes, meters, written) are distinct and overlap nothing. The processor rounds to nearest and keeps
  *   subnormal numbers, as a C program begins (some that are linked with -ffast-math do not).
  *   Everything else is taken: any size and length, and any bit pattern as a double, NaN and
  *   infinities too.
  * - w is a workspace of at least GRITSTRUT_FLOATS doubles (64 KiB) and iw one of at least
  *   GRITSTRUT_WORDS uint32_t (2 KiB). What they hold before a call does not matter.
- * - The result is a number of the table below. Tests are made in the order 1, 2, 3, 4, 14, 10, 15.
+ * - The result is a number of the table below. Tests are made in the order 1, 2, 3, 4, 14, 10, 15,
+ *   20, 19.
  *
  *     number                                 outputs      workspaces
  *     0  GRITSTRUT_DONE                      all written  first 8192 and 512 entries zero
@@ -50,18 +51,24 @@
  *     14 GRITSTRUT_WIDTH: a band's width     untouched    untouched
  *        that is NaN, infinite or below
  *        zero
- *     15 GRITSTRUT_BOUND: of the strict step untouched    untouched
- *        a bound that is NaN, a lower one of
- *        +infinity, an upper one of -infinity
+ *     15 GRITSTRUT_BOUND: a bound that is    untouched    untouched
+ *        NaN, a lower one of +infinity, an
+ *        upper one of -infinity (not of the
+ *        step that is not strict)
+ *     19 GRITSTRUT_OUTPUT: an output that is untouched    untouched
+ *        too short for the file
+ *     20 GRITSTRUT_TRIANGLE: a factor entry  untouched    untouched
+ *        above the diagonal whose bits are
+ *        not those of +0
  *
  *   Zero is +0. Untouched means the same bits. (Of an entry that is a NaN it is proved that it
  *   stays a NaN; that its bits stay is compared, not proved: docs/TRUST.md.) Entries of a
  *   workspace past the first 8192 and 512 never change. Inputs never change, except b under
  *   gritstrut_update and gritstrut_packed_update.
  * - Single results are stored through their pointers only where the number is 0; but a place only
- *   where it is 5, 11, 12 or 13, a step's report where it is 0, 5, 6, 7 or 15, and its tally where
+ *   where it is 5, 11, 12 or 13 (and 15, of gritstrut_write_problem), a step's report where it is 0, 5, 6, 7 or 15, and its tally where
  *   it is 0, 5, 6 or 7. Else they are untouched.
- * - A place with 12 and 13 is a meter. With 5 and 11 it says where rank was lost: the index, from 0,
+ * - A place with 12 and 13 is a meter, with 15 a variable. With 5 and 11 it says where rank was lost: the index, from 0,
  *   of the column of the factored matrix that
  *   stands next after those that could be taken. With 11 the columns are the equalities: if one was
  *   entered twice, and the others are independent and in like units, the place is one of the two
@@ -102,6 +109,8 @@ extern "C" {
 #define GRITSTRUT_SPREAD 13
 #define GRITSTRUT_WIDTH 14
 #define GRITSTRUT_BOUND 15
+#define GRITSTRUT_OUTPUT 19
+#define GRITSTRUT_TRIANGLE 20
 
 /* The place of a stage that has none. */
 #define GRITSTRUT_NOWHERE UINT32_MAX
@@ -357,6 +366,30 @@ uint32_t gritstrut_check(size_t n, size_t m, const double *factor, size_t factor
                          const double *upper_multipliers, size_t upper_multipliers_len,
                          double tolerance, uint32_t *verdict, size_t verdict_len,
                          double *w, size_t w_len, uint32_t *iw, size_t iw_len);
+
+/* The longest problem file: 473 records of 16 bytes. */
+#define GRITSTRUT_FILE 7568
+
+/* Writes a problem as the record program's input, so that the step can be run again elsewhere from
+ * the same bits. In: the problem as gritstrut_step takes it, its numbers as their bits (uint64_t; of
+ * an array of doubles (const uint64_t *)factor), so that a NaN's payload is part of the problem and
+ * of the file. The widths of constraints that are no bands are not: they are not read. Out: the
+ * file in the first *written bytes of out, the rest of it untouched; out of GRITSTRUT_FILE bytes is
+ * always long enough. place: the variable with 15. The records stand in the order D, L, G, E or I
+ * with its W directly after it, A, B, T, each by row then column; an entry whose bits are those of
+ * a missing one (1 on the factor's diagonal, +0, -infinity as lower and +infinity as upper bound) is
+ * left out, a constraint's value and a band's width never. The workspaces are not needed for it,
+ * but lent and left as with the step. */
+uint32_t gritstrut_write_problem(size_t n, size_t m, const uint64_t *factor, size_t factor_len,
+                                 const uint64_t *gradient, size_t gradient_len,
+                                 const uint8_t *kinds, size_t kinds_len,
+                                 const uint64_t *values, size_t values_len,
+                                 const uint64_t *widths, size_t widths_len,
+                                 const uint64_t *jacobian, size_t jacobian_len,
+                                 const uint64_t *lower, size_t lower_len,
+                                 const uint64_t *upper, size_t upper_len,
+                                 uint8_t *out, size_t out_len, size_t *written, uint32_t *place,
+                                 double *w, size_t w_len, uint32_t *iw, size_t iw_len);
 
 #ifdef __cplusplus
 }

@@ -8,7 +8,7 @@ use std::path::Path;
 const LIBRARY: &str = "GRITSTRUT_LIBRARY";
 
 /// The C interface's names after `gritstrut_`.
-const NAMES: [&str; 20] = [
+const NAMES: [&str; 21] = [
     "sqrt",
     "sum",
     "norm",
@@ -29,6 +29,7 @@ const NAMES: [&str; 20] = [
     "reconcile",
     "strict_step",
     "check",
+    "write_problem",
 ];
 
 fn main() {

@@ -3,3 +3,4 @@ pub mod One
 pub mod Days
 pub mod Checking
 pub mod Mends
+pub mod Files

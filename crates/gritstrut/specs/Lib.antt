@@ -4,3 +4,4 @@ pub mod Claims
 pub mod Daily
 pub mod Checking
 pub mod Mending
+pub mod Writing

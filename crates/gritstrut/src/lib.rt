@@ -1,6 +1,7 @@
 // The C interface: every public operation, each slice a pointer and a length. include/gritstrut.h declares it.
 mod check;
 mod day;
+pub mod problems;
 pub mod readings;
 mod steps;
 

@@ -1,5 +1,5 @@
 // The public step and the strict step: tests, the kernel in the front of the lent workspaces, and its answer out.
-mod strict;
+pub mod strict;
 
 ghost use mathlib.Core.Path.{_≡_};
 ghost use mathlib.Core.Bool.{_&&_};
@@ -107,7 +107,7 @@ pub fn are_kinds(kinds: &[u8]) -> bool
 }
 
 // A band's width is at least zero and finite, and other constraints have none.
-fn is_width(kind: u8, width: f64) -> bool
+pub fn is_width(kind: u8, width: f64) -> bool
     ensures { λ r. ⌜ r ≡ isWidth (constraintOf kind width) ⌝ }
 {
     if kind < 2 {

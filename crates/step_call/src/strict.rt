@@ -9,7 +9,7 @@ use workspace::Outcome;
 use workspace::Refusal;
 
 // A NaN is less than nothing, so one comparison a side tells.
-fn are_bounds(lower: f64, upper: f64) -> bool
+pub fn are_bounds(lower: f64, upper: f64) -> bool
     ensures { λ r. ⌜ r ≡ (isLower lower && isUpper upper) ⌝ }
 {
     if lower < 1.0 / 0.0 {

@@ -5,6 +5,7 @@ mod linked;
 mod mirror;
 mod programs;
 mod root;
+mod writing;
 
 use arguments::Arguments;
 use linked::{LIBRARY, linked};
@@ -27,6 +28,7 @@ const USAGE: &str = "usage: oracle COMMAND [--OPTION VALUE]...
   mirror      compares B with its mirror   --sequences N --seed N
   packed      compares B's two forms       --sequences N --seed N
   tally       compares steps on one tally  --sequences N --seed N
+  problems    compares problem files       --calls N --seed N
   records     compares record programs     --program FILE --files N --seed N --threads N
   all         calls, and then records      with the options of both
   write-list  writes the stored list       --folder FOLDER --each N --seed N
@@ -56,6 +58,7 @@ fn command(arguments: &Arguments) -> Result<bool, String> {
         "mirror" => mirror::compare(arguments),
         "packed" => mirror::packed(arguments),
         "tally" => tally(arguments),
+        "problems" => writing::compare(arguments),
         "records" => records(arguments),
         "all" => Ok(calls(arguments)? & records(arguments)?),
         "write-list" => write_list(arguments),

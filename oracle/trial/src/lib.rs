@@ -5,6 +5,7 @@ pub mod draw;
 pub mod files;
 pub mod held;
 pub mod kinds;
+pub mod problems;
 pub mod records;
 pub mod replay;
 pub mod run;

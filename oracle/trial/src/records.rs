@@ -220,6 +220,11 @@ fn read(bytes: &[u8], slip: Slip) -> Result<Call, Refusal> {
     problem.whole(slip).ok_or(Refusal::Fault(end))
 }
 
+/// The problem that an input says, if it has no fault.
+pub fn problem(bytes: &[u8]) -> Option<Call> {
+    read(bytes, Slip::None).ok()
+}
+
 /// The sixteen digits of a value, or `nan`.
 fn digits(value: f64, slip: Slip) -> String {
     if value.is_nan() && slip != Slip::NanBits {

@@ -1,0 +1,9 @@
+pub mod Records
+pub mod Writing
+pub mod Entries
+pub mod Rows
+pub mod Files
+pub mod Walks
+pub mod Sections
+pub mod Trip
+pub mod Few

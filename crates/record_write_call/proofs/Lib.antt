@@ -1,0 +1,5 @@
+pub mod Testing
+pub mod Told
+pub mod Passed
+pub mod Answers
+pub mod Shown
