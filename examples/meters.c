@@ -6,7 +6,7 @@
  * The corrections d of the measured flows are the least squares, each weighed by its meter's
  * spread, such that the corrected flows balance and none is below zero. With any word after
  * target/meters the header's balance is entered twice, behind a band on vessel 2, to show what the
- * report then says.
+ * report then says. Last the step is checked, as one that was pasted from elsewhere would be.
  *
  * With -o FILE in front of that word the problem is written to FILE, as the record program reads
  * it, and the answer is printed as that program prints it, bit for bit: whoever has the file can
@@ -28,6 +28,29 @@ static size_t constraint(const uint8_t *kinds, size_t m, uint32_t place)
     while (j < m && (kinds[j] != GRITSTRUT_EQUALITY || place-- != 0))
         j++;
     return j;
+}
+
+/* The multipliers of a step's sides, which the step does not give: what its own leave of the slope
+ * L L'd + gradient - sum of constraint terms, for the side that can take it. */
+static void sides(size_t n, size_t m, const double *factor, const double *gradient,
+                  const double *jacobian, const double *lower, const double *upper, const double *d,
+                  const double *multipliers, double *lowers, double *uppers)
+{
+    double half[16];
+    for (size_t k = 0; k < n; k++) {
+        half[k] = 0.0;
+        for (size_t i = k; i < n; i++)
+            half[k] += factor[i * n + k] * d[i];
+    }
+    for (size_t i = 0; i < n; i++) {
+        double slope = gradient[i];
+        for (size_t k = 0; k <= i; k++)
+            slope += factor[i * n + k] * half[k];
+        for (size_t j = 0; j < m; j++)
+            slope -= jacobian[j * n + i] * multipliers[j];
+        lowers[i] = slope > 0.0 && lower[i] > -1.0 / 0.0 ? slope : 0.0;
+        uppers[i] = slope < 0.0 && upper[i] < 1.0 / 0.0 ? -slope : 0.0;
+    }
 }
 
 /* Writes the problem's file; the numbers go as their bits. 0 where that is done. */
@@ -144,5 +167,25 @@ int main(int argc, char **argv)
         left += coefficients[i] * (measured[i] + d[i]);
     }
     printf("header: %.3f before, %.3f after; multiplier %.6f, relaxation %.3f\n", values[0], left, multipliers[0], relaxation);
+
+    /* The tolerance is a millionth, in flows and in what the tests make of them. */
+    static const char *tests[] = {"yes", "stationarity", "residual", "violation", "sign", "product"};
+    static const char *parts[] = {"variable", "constraint", "ceiling", "lower side", "upper side"};
+    double lowers[METERS], uppers[METERS];
+    uint32_t verdict[GRITSTRUT_VERDICT];
+    sides(METERS, m, factor, gradient, coefficients, lower, upper, d, multipliers, lowers, uppers);
+    number = gritstrut_check(METERS, m, factor, METERS * METERS, gradient, METERS, kinds, m, values, m,
+                             widths, m, coefficients, m * METERS, lower, METERS, upper, METERS, d, METERS,
+                             multipliers, m, lowers, METERS, uppers, METERS, 1e-6, verdict, GRITSTRUT_VERDICT,
+                             w, GRITSTRUT_FLOATS, iw, GRITSTRUT_WORDS);
+    if (number != GRITSTRUT_DONE) {
+        printf("refused %u\n", (unsigned)number);
+        return 1;
+    }
+    if (verdict[GRITSTRUT_TEST] == 0)
+        printf("the check: yes\n");
+    else
+        printf("the check: no, %s of %s %u\n", tests[verdict[GRITSTRUT_TEST]], parts[verdict[GRITSTRUT_PART]],
+               (unsigned)verdict[GRITSTRUT_INDEX]);
     return 0;
 }

@@ -20,7 +20,7 @@
  *   infinities too.
  * - w is a workspace of at least GRITSTRUT_FLOATS doubles (64 KiB) and iw one of at least
  *   GRITSTRUT_WORDS uint32_t (2 KiB). What they hold before a call does not matter.
- * - The result is a number of the table below. Tests are made in the order 1, 2, 3, 4, 14, 15,
+ * - The result is a number of the table below. Tests are made in the order 1, 2, 3, 4, 14, 10, 15,
  *   20, 19.
  *
  *     number                                 outputs      workspaces
@@ -40,6 +40,8 @@
  *        limit of rounds
  *     8  GRITSTRUT_PIVOT: a Cholesky pivot   untouched    first 8192 and 512 entries zero
  *        that is not positive and finite
+ *     10 GRITSTRUT_TOLERANCE: a tolerance    untouched    untouched
+ *        that is NaN or below zero
  *     11 GRITSTRUT_DEPENDENT: the rank of    untouched    first 8192 and 512 entries zero
  *        the equalities too low
  *     12 GRITSTRUT_TOTALISER: a reading over untouched    untouched
@@ -101,6 +103,7 @@ extern "C" {
 #define GRITSTRUT_INFEASIBLE 6
 #define GRITSTRUT_CAPPED 7
 #define GRITSTRUT_PIVOT 8
+#define GRITSTRUT_TOLERANCE 10
 #define GRITSTRUT_DEPENDENT 11
 #define GRITSTRUT_TOTALISER 12
 #define GRITSTRUT_SPREAD 13
@@ -324,6 +327,45 @@ uint32_t gritstrut_strict_step(size_t n, size_t m, const double *factor, size_t 
                                double *relaxation, uint32_t *report, size_t report_len,
                                gritstrut_tally *tally,
                                double *w, size_t w_len, uint32_t *iw, size_t iw_len);
+
+/* The entries of a verdict. */
+enum {
+    GRITSTRUT_TEST,   /* 0: yes; else the first failed test: 1 stationarity, 2 an equality's residual,
+                       * 3 a violation, 4 a multiplier below zero, 5 a product of multiplier and
+                       * margin */
+    GRITSTRUT_PART,   /* what the index counts, as below; 0 with yes */
+    GRITSTRUT_INDEX,  /* the row on which it failed first; 0 with yes */
+    GRITSTRUT_VERDICT /* how many entries a verdict has */
+};
+enum {
+    GRITSTRUT_VARIABLE,   /* a variable's stationarity */
+    GRITSTRUT_CONSTRAINT, /* an equality, a floor, or a band's floor: the constraint's index */
+    GRITSTRUT_CEILING,    /* a band's ceiling: the constraint's index */
+    GRITSTRUT_LOWER,      /* a variable's lower side */
+    GRITSTRUT_UPPER       /* a variable's upper side */
+};
+
+/* Whether a step is plausible, wherever it comes from: five tests, and the first that fails, with
+ * its row. In: the problem as gritstrut_step takes it, but that only the lower triangle of factor is
+ * read; the step d (n); multipliers (m), and those of the lower and the upper sides (n each, not
+ * read where a side is open); and the tolerance, which admits its own value. Out: verdict
+ * (GRITSTRUT_VERDICT entries). docs/RULES.md, "The check", has the tests.
+ * gritstrut_step gives no multipliers of sides: examples/meters.c shows how they follow from its
+ * slopes; or give each bound as a floor, whose multiplier it does give. */
+uint32_t gritstrut_check(size_t n, size_t m, const double *factor, size_t factor_len,
+                         const double *gradient, size_t gradient_len,
+                         const uint8_t *kinds, size_t kinds_len,
+                         const double *values, size_t values_len,
+                         const double *widths, size_t widths_len,
+                         const double *jacobian, size_t jacobian_len,
+                         const double *lower, size_t lower_len,
+                         const double *upper, size_t upper_len,
+                         const double *d, size_t d_len,
+                         const double *multipliers, size_t multipliers_len,
+                         const double *lower_multipliers, size_t lower_multipliers_len,
+                         const double *upper_multipliers, size_t upper_multipliers_len,
+                         double tolerance, uint32_t *verdict, size_t verdict_len,
+                         double *w, size_t w_len, uint32_t *iw, size_t iw_len);
 
 /* The longest problem file: 473 records of 16 bytes. */
 #define GRITSTRUT_FILE 7568

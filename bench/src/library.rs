@@ -56,6 +56,17 @@ unsafe extern "C" {
         relaxation: *mut f64, report: *mut u32, report_len: usize, tally: *mut [u64; 2],
         w: *mut f64, w_len: usize, iw: *mut u32, iw_len: usize,
     ) -> u32;
+    fn gritstrut_check(
+        n: usize, m: usize, factor: *const f64, factor_len: usize,
+        gradient: *const f64, gradient_len: usize, kinds: *const u8, kinds_len: usize,
+        values: *const f64, values_len: usize, widths: *const f64, widths_len: usize,
+        jacobian: *const f64, jacobian_len: usize,
+        lower: *const f64, lower_len: usize, upper: *const f64, upper_len: usize,
+        d: *const f64, d_len: usize, multipliers: *const f64, multipliers_len: usize,
+        lowers: *const f64, lowers_len: usize, uppers: *const f64, uppers_len: usize,
+        tolerance: f64, verdict: *mut u32, verdict_len: usize,
+        w: *mut f64, w_len: usize, iw: *mut u32, iw_len: usize,
+    ) -> u32;
 }
 
 pub fn root(x: f64) -> f64 {
@@ -90,6 +101,32 @@ impl Lent {
             index: vec![0; 66],
             tally: [0; 2],
         }
+    }
+
+    /// The multipliers of a step of so many constraints.
+    pub fn second(&self, m: usize) -> &[f64] {
+        &self.second[..m]
+    }
+
+    /// The verdict on a step.
+    pub fn check(&mut self, p: &Step, d: &[f64], multipliers: &[f64], lowers: &[f64], uppers: &[f64], tolerance: f64) -> [u32; 3] {
+        let (widths, mut verdict) = (&p.values, [0; 3]);
+        #[rustfmt::skip]
+        let number = unsafe {
+            gritstrut_check(
+                p.gradient.len(), p.values.len(), p.factor.as_ptr(), p.factor.len(),
+                p.gradient.as_ptr(), p.gradient.len(), p.kinds.as_ptr(), p.kinds.len(),
+                p.values.as_ptr(), p.values.len(), widths.as_ptr(), widths.len(),
+                p.jacobian.as_ptr(), p.jacobian.len(),
+                p.lower.as_ptr(), p.lower.len(), p.upper.as_ptr(), p.upper.len(),
+                d.as_ptr(), d.len(), multipliers.as_ptr(), multipliers.len(),
+                lowers.as_ptr(), lowers.len(), uppers.as_ptr(), uppers.len(),
+                tolerance, verdict.as_mut_ptr(), verdict.len(),
+                self.w.as_mut_ptr(), 8192, self.iw.as_mut_ptr(), 512,
+            )
+        };
+        assert_eq!(number, 0, "a check");
+        verdict
     }
 
     pub fn step(&mut self, p: &Step) -> u32 {

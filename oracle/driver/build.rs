@@ -8,7 +8,7 @@ use std::path::Path;
 const LIBRARY: &str = "GRITSTRUT_LIBRARY";
 
 /// The C interface's names after `gritstrut_`.
-const NAMES: [&str; 20] = [
+const NAMES: [&str; 21] = [
     "sqrt",
     "sum",
     "norm",
@@ -28,6 +28,7 @@ const NAMES: [&str; 20] = [
     "packed_update",
     "reconcile",
     "strict_step",
+    "check",
     "write_problem",
 ];
 

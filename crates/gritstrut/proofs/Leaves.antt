@@ -195,8 +195,8 @@ bound-written why l r a b ea eb e h = h ∙ rw (← ea, ← eb, e)
 pub bound-left : (why : Refusal) (l : List ℕ) (b : ℕ) → b ≡ placeOf why → eqb b nowhere ≡ true → l ≡ boundEntries why l
 bound-left why l b eb e = rw (← eb, e)
 
--- the call with the report's length among its tests
-reported : (s l r k : Bool) (a : Answer Step) → call s (l && true) r k a ≡ call s l r k a
+-- the call with a further length among its tests, that of the report
+pub reported : {A : Type 0} (s l r k : Bool) (a : Answer A) → call s (l && true) r k a ≡ call s l r k a
 reported s true r k a = refl
 reported true false r k a = refl
 reported false false r k a = refl

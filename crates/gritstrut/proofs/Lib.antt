@@ -1,5 +1,6 @@
 pub mod Leaves
 pub mod One
 pub mod Days
+pub mod Checking
 pub mod Mends
 pub mod Files

@@ -2,5 +2,6 @@
 pub mod Interface
 pub mod Claims
 pub mod Daily
+pub mod Checking
 pub mod Mending
 pub mod Writing

@@ -1,4 +1,5 @@
 // The C interface: every public operation, each slice a pointer and a length. include/gritstrut.h declares it.
+mod check;
 mod day;
 pub mod problems;
 pub mod readings;
@@ -14,6 +15,7 @@ ghost use Rattle.hessian_call.specs.Promise.{identityCall, timesCall, choleskyC
 ghost use Rattle.hessian_packed_call.specs.Promise.{packedIdentityCall, packedTimesCall, packedCholeskyCall, packedUpdateCall};
 ghost use Rattle.workspace.specs.Tables.{outcomeNumber};
 ghost use Rattle.gritstrut.specs.Interface.{QrLeaves, NnlsLeaves, SolveLeaves, placeLeft, PlaceLeaves, WriteLeaves};
+pub use check::gritstrut_check;
 pub use day::gritstrut_reconcile;
 use hessian_call::Hessian;
 use hessian_packed_call::Packed;

@@ -1,5 +1,6 @@
 // Replays the stored calls that standard input holds, and writes a line for each: its operation, its number, and the
 // digest of all that it left. The stored lines are the answers of the Rust.
+mod check;
 mod day;
 mod run;
 mod step;
@@ -57,7 +58,7 @@ fn no_call() -> Call
 // Reads a call of an operation and n bytes and replays it, if it is one.
 fn replay_next(operation: u64, n: usize) -> bool {
     let mut call = no_call();
-    if 18 < operation {
+    if 19 < operation {
         return false;
     }
     if 12288 < n {

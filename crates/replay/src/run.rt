@@ -1,4 +1,5 @@
 // Runs a stored call through the C interface on memory full of junk.
+use crate::check::run_check;
 use crate::day::run_day;
 use crate::step::run_step;
 use libc::STDOUT_FILENO;
@@ -197,6 +198,7 @@ fn run_any(
         12 => run_step(operation, call, values, x, y, w, iw),
         17 => run_day(call, values, x, w, iw),
         18 => run_step(operation, call, values, x, y, w, iw),
+        19 => run_check(call, values, w, iw),
         _ => run_hessian(operation, call, values, x, w, iw),
     }
 }

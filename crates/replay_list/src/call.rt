@@ -87,7 +87,7 @@ pub fn start(call: &Call, i: usize) -> usize
 }
 
 // The floats from one place to another.
-fn between(values: &[f64], from: usize, to: usize) -> &[f64]
+pub fn between(values: &[f64], from: usize, to: usize) -> &[f64]
     requires { ⌜ (from ≤ to) × (to ≤ length (now values)) ⌝ }
 {
     &values[from..to]

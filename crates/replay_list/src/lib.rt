@@ -1,6 +1,7 @@
 // The stored calls: where their parts stand in the list, the memory that they are lent, and the digest of what they left
 // (oracle/README.md, "The stored calls").
 mod call;
+mod check;
 mod day;
 mod digest;
 mod little;
@@ -17,6 +18,10 @@ pub use call::part;
 pub use call::size;
 pub use call::tally;
 pub use call::values_of;
+pub use check::lowers;
+pub use check::multipliers;
+pub use check::tolerance;
+pub use check::uppers;
 pub use day::lent_marks;
 pub use day::mix_named;
 pub use day::readings;

@@ -40,7 +40,7 @@ pub fn are_sizes(n: usize, m: usize) -> bool
 }
 
 // The lengths of the factor, the gradient, the kinds, the values and the Jacobian.
-fn are_lengths(
+pub fn are_lengths(
     n: usize,
     m: usize,
     factor: &[f64],
@@ -68,7 +68,7 @@ fn are_lengths(
 }
 
 // The lengths of the widths and the bounds, and those of the two outputs.
-fn are_other_lengths(
+pub fn are_other_lengths(
     n: usize,
     m: usize,
     widths: &[f64],
@@ -120,7 +120,7 @@ pub fn is_width(kind: u8, width: f64) -> bool
 }
 
 // Those of m constraints.
-fn are_widths(kinds: &[u8], widths: &[f64], m: usize) -> bool
+pub fn are_widths(kinds: &[u8], widths: &[f64], m: usize) -> bool
     requires { ⌜ (length (now kinds) ≡ m) × (length (now widths) ≡ m) ⌝ }
     ensures { λ r. ⌜ r ≡ areWidths (now (kinds .entry)) (now (widths .entry)) m ⌝ }
 {

@@ -90,10 +90,10 @@ pushed-wide o n k v f x s w w′ h l e b =
 
 -- ---- a loop that pushes f 0, f 1, ..
 
-each-suc : (j : ℕ) (f : ℕ → List Row) → each (suc j) f ≡ each j f ++ f j
+pub each-suc : {A : Type 0} (j : ℕ) (f : ℕ → List A) → each (suc j) f ≡ each j f ++ f j
 unfolding each
 each-suc zero f = append-nil (f zero)
-each-suc (suc j) f = ap (λ (t : List Row). f zero ++ t) (each-suc j (λ i. f (suc i))) ∙ sym (append-assoc (f zero) (each j (λ i. f (suc i))) (f (suc j)))
+each-suc {A = A} (suc j) f = ap (λ (t : List A). f zero ++ t) (each-suc j (λ i. f (suc i))) ∙ sym (append-assoc (f zero) (each j (λ i. f (suc i))) (f (suc j)))
 
 pub each-none : (o n k : ℕ) (f : ℕ → List Row) (w : List Float) → Pushed o n k k (each 0 f) w w
 unfolding each

@@ -71,7 +71,7 @@ sidesOf [] = []
 sidesOf (r ∷ rs) = r .side ∷ sidesOf rs
 
 -- f 0, f 1, .., f (n - 1) one after the other
-unfoldable pub each : ℕ → (ℕ → List Row) → List Row
+unfoldable pub each : {A : Type 0} → ℕ → (ℕ → List A) → List A
 each zero f = []
 each (suc n) f = f zero ++ each n (λ i. f (suc i))
 

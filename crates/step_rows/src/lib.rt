@@ -23,7 +23,7 @@ pub enum Side {
 
 impl Side {
     // The side of a raw bound: any nonfinite one is open.
-    fn of(bound: f64) -> Self
+    pub fn of(bound: f64) -> Self
         ensures { λ r. ⌜ r ≡ sideOf bound ⌝ }
     {
         if bound < 1.0 / 0.0 {
@@ -44,7 +44,7 @@ pub enum Constraint {
 
 impl Constraint {
     // The constraint of a raw kind, 0, 1 or 2: only a band takes the width.
-    fn of(kind: u8, width: f64) -> Self
+    pub fn of(kind: u8, width: f64) -> Self
         ensures { λ r. ⌜ r ≡ constraintOf kind width ⌝ }
     {
         if kind == 0 {

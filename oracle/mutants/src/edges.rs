@@ -1,9 +1,10 @@
 //! Slips around the Rust files: in part 1, in the tests, in the round limit, in what is cleared, in
-//! places and reports, in the reading of a day.
+//! places and reports, in the reading of a day and of the check.
 
 use peer::{Library, library};
 use reference::Rust;
 use reference::call::{Call, Edge, Sound, WIDTHS, passes};
+use reference::check::{Slip, TOLERANCE, VERDICT};
 use reference::shape::{Op, REPORT, WORKSPACES};
 use reference::tally::{NOWHERE, Tally};
 
@@ -19,6 +20,14 @@ fn passes_widths(call: &Call, test: u32, kind: u8, good: impl Fn(f64) -> bool) -
     let mut these = call.kinds.iter().zip(widths).filter(|pair| *pair.0 == kind);
     match test {
         14 => (kind == 2 || passes(call, 14)) && these.all(|pair| good(*pair.1)),
+        _ => passes(call, test),
+    }
+}
+
+/// Whether a call passes a test with another test of the tolerance.
+fn passes_tolerance(call: &Call, test: u32, good: impl Fn(f64) -> bool) -> bool {
+    match test {
+        10 if call.op == Op::Check => good(call.inputs[TOLERANCE][0]),
         _ => passes(call, test),
     }
 }
@@ -63,9 +72,9 @@ edges! {
             if above && root > 0.0 && x.is_finite() { root.next_down() } else { root }
         }
     }
-    LengthsFirst "lengths before sizes" { const TESTS: [u32; 6] = [2, 1, 3, 4, 14, 15]; }
-    WorkspacesFirst "workspaces before lengths" { const TESTS: [u32; 6] = [1, 3, 2, 4, 14, 15]; }
-    KindsBefore "kinds before workspaces" { const TESTS: [u32; 6] = [1, 2, 4, 3, 14, 15]; }
+    LengthsFirst "lengths before sizes" { const TESTS: [u32; 7] = [2, 1, 3, 4, 14, 15, 10]; }
+    WorkspacesFirst "workspaces before lengths" { const TESTS: [u32; 7] = [1, 3, 2, 4, 14, 15, 10]; }
+    KindsBefore "kinds before workspaces" { const TESTS: [u32; 7] = [1, 2, 4, 3, 14, 15, 10]; }
     KindThree "kind 3 taken" {
         fn passes(call: &Call, test: u32) -> bool {
             if test == 4 { call.kinds.iter().all(|&kind| kind <= 3) } else { passes(call, test) }
@@ -76,9 +85,9 @@ edges! {
             if test == 4 { call.kinds.iter().all(|&kind| kind <= 1) } else { passes(call, test) }
         }
     }
-    WidthsBeforeKinds "widths before kinds" { const TESTS: [u32; 6] = [1, 2, 3, 14, 4, 15]; }
-    WidthsBeforeRoom "widths before workspaces" { const TESTS: [u32; 6] = [1, 2, 14, 3, 4, 15]; }
-    WidthsBeforeLengths "widths before lengths" { const TESTS: [u32; 6] = [1, 14, 2, 3, 4, 15]; }
+    WidthsBeforeKinds "widths before kinds" { const TESTS: [u32; 7] = [1, 2, 3, 14, 4, 15, 10]; }
+    WidthsBeforeRoom "widths before workspaces" { const TESTS: [u32; 7] = [1, 2, 14, 3, 4, 15, 10]; }
+    WidthsBeforeLengths "widths before lengths" { const TESTS: [u32; 7] = [1, 14, 2, 3, 4, 15, 10]; }
     WidthOfFloor "a width tested for a floor" {
         fn passes(call: &Call, test: u32) -> bool { passes_widths(call, test, 1, |w| w >= 0.0 && w < f64::INFINITY) }
     }
@@ -293,7 +302,7 @@ edges! {
         }
     }
     ReportFirst "the report's length before the sizes" {
-        const TESTS: [u32; 6] = [2, 1, 3, 4, 14, 15];
+        const TESTS: [u32; 7] = [2, 1, 3, 4, 14, 15, 10];
         fn passes(call: &Call, test: u32) -> bool {
             let reported = !call.op.is_step() || call.words == REPORT;
             if test == 2 && !passes(call, 1) { reported } else { passes(call, test) }
@@ -345,8 +354,8 @@ edges! {
     DayCleared "workspaces of a day cleared after 12 and 13" {
         fn clears(number: u32) -> bool { number >= 12 || Sound::clears(number) }
     }
-    BoundsBeforeWidths "bounds before widths" { const TESTS: [u32; 6] = [1, 2, 3, 4, 15, 14]; }
-    BoundsBeforeKinds "bounds before kinds" { const TESTS: [u32; 6] = [1, 2, 3, 15, 4, 14]; }
+    BoundsBeforeWidths "bounds before widths" { const TESTS: [u32; 7] = [1, 2, 3, 4, 15, 14, 10]; }
+    BoundsBeforeKinds "bounds before kinds" { const TESTS: [u32; 7] = [1, 2, 3, 15, 4, 14, 10]; }
     HighestVariable "the highest variable with a wrong bound named" {
         fn variable(wrong: &[usize]) -> usize { wrong[wrong.len() - 1] }
     }
@@ -370,5 +379,59 @@ edges! {
     }
     BoundCleared "cleared after 15" {
         fn clears(number: u32) -> bool { number == 15 || Sound::clears(number) }
+    }
+    CheckUpperColumns "check: whole columns of the factor" { const CHECK: Slip = Slip::UpperColumns; }
+    CheckUpperRows "check: whole rows of the factor" { const CHECK: Slip = Slip::UpperRows; }
+    CheckOwnValueRefused "check: the tolerance's own value refused" { const CHECK: Slip = Slip::OwnValueRefused; }
+    CheckNanPasses "check: a NaN passes" { const CHECK: Slip = Slip::NanPasses; }
+    CheckLastRow "check: the last failed row named" { const CHECK: Slip = Slip::LastRow; }
+    CheckOpenProducts "check: a product of an open side" { const CHECK: Slip = Slip::OpenProducts; }
+    CheckOpenSlopes "check: an open side in stationarity" { const CHECK: Slip = Slip::OpenSlopes; }
+    CheckLenientSigns "check: signs by the tolerance" { const CHECK: Slip = Slip::LenientSigns; }
+    CheckSignedResiduals "check: residuals by value" { const CHECK: Slip = Slip::SignedResiduals; }
+    CheckMagnitudes "check: violations by magnitude" { const CHECK: Slip = Slip::Magnitudes; }
+    CheckSignedProducts "check: products by value" { const CHECK: Slip = Slip::SignedProducts; }
+    CheckEqualitySigns "check: an equality's sign tested" { const CHECK: Slip = Slip::EqualitySigns; }
+    CheckEqualityProducts "check: an equality's product tested" { const CHECK: Slip = Slip::EqualityProducts; }
+    CheckCeilingOfFloor "check: a ceiling's margin w less its floor's" { const CHECK: Slip = Slip::CeilingOfFloor; }
+    CheckWholeMultiplier "check: a band's floor with the whole multiplier" { const CHECK: Slip = Slip::WholeMultiplier; }
+    CheckTurnedMultiplier "check: a band's ceiling with the whole multiplier" { const CHECK: Slip = Slip::TurnedMultiplier; }
+    CheckCeilingUnnamed "check: a ceiling named as its constraint" { const CHECK: Slip = Slip::CeilingUnnamed; }
+    CheckNoCeilings "check: a band as a floor" { const CHECK: Slip = Slip::NoCeilings; }
+    CheckProductsFirst "check: products before signs" { const CHECK: Slip = Slip::ProductsFirst; }
+    CheckSidesFirst "check: sides before constraints" { const CHECK: Slip = Slip::SidesFirst; }
+    CheckUpperFirst "check: upper before lower" { const CHECK: Slip = Slip::UpperFirst; }
+    CheckGradientLast "check: the gradient added last" { const CHECK: Slip = Slip::GradientLast; }
+    CheckUpperMultiplierFirst "check: upper multiplier before lower" { const CHECK: Slip = Slip::UpperMultiplierFirst; }
+    CheckSidesExchanged "check: signs of the sides' multipliers exchanged" { const CHECK: Slip = Slip::SidesExchanged; }
+    CheckBackwards "check: sums right to left" { const CHECK: Slip = Slip::Backwards; }
+    CheckEqualityCounted "check: an equality counted among equalities" { const CHECK: Slip = Slip::EqualityCounted; }
+    CheckTwiceTheTolerance "check: twice the tolerance" { const CHECK: Slip = Slip::TwiceTheTolerance; }
+    CheckNanTolerance "check: a NaN tolerance taken" {
+        fn passes(call: &Call, test: u32) -> bool { passes_tolerance(call, test, |t| !(t < 0.0)) }
+    }
+    CheckNegativeTolerance "check: a tolerance below zero taken" {
+        fn passes(call: &Call, test: u32) -> bool { passes_tolerance(call, test, |t| !t.is_nan()) }
+    }
+    CheckMinusZero "check: a tolerance of -0 refused" {
+        fn passes(call: &Call, test: u32) -> bool {
+            passes_tolerance(call, test, |t| t >= 0.0 && t.is_sign_positive())
+        }
+    }
+    CheckEndless "check: an infinite tolerance refused" {
+        fn passes(call: &Call, test: u32) -> bool {
+            passes_tolerance(call, test, |t| t >= 0.0 && t.is_finite())
+        }
+    }
+    CheckToleranceFirst "check: 10 before 14" { const TESTS: [u32; 7] = [1, 2, 3, 4, 10, 14, 15]; }
+    CheckToleranceBeforeKinds "check: 10 before 4" { const TESTS: [u32; 7] = [1, 2, 3, 10, 4, 14, 15]; }
+    CheckAnyVerdict "check: a verdict of any length taken" {
+        fn passes(call: &Call, test: u32) -> bool {
+            let words = if call.op == Op::Check { VERDICT } else { call.words };
+            passes(&Call { words, ..call.clone() }, test)
+        }
+    }
+    CheckCleared "check: workspaces cleared after 10" {
+        fn clears(number: u32) -> bool { number == 10 || Sound::clears(number) }
     }
 }

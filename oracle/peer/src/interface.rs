@@ -7,8 +7,8 @@ use reference::day;
 use reference::shape::Op;
 
 /// Hands the table of the lent operations to a macro. A row: the operation, its function, its
-/// symbol, its sizes, its slices (pointer, length, role), its single results, the slice that
-/// comes after these, and the tally.
+/// symbol, its sizes, its slices (pointer, length, role), its single results or a value that is
+/// given, the slice that comes after these, and the tally.
 #[macro_export]
 macro_rules! interface {
     ($apply:ident) => {
@@ -53,6 +53,12 @@ macro_rules! interface {
                 (values values_len read) (widths widths_len read) (jacobian jacobian_len read)
                 (lower lower_len read) (upper upper_len read) (d d_len write) (multipliers l_len write)
                 {relaxation real} [report report_len index] <tally>;
+            Check check "gritstrut_check" [n m]
+                (factor factor_len read) (gradient gradient_len read) (kinds kinds_len kind)
+                (values values_len read) (widths widths_len read) (jacobian jacobian_len read)
+                (lower lower_len read) (upper upper_len read) (d d_len read)
+                (multipliers l_len read) (lowers lowers_len read) (uppers uppers_len read)
+                {tolerance given} [verdict verdict_len index];
         }
     };
 }
@@ -69,6 +75,7 @@ macro_rules! pointer {
     (index) => { *mut u32 };
     (count) => { *mut u32 };
     (real) => { *mut f64 };
+    (given) => { f64 };
     (tally) => { *mut [u64; 2] };
 }
 
@@ -91,6 +98,7 @@ pub trait Lender {
     fn index(&mut self) -> (*mut u32, usize);
     fn count(&mut self) -> *mut u32;
     fn real(&mut self) -> *mut f64;
+    fn given(&mut self) -> f64;
     fn tally(&mut self) -> *mut [u64; 2];
     fn workspace(&mut self) -> (*mut f64, usize);
     fn index_workspace(&mut self) -> (*mut u32, usize);
@@ -138,6 +146,9 @@ impl Arguments {
     }
     fn real(&mut self, place: *mut f64) {
         self.value = Some(place);
+    }
+    fn given(&mut self, value: f64) {
+        self.inputs.push(vec![value]);
     }
     fn tally(&mut self, place: *mut [u64; 2]) {
         self.tally = Some(place);

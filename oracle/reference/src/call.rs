@@ -1,5 +1,6 @@
 //! A call of a public operation and the full answer that it is owed.
 
+use crate::check;
 use crate::day;
 use crate::shape::{Lengths, Op, REPORT, WORKSPACES};
 use crate::stand_in::{self, Failure};
@@ -23,8 +24,8 @@ pub struct Call {
     pub kinds: Vec<u8>,
     /// The lengths of the slices of f64 that are written.
     pub outputs: Vec<usize>,
-    /// The length of the slice of u32 that is written: QR's permutation, a step's report; or of u8, a
-    /// day's marks.
+    /// The length of the slice of u32 that is written: QR's permutation, a step's report, a check's
+    /// verdict; or of u8, a day's marks.
     pub words: usize,
     /// The lengths of the workspaces.
     pub work: [usize; 2],
@@ -38,7 +39,7 @@ impl Call {
         Self { op, sizes, inputs, kinds, outputs, words, work: WORKSPACES }
     }
 
-    /// A step's bands: their constraints and widths.
+    /// The bands of a step or a check: their constraints and widths.
     pub fn bands(&self) -> impl Iterator<Item = (usize, f64)> {
         let widths = self.inputs.get(WIDTHS).into_iter().flatten();
         let all = self.kinds.iter().zip(widths).enumerate();
@@ -63,7 +64,7 @@ pub struct Answer {
     /// The slices of f64 that are written; for `update` the matrix afterwards.
     pub outputs: Vec<Vec<f64>>,
     /// The permutation, or the report of a step: exact number and place, relaxed number and place,
-    /// rounds, factorings; or the marks of a day.
+    /// rounds, factorings; the verdict of a check; or the marks of a day.
     pub words: Vec<u32>,
     /// The rank; the rounds and the factorings; the place where rank was lost; or a meter.
     pub counts: Vec<u32>,
@@ -138,7 +139,9 @@ pub struct Solution {
 /// and what a call leaves in the buffers that it is lent.
 pub trait Edge: 'static {
     /// The numbers of the tests before the arithmetic, in their order.
-    const TESTS: [u32; 6] = [1, 2, 3, 4, 14, 15];
+    const TESTS: [u32; 7] = [1, 2, 3, 4, 14, 15, 10];
+    /// How the check is read.
+    const CHECK: check::Slip = check::Slip::None;
     /// How many f64 and u32 of the workspaces are cleared.
     const CLEARED: [usize; 2] = WORKSPACES;
     fn sqrt(x: f64) -> f64 {
@@ -281,6 +284,7 @@ pub fn passes(call: &Call, test: u32) -> bool {
         2 => fits(call),
         3 => call.work[0] >= WORKSPACES[0] && call.work[1] >= WORKSPACES[1],
         4 => call.kinds.iter().all(|&kind| kind <= 2),
+        10 => call.op != Op::Check || check::is_tolerance(call.inputs[check::TOLERANCE][0]),
         14 => call.bands().all(|(_, width)| (0.0..f64::INFINITY).contains(&width)),
         _ => strict::wrong(call, strict::bounded).is_empty(),
     }
@@ -348,6 +352,7 @@ fn arithmetic<K: Kernels, E: Edge>(call: &Call) -> Answer {
             on_square::<K, E>(call)
         }
         Op::Reconcile => reconciled::<K, E>(call),
+        Op::Check => Answer { words: check::verdict(call, E::CHECK), ..Answer::default() },
         Op::Step | Op::StrictStep => {
             let (kinds, rows) = floors::<E>(call);
             match K::step(&kinds, &rows) {

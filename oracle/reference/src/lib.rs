@@ -4,6 +4,7 @@
 extern crate self as reference;
 
 pub mod call;
+pub mod check;
 pub mod day;
 pub mod shape;
 pub mod stand_in;

@@ -1,5 +1,6 @@
 //! The public operations: their sizes, and how long each slice is.
 
+use crate::check::VERDICT;
 use crate::triangle;
 
 /// A public operation.
@@ -24,10 +25,11 @@ pub enum Op {
     PackedUpdate,
     Reconcile,
     StrictStep,
+    Check,
 }
 
 /// Every public operation, in the order of the port.
-pub const OPS: [Op; 19] = [
+pub const OPS: [Op; 20] = [
     Op::Sqrt,
     Op::Sum,
     Op::Norm,
@@ -47,6 +49,7 @@ pub const OPS: [Op; 19] = [
     Op::PackedUpdate,
     Op::Reconcile,
     Op::StrictStep,
+    Op::Check,
 ];
 
 /// How many f64 and u32 the workspaces hold at least.
@@ -58,13 +61,15 @@ pub const REPORT: usize = 6;
 /// The lengths of an operation's slices, each group in the order of the C interface.
 #[derive(Debug, Clone, PartialEq, Eq, Default)]
 pub struct Lengths {
-    /// Slices of f64 that are read, and the readings of a day; the first of `update` is written too.
+    /// Slices of f64 that are read, and the readings of a day; the first of `update` is written too;
+    /// a check's tolerance, a slice of one, is the last.
     pub inputs: Vec<usize>,
     /// Kinds of constraints.
     pub kinds: usize,
     /// Slices of f64 that are written.
     pub outputs: Vec<usize>,
-    /// The slice of u32 that is written: QR's permutation, a step's report; and of u8, a day's marks.
+    /// The slice of u32 that is written: QR's permutation, a step's report, a check's verdict; and of
+    /// u8, a day's marks.
     pub words: usize,
 }
 
@@ -96,6 +101,7 @@ impl Op {
             Op::PackedUpdate => "packed_update",
             Op::Reconcile => "reconcile",
             Op::StrictStep => "strict_step",
+            Op::Check => "check",
         }
     }
 
@@ -125,6 +131,11 @@ impl Op {
         matches!(self, Op::Update | Op::PackedUpdate)
     }
 
+    /// Whether constraints have kinds and widths.
+    pub fn has_kinds(self) -> bool {
+        self.is_step() || self == Op::Check
+    }
+
     /// Whether the operation has sizes, refusals and workspaces: all but part 1.
     pub fn is_lent(self) -> bool {
         !matches!(self, Op::Sqrt | Op::Sum | Op::Norm)
@@ -144,7 +155,7 @@ impl Op {
             Op::PackedIdentity | Op::PackedTimes | Op::PackedCholesky | Op::PackedUpdate => {
                 &[(1, 16)]
             }
-            Op::Step | Op::StrictStep => &[(1, 16), (0, 16)],
+            Op::Step | Op::StrictStep | Op::Check => &[(1, 16), (0, 16)],
             Op::Reconcile => &[(0, 16), (0, 16)],
         }
     }
@@ -189,12 +200,17 @@ impl Op {
                 (vec![n * n, n, m, m, m * n, n, n], vec![n, m])
             }
             Op::Reconcile => (vec![first, first, first, second * first], vec![first]),
+            Op::Check => {
+                let (n, m) = (first, second);
+                (vec![n * n, n, m, m, m * n, n, n, n, m, n, n, 1], vec![])
+            }
         };
-        let kinds = if self.is_step() { second } else { 0 };
+        let kinds = if self.has_kinds() { second } else { 0 };
         let words = match self {
             Op::Qr => second,
             Op::Step | Op::StrictStep => REPORT,
             Op::Reconcile => first,
+            Op::Check => VERDICT,
             _ => 0,
         };
         Lengths { inputs, kinds, outputs, words }

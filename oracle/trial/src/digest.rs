@@ -61,7 +61,7 @@ fn room(which: usize, number: u32, before: u64) -> Vec<u64> {
     words
 }
 
-/// The memory of the permutation, of the report, or of the marks.
+/// The memory of the permutation, of the report, of the verdict, or of the marks.
 fn places(owed: &Answer, mark: u32) -> Vec<u64> {
     let mut words = vec![u64::from(mark); ROOMS[1]];
     for (to, &word) in words.iter_mut().zip(&owed.words) {
@@ -82,7 +82,7 @@ fn tally(stored: &Stored, owed: &Answer) -> [u64; 2] {
 }
 
 /// The single results, the last output and the permutation of QR, the report and kinds of a step,
-/// the marks of a day.
+/// the marks of a day, the verdict and kinds of a check.
 fn mix_own(digest: &mut Digest, stored: &Stored, owed: &Answer) {
     let Stored { call, fill: Fill { output, mark, .. } } = stored;
     let counts = |i: usize| u64::from(owed.counts.get(i).copied().unwrap_or(*mark));
@@ -101,6 +101,11 @@ fn mix_own(digest: &mut Digest, stored: &Stored, owed: &Answer) {
         Op::Step | Op::StrictStep => {
             digest.mix(owed.value.map_or(pattern(f64::from_bits(*output)), pattern));
             digest.mix_all(tally(stored, owed).map(halves).into_iter().flatten());
+            digest.mix_all(places(owed, *mark));
+            digest.mix(call.kinds.len() as u64);
+            digest.mix_all(call.kinds.iter().map(|&kind| u64::from(kind)));
+        }
+        Op::Check => {
             digest.mix_all(places(owed, *mark));
             digest.mix(call.kinds.len() as u64);
             digest.mix_all(call.kinds.iter().map(|&kind| u64::from(kind)));

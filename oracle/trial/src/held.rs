@@ -214,6 +214,10 @@ impl Lender for Buffers {
     fn real(&mut self) -> *mut f64 {
         self.value.pointer().0
     }
+    fn given(&mut self) -> f64 {
+        let next = self.next(1);
+        self.inputs[next].body()[0]
+    }
     fn tally(&mut self) -> *mut [u64; 2] {
         self.tally.pointer().0.cast()
     }
@@ -365,10 +369,14 @@ fn compare_outputs(buffers: &Buffers, op: Op, owed: &Answer, found: &mut Vec<Str
     }
     let reported = !owed.words.is_empty();
     if reported && buffers.words.body() != owed.words {
-        let name = if op.is_step() { "report" } else { "perm" };
+        let name = match op {
+            Op::Step | Op::StrictStep => "report",
+            Op::Check => "verdict",
+            _ => "perm",
+        };
         found.push(format!("{name}: owed {:?}, found {:?}", owed.words, buffers.words.body()));
     }
-    compare_rest("perm or report", &buffers.words, reported, found);
+    compare_rest("perm, report or verdict", &buffers.words, reported, found);
 }
 
 /// The marks of a day: as owed where it is done, else untouched.

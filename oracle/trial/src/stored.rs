@@ -2,6 +2,7 @@
 
 use crate::draw::{Draw, SPECIAL};
 use reference::call::{Answer, Call};
+use reference::check::{LOWERS, MULTIPLIERS};
 use reference::shape::{OPS, Op};
 use reference::tally::NOWHERE;
 
@@ -80,10 +81,16 @@ impl Stored {
         if call.op.is_update() {
             lengths[2] = call.inputs[0].len();
         }
+        if call.op == Op::Check {
+            lengths[2..4].copy_from_slice(&[MULTIPLIERS, LOWERS].map(|at| call.inputs[at].len()));
+        }
         lengths[5] = call.words;
         lengths[6] = call.kinds.len();
         for (to, values) in lengths[BEFORE_INPUTS..].iter_mut().zip(&call.inputs) {
             *to = values.len();
+        }
+        if call.op == Op::Check {
+            lengths[LENGTHS - 1] = call.inputs[MULTIPLIERS..].iter().map(Vec::len).sum();
         }
         lengths
     }
@@ -125,6 +132,9 @@ impl Stored {
         for &len in lengths[BEFORE_INPUTS..].iter().take(count) {
             inputs.push(rest.words(len)?.into_iter().map(f64::from_bits).collect());
         }
+        if op == Op::Check {
+            part(&mut inputs, &lengths)?;
+        }
         let kinds = rest.take(lengths[6])?.to_vec();
         let sizes = sizes[..op.sizes().len()].to_vec();
         let outputs = lengths[2..2 + like.outputs.len()].to_vec();
@@ -132,6 +142,22 @@ impl Stored {
         let call = Call { op, sizes, inputs, kinds, outputs, words, work };
         if rest.0.is_empty() { Ok(Self { call, fill }) } else { Err("a call is too long".into()) }
     }
+}
+
+/// Takes a check's last stored input apart: multipliers of constraints, of lower sides and of upper
+/// sides, and the tolerance.
+fn part(inputs: &mut Vec<Vec<f64>>, lengths: &[usize]) -> Result<(), String> {
+    let mut rest = inputs.pop().ok_or("a check without inputs")?;
+    let tolerance = rest.pop().ok_or("a check without a tolerance")?;
+    for &len in &lengths[2..4] {
+        if len > rest.len() {
+            return Err("a check's multipliers are cut short".into());
+        }
+        let after = rest.split_off(len);
+        inputs.push(std::mem::replace(&mut rest, after));
+    }
+    inputs.extend([rest, vec![tolerance]]);
+    Ok(())
 }
 
 /// Bytes still to be read.

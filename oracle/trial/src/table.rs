@@ -35,6 +35,8 @@ pub enum Aim {
     Stages(u32, u32),
     /// A day in which a meter is named.
     Named,
+    /// A check whose verdict is this test, or yes where it is 0.
+    Verdict(u32),
 }
 
 /// The counts of one kind.
@@ -55,6 +57,8 @@ pub struct Counts {
     pub stages: [[u64; ENDS.len()]; ENDS.len()],
     /// Days in which a meter is named.
     pub named: u64,
+    /// Checks by the test that failed first, 0 where none did.
+    pub verdicts: [u64; 6],
     pub different: u64,
 }
 
@@ -82,6 +86,9 @@ impl Counts {
             self.placed[owed.number as usize] += u64::from(owed.counts.first() > Some(&0));
         }
         self.named += u64::from(op == Op::Reconcile && owed.words.contains(&1));
+        if op == Op::Check && done {
+            self.verdicts[owed.words[0] as usize] += 1;
+        }
         if op.is_step() && !owed.words.is_empty() {
             let [exact, relaxed] = owed.tally.stages;
             self.stages[end(exact.number)][end(relaxed.number)] += 1;
@@ -117,6 +124,9 @@ impl Counts {
         for (mine, theirs) in self.placed.iter_mut().zip(other.placed) {
             *mine += theirs;
         }
+        for (mine, theirs) in self.verdicts.iter_mut().zip(other.verdicts) {
+            *mine += theirs;
+        }
         let stages = self.stages.iter_mut().flatten();
         for (mine, theirs) in stages.zip(other.stages.iter().flatten()) {
             *mine += theirs;
@@ -136,6 +146,7 @@ impl Counts {
             Aim::Ranked => self.ranked,
             Aim::Place(number) => self.placed[number as usize],
             Aim::Named => self.named,
+            Aim::Verdict(test) => self.verdicts[test as usize],
             Aim::Stages(exact, relaxed) => self.stages[end(exact)][end(relaxed)],
         }
     }
@@ -153,6 +164,7 @@ impl Counts {
             n[6],
             n[7],
             n[8],
+            n[10],
             n[11],
             n[12],
             n[13],
@@ -168,13 +180,14 @@ impl Counts {
             self.placed.iter().sum(),
             self.both(),
             self.named,
+            self.verdicts[0],
             self.different,
         ]
     }
 }
 
 /// Columns of the table.
-const COLUMNS: usize = 26;
+const COLUMNS: usize = 28;
 
 const HEADS: [&str; COLUMNS] = [
     "calls",
@@ -187,6 +200,7 @@ const HEADS: [&str; COLUMNS] = [
     "6",
     "7",
     "8",
+    "10",
     "11",
     "12",
     "13",
@@ -202,6 +216,7 @@ const HEADS: [&str; COLUMNS] = [
     "placed",
     "both",
     "named",
+    "yes",
     "differ",
 ];
 

@@ -98,6 +98,10 @@ impl Lender for Memory<'_> {
     fn real(&mut self) -> *mut f64 {
         &mut self.value
     }
+    fn given(&mut self) -> f64 {
+        let next = self.next(1);
+        self.stored.call.inputs[next][0]
+    }
     fn tally(&mut self) -> *mut [u64; 2] {
         &mut self.tally
     }
@@ -139,6 +143,12 @@ fn replay_lent(library: &Library, stored: &Stored, digest: &mut Digest) -> u32 {
             digest.mix(pattern(memory.value));
             let halves = |count: u64| [count >> 32, count & 0xffff_ffff];
             digest.mix_all(memory.tally.into_iter().flat_map(halves));
+            digest.mix_all(longs(&memory.words));
+            let kinds = &stored.call.kinds;
+            digest.mix(kinds.len() as u64);
+            digest.mix_all(kinds.iter().map(|&kind| u64::from(kind)));
+        }
+        Op::Check => {
             digest.mix_all(longs(&memory.words));
             let kinds = &stored.call.kinds;
             digest.mix(kinds.len() as u64);

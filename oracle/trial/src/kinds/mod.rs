@@ -1,5 +1,6 @@
 //! The kinds of calls, by operation.
 
+mod check;
 mod day;
 mod hessian;
 mod lsei;
@@ -94,6 +95,7 @@ fn own(op: Op) -> Vec<Row> {
         Op::PackedUpdate => hessian::UPDATE.to_vec(),
         Op::Reconcile => day::ROWS.to_vec(),
         Op::StrictStep => [&step::ROWS[..], &strict::ROWS].concat(),
+        Op::Check => check::ROWS.to_vec(),
     }
 }
 
@@ -108,6 +110,9 @@ pub fn of(op: Op) -> Vec<Kind> {
     }
     if op == Op::StrictStep {
         rows.extend(strict::BAD);
+    }
+    if op == Op::Check {
+        rows.extend(spoiled::CHECK);
     }
     rows.iter().map(|row| kind(op, row)).collect()
 }

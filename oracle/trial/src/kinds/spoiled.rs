@@ -4,6 +4,7 @@ use super::{Row, Share, own, packed};
 use crate::draw::{Draw, Palette};
 use crate::table::Aim::Number;
 use reference::call::{Call, WIDTHS};
+use reference::check::TOLERANCE;
 use reference::shape::{Op, WORKSPACES};
 
 pub const ROWS: [Row; 5] = [
@@ -31,6 +32,33 @@ pub const STEP: [Row; 5] = [
     ("bad report", Share::Weight(3), &[Number(2)], |op, _, draw| spoilt(op, draw, &[bad_report])),
     ("bad report, more", Share::Weight(3), &[Number(1), Number(2)], |op, _, draw| {
         let other = draw.pick(&[bad_size, bad_workspace, bad_kind, bad_width]);
+        let mut call = spoilt(op, draw, &[other]);
+        bad_report(&mut call, draw);
+        call
+    }),
+];
+
+/// Rows that the check has besides.
+pub const CHECK: [Row; 7] = [
+    ("bad kind", Share::Weight(3), &[Number(4)], |op, _, draw| spoilt(op, draw, &[bad_kind])),
+    ("bad width", Share::Weight(4), &[Number(14)], |op, _, draw| spoilt(op, draw, &[bad_width])),
+    ("bad tolerance", Share::Weight(5), &[Number(10)], |op, _, draw| {
+        spoilt(op, draw, &[bad_tolerance])
+    }),
+    ("bad tolerance, more", Share::Weight(5), &[Number(2), Number(3), Number(4)], |op, _, draw| {
+        let other = draw.pick(&[bad_length, bad_workspace, bad_kind]);
+        let mut call = spoilt(op, draw, &[bad_tolerance]);
+        other(&mut call, draw);
+        call
+    }),
+    ("bad width and tolerance", Share::Weight(4), &[Number(14)], |op, _, draw| {
+        let mut call = spoilt(op, draw, &[bad_width]);
+        bad_tolerance(&mut call, draw);
+        call
+    }),
+    ("bad verdict", Share::Weight(3), &[Number(2)], |op, _, draw| spoilt(op, draw, &[bad_report])),
+    ("bad verdict, more", Share::Weight(3), &[Number(1), Number(2)], |op, _, draw| {
+        let other = draw.pick(&[bad_size, bad_workspace, bad_kind, bad_tolerance]);
         let mut call = spoilt(op, draw, &[other]);
         bad_report(&mut call, draw);
         call
@@ -112,10 +140,12 @@ fn other_length(len: usize, draw: &mut Draw) -> usize {
 
 /// One slice of another length.
 pub fn bad_length(call: &mut Call, draw: &mut Draw) {
-    let (inputs, outputs) = (call.inputs.len(), call.outputs.len());
+    // A check's tolerance is no slice.
+    let slices = call.inputs.len() - usize::from(call.op == Op::Check);
+    let (inputs, outputs) = (slices, call.outputs.len());
     let extra = match call.op {
         Op::Qr | Op::Reconcile => 1,
-        Op::Step | Op::StrictStep => 2,
+        Op::Step | Op::StrictStep | Op::Check => 2,
         _ => 0,
     };
     let at = draw.below(inputs + outputs + extra);
@@ -132,9 +162,10 @@ pub fn bad_length(call: &mut Call, draw: &mut Draw) {
     }
 }
 
-/// A report of another length.
+/// A report or a verdict of another length.
 pub fn bad_report(call: &mut Call, draw: &mut Draw) {
-    call.words = draw.pick(&[5, 7, 0, other_length(call.words, &mut draw.clone())]);
+    let (less, more) = (call.words - 1, call.words + 1);
+    call.words = draw.pick(&[less, more, 0, other_length(call.words, &mut draw.clone())]);
 }
 
 /// One workspace, or both, too short.
@@ -157,10 +188,25 @@ pub fn bad_kind(call: &mut Call, draw: &mut Draw) {
     }
 }
 
+/// A tolerance that is none.
+fn bad_tolerance(call: &mut Call, draw: &mut Draw) {
+    if call.op == Op::Check {
+        call.inputs[TOLERANCE][0] = draw.pick(&[
+            f64::NAN,
+            -f64::NAN,
+            f64::NEG_INFINITY,
+            -1.0,
+            -f64::MIN_POSITIVE,
+            -5e-324,
+            f64::MIN,
+        ]);
+    }
+}
+
 /// A band whose width is none, where there is a constraint.
 pub fn bad_width(call: &mut Call, draw: &mut Draw) {
     let constraints = call.kinds.len().min(call.inputs.get(WIDTHS).map_or(0, Vec::len));
-    if call.op.is_step() && constraints > 0 {
+    if call.op.has_kinds() && constraints > 0 {
         let at = draw.below(constraints);
         call.kinds[at] = 2;
         call.inputs[WIDTHS][at] = draw.pick(&[

@@ -1,0 +1,5 @@
+pub mod First
+pub mod Sloping
+pub mod Rows
+pub mod Shown
+pub mod Lower
