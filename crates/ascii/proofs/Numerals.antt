@@ -2,13 +2,18 @@
 use mathlib.Core.Path.{_≡_, refl, sym, ap, _∙_, subst}
 use mathlib.Core.Logic.{⊎-elim}
 use mathlib.Core.List.{List, [], _∷_, _++_}
-use Prim.Native.Nat.{ℕ, zero, suc, _-_, _*_, _/_, _%_, _^_, _≤_, _<_}
+use Prim.Native.Nat.{ℕ, zero, suc, _+_, _-_, _*_, _/_, _%_, _^_, _≤_, _<_}
 use native.Mathlib.Nat.{pow-succ', one-le-pow, pow-le-pow-right}
 use native.Mathlib.Omega.{arith}
 use borrow.Author.Tests.{lt-ltb, le-ltb}
 use Rattle.io.specs.Digits.{glyph, digits, Fewest}
 use Rattle.numbers.proofs.Cases.{lt-or-ge}
+use lib.ListN.{length, length-append}
 use Rattle.ascii.specs.Text.{decimalFrom, decimalText}
+
+-- a digit's code
+pub glyph-is : (d : ℕ) → d < 10 → glyph d ≡ 48 + d
+glyph-is d h = rw (lt-ltb _ _ h)
 
 -- ---- decimal
 
@@ -51,3 +56,14 @@ decimal-places r k f h =
     ⊎-elim (λ (s : r < 21). omega arith)
     (λ (s : 21 ≤ r). let p : 10 ^ 20 ≤ 10 ^ (r - 1) = pow-le-pow-right {n = 10} (omega arith) {i = 20} {j = r - 1} (omega arith) in let q = f .2 (omega arith) in absurd (omega (arith, p, q)))
     (lt-or-ge r 21)
+
+-- a number below 10 ^ n takes at most n digits
+pub decimal-short : (n k : ℕ) → k < 10 ^ suc n → length (decimalText k) ≤ suc n
+decimal-short zero k h = rw (decimal-one k h) (omega arith)
+decimal-short (suc n) k h =
+    ⊎-elim (λ (s : k < 10). rw (decimal-one k s) (omega arith))
+    (λ (s : 10 ≤ k). let p : 10 ^ suc (suc n) ≡ 10 * 10 ^ suc n = pow-succ' 10 (suc n) in
+    let i = decimal-short n (k / 10) (omega arith) in
+    let a = length-append (decimalText (k / 10)) (glyph (k % 10) ∷ []) in
+    rw (decimal-more k s) (omega arith))
+    (lt-or-ge k 10)

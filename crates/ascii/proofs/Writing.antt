@@ -1,14 +1,18 @@
 -- Text written into a buffer: one byte, one text after another, and a text written piece by piece.
 use mathlib.Core.Path.{_≡_, refl, sym, ap, _∙_}
 use mathlib.Core.List.{List, [], _∷_, _++_}
-use Prim.Native.Nat.{ℕ, suc, _+_, _≤_, _<_}
+use Prim.Native.Nat.{ℕ, suc, _+_, _-_, _≤_, _<_}
 use native.Mathlib.Nat.{add-zero, zero-add, add-assoc}
 use native.Mathlib.Omega.{arith}
-use lib.ListN.{length, take, drop, set, getD, length-append, length-take, drop-of-length-le}
+use lib.ListN.{length, take, drop, set, getD, replicate, length-append, length-take, length-replicate, getD-replicate, drop-of-length-le}
 use lib.Seq.{drop-cons}
 use Rattle.endian.specs.Little.{placed}
-use Rattle.endian.proofs.Placed.{placed-none, placed-cons, placed-then, length-placed}
+use Rattle.endian.proofs.Placed.{placed-none, placed-cons, placed-then, length-placed, take-text}
+use Rattle.ascii.specs.Text.{padded}
 use Rattle.ascii.specs.inner.Work.{Wrote}
+
+pub wrote-none : (o : List ℕ) (at : ℕ) → at ≤ length o → Wrote o at [] o at
+wrote-none o at h = record { until = sym (add-zero at); fits = h; held = sym (placed-none at o) }
 
 pub wrote-one : (o : List ℕ) (at b : ℕ) → at < length o → Wrote o at (b ∷ []) (set o at b) (at + 1)
 wrote-one o at b h =
@@ -35,6 +39,11 @@ wrote-all {b} {t} {a} {r} w =
     let f : 0 + length t ≤ length b = omega (arith, w .until, w .fits) in
     let l : length a ≡ length b = ap length (w .held) ∙ length-placed 0 t b f in
     (omega (arith, w .fits), omega (arith, w .fits, length-take r a))
+
+pub wrote-front : {b t a : List ℕ} {r : ℕ} → Wrote b 0 t a r → take r a ≡ t
+wrote-front {b} {t} {a} {r} w =
+    let f : 0 + length t ≤ length b = omega (arith, w .until, w .fits) in
+    ap (λ (k : ℕ). take k a) (w .until) ∙ ap (take (0 + length t)) (w .held) ∙ take-text 0 t b f
 
 -- ---- `whole` is being written from `at` on: so far up to `to`, and `rest` is still to come
 
@@ -69,3 +78,25 @@ text-more {o} {a} at t i h g w =
 
 pub text-end : {o a : List ℕ} (at : ℕ) (t : List ℕ) (i k : ℕ) → length t ≤ i → i ≡ k → at + k ≤ length o → Writing o at t a (at + i) (drop i t) → Wrote o at t a (at + k)
 text-end at t i k h e l w = rw (← e) (writing-end (omega arith) (rw (drop-of-length-le t h) at w))
+
+-- ---- a row of one byte
+
+pub row-more : {o a : List ℕ} (at n b i : ℕ) → i < n → at + i < length a → Writing o at (replicate n b) a (at + i) (drop i (replicate n b))
+    → Writing o at (replicate n b) (set a (at + i) b) (at + (i + 1)) (drop (i + 1) (replicate n b))
+row-more {o} {a} at n b i h g w =
+    let l : i < length (replicate n b) = omega (arith, length-replicate n b) in
+    let v = text-more at (replicate n b) i l g w in
+    rw (getD-replicate n i b 0 h) at v
+
+pub row-end : {o a : List ℕ} (at n b i : ℕ) → n ≤ i → i ≡ n → at + n ≤ length o → Writing o at (replicate n b) a (at + i) (drop i (replicate n b)) → Wrote o at (replicate n b) a (at + n)
+row-end at n b i h e l w = text-end at (replicate n b) i n (omega (arith, length-replicate n b)) e l w
+
+-- ---- a text with blanks before it
+
+pub wrote-padded : {o b a t : List ℕ} {i j r : ℕ} (width pad : ℕ) → pad ≡ width - length t → Wrote o i (replicate pad 32) b j → Wrote b j t a r → Wrote o i (padded width t) a r
+unfolding padded
+wrote-padded {o} {b} {a} {t} {i} {j} {r} width pad e v w = as-text (ap (λ (k : ℕ). replicate k 32 ++ t) e) (wrote-then v w)
+
+pub length-padded : (width : ℕ) (t : List ℕ) (n : ℕ) → width ≤ n → length t ≤ n → length (padded width t) ≤ n
+unfolding padded
+length-padded width t n h l = let a = length-append (replicate (width - length t) 32) t in let r = length-replicate {A = ℕ} (width - length t) 32 in omega arith

@@ -1,0 +1,4 @@
+pub mod Names
+pub mod Days
+pub mod Whole
+pub mod Verdict

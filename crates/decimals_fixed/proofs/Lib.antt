@@ -1,0 +1,5 @@
+pub mod Rounding
+pub mod Sizes
+pub mod Signs
+pub mod Back
+pub mod Examples

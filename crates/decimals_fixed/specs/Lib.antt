@@ -1,0 +1,4 @@
+-- Numbers with three decimals, as text. Definitions only.
+pub mod Fixed
+pub mod Claims
+pub mod inner
