@@ -12,7 +12,7 @@ use Rattle.workspace.specs.inner.Readings.{vec, stack, nums, Block}
 use Rattle.workspace.proofs.Readings.{at-vec, vec-is, vec-same, mat-same, stack-same, row-stack, nth-front, nums-same}
 use Rattle.householder.specs.Qr.{Factors, factor, image, reflect, forth}
 use Rattle.householder.specs.Claims.{Permutation}
-use Rattle.householder.specs.inner.Work.{held, Placed}
+use Rattle.householder.specs.inner.Work.{held, Kept, Placed}
 use Rattle.householder.proofs.Rank.{factor-rank}
 use Rattle.householder.proofs.Steps.{factors-same}
 use Rattle.householder.proofs.Sound.{factor-sound}
@@ -26,6 +26,10 @@ held-same m n k w w′ iw iw′ m18 f r p =
     (nums-same 0 n iw iw′ (λ t h. p (0 + t) (omega arith)))
     (stack-same 0 (min m n) m w w′ (λ i j hi hj. f (0 + i * 18 + j) (omega arith)))
     (vec-same 324 (min m n) w w′ (λ i hi. f (324 + i) (omega arith)))
+
+-- what stands behind the matrix is free
+pub kept-held : (m n k : ℕ) (w w′ : List Float) (iw : List ℕ) → m ≤ 18 → Kept n w w′ → held m n k w′ iw ≡ held m n k w iw
+kept-held m n k w w′ iw m18 h = held-same m n k w w′ iw iw m18 (λ x l. h x (omega arith)) (λ x l u. h x u) (λ t l. refl)
 
 -- a vector under reflector i of the held factors
 pub reflect-held : (m n k i : ℕ) (w : List Float) (iw : List ℕ) (v : List Float) → i < m → i < n

@@ -182,16 +182,15 @@ rows-replicate (suc c) m a =
 vec-blank : (o n : ℕ) (w : List Float) → ((i : ℕ) → i < n → at w (o + i) ≡ +0) → vec o n w ≡ replicate n +0
 vec-blank o n w h = vec-is o n w (λ _. +0) h ∙ tab-replicate n +0
 
-pub start-is : (m n : ℕ) (w w′ : List Float) (iw : List ℕ) → m ≤ 18 → Block 0 342 (λ _. +0) w w′ → nums 0 n iw ≡ tab n (λ j. j)
-    → held m n 0 w′ iw ≡ start m n (mat 426 m n w)
-start-is m n w w′ iw m18 b e =
-    let c = min m n in
-    let zero-at : (x : ℕ) → x < 342 → at w′ x ≡ +0 = λ x h. ap (λ (y : ℕ). at w′ y) (sym (zero-add x)) ∙ b .inside x h in
+pub start-is : (m n c : ℕ) (w w₁ w₂ : List Float) (iw : List ℕ) → m ≤ 18 → c ≡ min m n → Block 0 (c * 18) (λ _. +0) w w₁ → Block 324 c (λ _. +0) w₁ w₂ → nums 0 n iw ≡ tab n (λ j. j)
+    → held m n 0 w₂ iw ≡ start m n (mat 426 m n w)
+start-is m n c w w₁ w₂ iw m18 ec b₁ b₂ e =
+    let zero-at : (x : ℕ) → x < c * 18 → at w₂ x ≡ +0 = λ x h. b₂ .before x (omega arith) ∙ ap (λ (y : ℕ). at w₁ y) (sym (zero-add x)) ∙ b₁ .inside x h in
     factors-same 0 _ _ _ _ _ _ _ _
-    (mat-same 426 m n w w′ (λ i j hi hj. b .after (426 + j * 18 + i) (omega arith)))
+    (mat-same 426 m n w w₂ (λ i j hi hj. b₂ .after (426 + j * 18 + i) (omega arith) ∙ b₁ .after (426 + j * 18 + i) (omega arith)))
     e
-    (stack-is 0 c m w′ (λ _. replicate m +0) (λ q hq. vec-blank (0 + q * 18) m w′ (λ i hi. zero-at (0 + q * 18 + i) (omega arith))) ∙ rows-replicate c m +0)
-    (vec-blank 324 c w′ (λ i hi. zero-at (324 + i) (omega arith)))
+    (stack-is 0 (min m n) m w₂ (λ _. replicate m +0) (λ q hq. vec-blank (0 + q * 18) m w₂ (λ i hi. zero-at (0 + q * 18 + i) (omega arith))) ∙ rows-replicate (min m n) m +0)
+    (vec-blank 324 (min m n) w₂ (λ i hi. b₂ .inside i (omega arith)))
 
 -- ---- the tolerance
 

@@ -33,6 +33,8 @@ pub const QR_SIDE: usize = QR_B + 18;
 pub const QR_SOLUTION: usize = QR_SIDE + 18;
 // The columns of the matrix, and then of R, 18 places each.
 pub const QR_MATRIX: usize = QR_SOLUTION + 66;
+// The roots that are remembered from one factoring to the next, behind 18 columns, where no more are factored.
+pub const QR_ROOTS: usize = QR_MATRIX + 18 * 18;
 
 // ---- shared by the search for the pivot and the step
 
@@ -196,9 +198,10 @@ pub fn factor_in(w: &mut [f64], iw: &mut [u32], m: usize, n: usize) -> usize
     requires { ⌜ (m ≤ 18) × (n ≤ 66) × (QR_MATRIX + n * 18 ≤ length (now w)) × (n ≤ length (now iw)) ⌝ }
     ensures { λ r. ⌜ held m n r (now (w .exit)) (now (iw .exit)) ≡ factor m n (mat QR_MATRIX m n (now (w .entry))) ⌝ }
 {
-    workspace::blank(w, 0, QR_SIDE);
-    count(iw, n);
     let c = smaller(m, n);
+    workspace::blank(w, 0, c * 18);
+    workspace::blank(w, QR_B, c);
+    count(iw, n);
     let mut tol = 0.0;
     let mut k = 0;
     while k < c {

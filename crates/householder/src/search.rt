@@ -5,14 +5,17 @@ ghost use mathlib.Core.Bool.{true, false};
 ghost use Prim.Native.Nat.{_+_, _-_, _*_, _/_, _^_, _<_, _≤_};
 ghost use lib.Ieee.{le};
 ghost use lib.ListN.{length};
+ghost use Rattle.numbers.specs.Root.{sqrtOf};
 ghost use Rattle.numbers.specs.Rounded.{IsUnits};
 ghost use Rattle.workspace.specs.inner.Readings.{mat};
 ghost use Rattle.householder.specs.Qr.{pivot};
 ghost use Rattle.householder.specs.inner.Search.{shown, weighed, compared, clear, squares, four, SureFour, Judged, JudgedFour, Leads};
+ghost use Rattle.householder.specs.inner.Work.{Kept};
 ghost use Rattle.householder.specs.inner.Places.{QR_MATRIX};
 use crate::Candidate;
 use crate::Four;
 use crate::QR_MATRIX;
+use crate::QR_ROOTS;
 use crate::products_four;
 
 // The best column so far by its sum of squares, where there is one that has a norm; or by its norm, in
@@ -207,10 +210,10 @@ fn pivot_fours(w: &[f64], m: usize, n: usize, k: usize, f: f64) -> Lead
     top
 }
 
-// The column of the largest norm among those from k on, and that norm.
-pub fn pivot(w: &[f64], m: usize, n: usize, k: usize) -> Candidate
+// The lead among the columns from k on.
+fn lead_from(w: &[f64], m: usize, n: usize, k: usize) -> Lead
     requires { ⌜ (m ≤ 18) × (n ≤ 66) × (k < m) × (k < n) × (QR_MATRIX + n * 18 ≤ length (now w)) ⌝ }
-    ensures { λ r. ⌜ r ≡ pivot m n k (mat QR_MATRIX m n (now (w .entry))) (n - k) ⌝ }
+    ensures { λ r. ⌜ shown r ≡ pivot m n k (mat QR_MATRIX m n (now (w .entry))) (n - k) ⌝ }
 {
     let f = norms::Deciding::least(m - k);
     let mut top = pivot_fours(w, m, n, k, f);
@@ -220,5 +223,53 @@ pub fn pivot(w: &[f64], m: usize, n: usize, k: usize) -> Candidate
         let s = numbers::dot_within(w, p, p, m - k);
         top = judge(w, m, n, k, k + t, top, f, s);
     }
-    show(top)
+    top
+}
+
+// The root of x, tried with what is remembered in its place, where there is room for that, and remembered there.
+fn root_in(w: &mut [f64], n: usize, x: f64) -> f64
+    ensures { λ r. ⌜ (r ≡ sqrtOf x) × Kept n (now (w .entry)) (now (w .exit)) ⌝ }
+{
+    if 18 < n {
+        return numbers::sqrt(x);
+    }
+    if w.len() < QR_ROOTS + root_known::ROOT_PLACES {
+        return numbers::sqrt(x);
+    }
+    let o = QR_ROOTS + root_known::place_of(x);
+    let r = root_known::root_of(x, w[o]);
+    w[o] = r;
+    r
+}
+
+// The lead with its norm, whose root may be remembered.
+fn show_in(w: &mut [f64], n: usize, top: Lead) -> Candidate
+    ensures { λ r. ⌜ (r ≡ shown top) × Kept n (now (w .entry)) (now (w .exit)) ⌝ }
+{
+    if top.any {
+        if top.rooted {
+            return Candidate {
+                index: top.index,
+                norm: top.sum,
+            };
+        }
+        let x = root_in(w, n, top.sum);
+        return Candidate {
+            index: top.index,
+            norm: x,
+        };
+    }
+    Candidate {
+        index: top.index,
+        norm: -1.0,
+    }
+}
+
+// The column of the largest norm among those from k on, and that norm.
+pub fn pivot(w: &mut [f64], m: usize, n: usize, k: usize) -> Candidate
+    requires { ⌜ (m ≤ 18) × (n ≤ 66) × (k < m) × (k < n) × (QR_MATRIX + n * 18 ≤ length (now w)) ⌝ }
+    ensures { λ r. ⌜ (r ≡ pivot m n k (mat QR_MATRIX m n (now (w .entry))) (n - k)) × Kept n (now (w .entry)) (now (w .exit)) ⌝ }
+{
+    let top = lead_from(w, m, n, k);
+    show_in(w, n, top)
 }

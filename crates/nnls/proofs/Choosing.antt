@@ -2,6 +2,7 @@
 use mathlib.Core.Path.{_≡_, refl, sym, ap, _∙_, subst}
 use mathlib.Core.Bool.{Bool, true, false, not, cond, _&&_, true≢false}
 use mathlib.Core.List.{List}
+use mathlib.Core.Logic.{_⊎_, ⊎-elim}
 use mathlib.Core.Option.{none, some}
 use Prim.Native.Nat.{ℕ, suc, _+_, _<_}
 use native.Mathlib.Numerals.{add-one}
@@ -39,11 +40,8 @@ module _ (c : Candidate) (j : ℕ) (v : Float) (p rej : ℕ) where
   unfolding betterOf
   wins a b u l = rw (eq-eqb p 0 a, eq-eqb rej 0 b, u, l)
 
-  pub wins-over : p ≡ 0 → rej ≡ 0 → above0 v ≡ true → lt v (c .dual) ≡ false → record { index = j; dual = v; any = true } ≡ betterOf c j v p rej
-  wins-over a b u l = wins a b u (and-false (c .any) (lt v (c .dual)) l)
-
-  pub wins-first : p ≡ 0 → rej ≡ 0 → above0 v ≡ true → c .any ≡ false → record { index = j; dual = v; any = true } ≡ betterOf c j v p rej
-  wins-first a b u l = wins a b u (rw l)
+  pub wins-over : p ≡ 0 → rej ≡ 0 → above0 v ≡ true → (c .any ≡ false) ⊎ (lt v (c .dual) ≡ false) → record { index = j; dual = v; any = true } ≡ betterOf c j v p rej
+  wins-over a b u l = wins a b u (⊎-elim (λ (x : c .any ≡ false). rw x) (λ (y : lt v (c .dual) ≡ false). and-false (c .any) (lt v (c .dual)) y) l)
 
 -- ---- the loop
 

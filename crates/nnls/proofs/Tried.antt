@@ -11,7 +11,7 @@ use lib.Ieee.{Float}
 use Rattle.numbers.specs.Numbers.{at, nth}
 use Rattle.workspace.specs.inner.Readings.{vec, mat, nums}
 use Rattle.workspace.proofs.Readings.{at-vec, nums-set, nums-set-front, nth-front}
-use Rattle.nnls_passive.specs.inner.Work.{PassiveSolved, Dependent}
+use Rattle.nnls_passive.specs.inner.Work.{PassiveSolved}
 use Rattle.nnls.specs.Nnls.{above0, keeps}
 use Rattle.nnls.specs.inner.State.{State, read, put, solveIn}
 use Rattle.nnls.specs.inner.Work.{TriedColumn}
@@ -68,20 +68,3 @@ module _ (m n t : ℕ) (full : Bool) (w w′ : List Float) (l l′ : List ℕ) (
             ∙ ap (λ (q : List ℕ). set q t 1)
             (same-marks n 66 l′ (set l′ t 0) n66 (λ x a b. getD-set-other l′ t x 0 0 (λ q. omega arith)) ∙ ap (λ (s : State). s .rejected) read-tried));
       }
-
--- too many columns with it: it is turned back at once
-pub tried-over : (m n t : ℕ) (w : List Float) (l : List ℕ) → n ≤ 66 → t < n → 264 ≤ length l → Dependent m n (nums 0 n (set l t 1)) → nth l t ≡ 0
-    → TriedColumn m n t false (read m n w l) (read m n w (set (set (set l t 1) t 0) (66 + t) 1))
-tried-over m n t w l n66 tn hl dep e =
-    let marks : nums 0 n (set l t 1) ≡ set (nums 0 n l) t 1 = nums-set-front n t l 1 tn (omega arith) in
-    let same : set (set l t 1) t 0 ≡ l = set-set l t 1 0 ∙ ap (set l t) (sym e) ∙ set-getD l t 0 in
-    let low : solveIn m n (read m n w l) (set (nums 0 n l) t 1) .full ≡ false = ap (λ (p : List ℕ). solveIn m n (read m n w l) p .full) (sym marks) ∙ dep (mat 0 m n w) (vec 1188 m w) in
-    record {
-      judged = sym (ap (λ (b : Bool). b && above0 (at (solveIn m n (read m n w l) (set (nums 0 n l) t 1) .z) t)) low);
-      values = λ e. absurd (true≢false (sym e));
-      after =
-          states refl refl refl refl refl
-          (same-marks n 0 (set (set l t 1) t 0) (set (set (set l t 1) t 0) (66 + t) 1) n66 (λ x a b. getD-set-other (set (set l t 1) t 0) (66 + t) x 1 0 (λ q. omega arith))
-          ∙ ap (nums 0 n) same)
-          (ap (λ (q : List ℕ). nums 66 n (set q (66 + t) 1)) same ∙ nums-set 66 n t l 1 tn (omega arith));
-    }

@@ -3,3 +3,4 @@ pub mod State
 pub mod Work
 pub mod Dual
 pub mod Memory
+pub mod Back

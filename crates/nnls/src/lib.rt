@@ -1,4 +1,5 @@
 // Nonnegative least squares in one part of each workspace.
+mod back;
 mod dual;
 mod memory;
 
@@ -11,6 +12,7 @@ ghost use Rattle.nnls.specs.Nnls as Nnls;
 ghost use Rattle.nnls.specs.inner.State.{read, solveIn, dualIn, Rounded};
 ghost use Rattle.nnls.specs.inner.Work.{betterOf, trialOf, nearerOf, obstacleOf, Moved, TriedColumn, Passed, TurnsTaken};
 ghost use Rattle.nnls_passive.specs.inner.Places.{NNLS_DUAL, NNLS_REJECTED, NNLS_ROOM, NNLS_SIDE, NNLS_WORDS, NNLS_X, NNLS_Z};
+use crate::back::turn_back;
 use crate::dual::write_dual;
 use crate::dual::write_residual;
 use crate::memory::Course;
@@ -31,23 +33,24 @@ pub enum Trial {
     Nothing,
 }
 
-// The candidate after column j, whose dual and marks are given: a tie takes the later.
+// The candidate after column j, whose dual and marks are given: a tie takes the later. Most columns fail the first
+// test, so a processor foresees it.
 fn better(best: Candidate, j: usize, dual: f64, passive: u32, rejected: u32) -> Candidate
     ensures { λ r. ⌜ r ≡ betterOf best j dual passive rejected ⌝ }
 {
+    if best.any {
+        if dual < best.dual {
+            return best;
+        }
+    }
+    if !(dual > 0.0) {
+        return best;
+    }
     if passive != 0 {
         return best;
     }
     if rejected != 0 {
         return best;
-    }
-    if !(dual > 0.0) {
-        return best;
-    }
-    if best.any {
-        if dual < best.dual {
-            return best;
-        }
     }
     Candidate {
         index: j,
@@ -220,12 +223,6 @@ fn try_column(w: &mut [f64], iw: &mut [u32], m: usize, n: usize, t: usize) -> bo
     ensures { λ r. ⌜ TriedColumn m n t r (read m n (now (w .entry)) (now (iw .entry))) (read m n (now (w .exit)) (now (iw .exit))) ⌝ }
 {
     iw[t] = 1;
-    let fits = nnls_passive::fits(iw, m, n);
-    if !fits {
-        iw[t] = 0;
-        iw[nnls_passive::NNLS_REJECTED + t] = 1;
-        return false;
-    }
     let full = nnls_passive::solve_passive(w, iw, m, n);
     if full {
         if w[nnls_passive::NNLS_Z + t] > 0.0 {
@@ -273,7 +270,7 @@ fn try_all(w: &mut [f64], iw: &mut [u32], m: usize, n: usize, f: usize) -> Pass
     }
 }
 
-// One pass: the dual at x, no column rejected, and the tries.
+// One pass: the dual at x, no column rejected, and the tries; where no column has room, all are turned back at once.
 fn one_pass(w: &mut [f64], iw: &mut [u32], m: usize, n: usize, f: usize) -> Pass
     requires { ⌜ (m ≤ 18) × (n ≤ 66) × (NNLS_ROOM ≤ length (now w)) × (NNLS_WORDS ≤ length (now iw)) × (f ≤ 1000000) ⌝ }
     ensures { λ r. ⌜ Passed (Nnls.pass n (dualIn m n (read m n (now (w .entry)) (now (iw .entry)))) (solveIn m n (read m n (now (w .entry)) (now (iw .entry)))) (vec NNLS_X n (now (w .entry))) (nums 0 n (now (iw .entry))) f)
@@ -282,6 +279,14 @@ fn one_pass(w: &mut [f64], iw: &mut [u32], m: usize, n: usize, f: usize) -> Pass
     write_residual(w, m, n);
     write_dual(w, m, n);
     workspace::blank_words(iw, nnls_passive::NNLS_REJECTED, n);
+    let room = nnls_passive::has_room(iw, m, n);
+    if !room {
+        let c = turn_back(w, iw, n);
+        return Pass {
+            kept: false,
+            factorings: f + c,
+        };
+    }
     try_all(w, iw, m, n, f)
 }
 

@@ -6,7 +6,7 @@ ghost use lib.Dec.{eqb};
 ghost use lib.ListN.{length, drop};
 ghost use Rattle.numbers.specs.Numbers.{nth};
 ghost use Rattle.workspace.specs.inner.Readings.{nums};
-ghost use Rattle.nnls_passive.specs.inner.Work.{Dependent, Listed, Collected, PartFactored, SolvedPart, Spread, PassiveSolved};
+ghost use Rattle.nnls_passive.specs.inner.Work.{Crowded, Listed, Collected, PartFactored, SolvedPart, Spread, PassiveSolved};
 ghost use Rattle.nnls_passive.specs.inner.Places.{NNLS_COLUMNS, NNLS_PERM, NNLS_ROOM, NNLS_WORDS};
 
 // ---- where things stand in the part of nonnegative least squares
@@ -62,16 +62,16 @@ fn list_columns(iw: &mut [u32], n: usize) -> usize
     c
 }
 
-// Whether at most m columns are marked; more have no full rank.
-pub fn fits(iw: &[u32], m: usize, n: usize) -> bool
+// Whether the marked columns and one more are at most m; more have no full rank.
+pub fn has_room(iw: &[u32], m: usize, n: usize) -> bool
     requires { ⌜ (n ≤ 66) × (NNLS_WORDS ≤ length (now iw)) ⌝ }
-    ensures { λ r. ⌜ (r ≡ false → Dependent m n (nums 0 n (now (iw .entry)))) ⌝ }
+    ensures { λ r. ⌜ (r ≡ false → Crowded m n (nums 0 n (now (iw .entry)))) ⌝ }
 {
     let mut c = 0;
     for j in 0..n {
         c = c + flag(iw[j]);
     }
-    c <= m
+    c + 1 <= m
 }
 
 // The c listed columns, side by side, to the QR part.

@@ -16,3 +16,7 @@ QR_SOLUTION = QR_SIDE + 18
 -- the columns of the matrix, and then of R, 18 places each
 abbrev pub QR_MATRIX : ℕ
 QR_MATRIX = QR_SOLUTION + 66
+
+-- the roots that are remembered, behind 18 columns
+abbrev pub QR_ROOTS : ℕ
+QR_ROOTS = QR_MATRIX + 18 * 18

@@ -16,6 +16,10 @@ held m n k w iw = record { rank = k; r = mat QR_MATRIX m n w; perm = nums 0 n iw
 
 -- ---- factoring
 
+-- w′ is w as far as the n columns of the matrix: what stands behind them is free
+abbrev pub Kept : (n : ℕ) (w w′ : List Float) → Type 0
+Kept n w w′ = (x : ℕ) → x < QR_MATRIX + n * 18 → at w′ x ≡ at w x
+
 -- w′ is w with the vector at o under reflector k
 pub record Reflected (m k o : ℕ) (w w′ : List Float) : Type 0 where
   pub value : vec o m w′ ≡ image m k (vec (k * 18) m w) (at w (QR_B + k)) (vec o m w)

@@ -3,7 +3,7 @@ use mathlib.Core.Path.{_≡_}
 use mathlib.Core.Bool.{Bool, false}
 use mathlib.Core.List.{List}
 use Prim.Native.Nat.{ℕ, _+_, _*_, _<_, _≤_}
-use lib.ListN.{drop, length}
+use lib.ListN.{drop, length, set}
 use lib.Ieee.{Float}
 use Rattle.numbers.specs.Numbers.{at, nth, scatter}
 use Rattle.workspace.specs.inner.Readings.{vec, mat, nums}
@@ -51,3 +51,7 @@ pub record PassiveSolved (m n : ℕ) (full : Bool) (w w′ : List Float) (l l′
 -- whatever A and b are, the marked columns have no full rank
 abbrev pub Dependent : (m n : ℕ) → List ℕ → Type 0
 Dependent m n p = (a b : List Float) → (solveOf m n a b p) .full ≡ false
+
+-- with any column more they have none
+abbrev pub Crowded : (m n : ℕ) → List ℕ → Type 0
+Crowded m n p = (t : ℕ) → t < n → nth p t ≡ 0 → Dependent m n (set p t 1)

@@ -1,16 +1,16 @@
--- `fits`: after j turns the marked of the first j columns are counted.
+-- `has_room`: after j turns the marked of the first j columns are counted.
 use mathlib.Core.Path.{_≡_}
 use mathlib.Core.Bool.{false}
-use Prim.Native.Nat.{_-_, _≤_}
+use Prim.Native.Nat.{_+_, _-_, _≤_}
 use native.Mathlib.Omega.{arith}
 use lib.ListN.{length}
 use lib.Dec.{leb}
 use borrow.Author.Tests.{leb-false}
 use borrow.Author.Needs.{needs}
 use Rattle.nnls_passive.specs.Passive.{members}
-use Rattle.nnls_passive.proofs.Many.{counted-more, too-many, none-yet}
-use Rattle.nnls_passive.proofs.fits.Statement.{statement}
-use Rattle.nnls_passive.proofs.fits.Tie as tie
+use Rattle.nnls_passive.proofs.Many.{counted-more, crowded, none-yet}
+use Rattle.nnls_passive.proofs.has_room.Statement.{statement}
+use Rattle.nnls_passive.proofs.has_room.Tie as tie
 
 abbrev Inv-loop : tie.InvT-loop
 Inv-loop iw m n c₀ j₀ c j = (j ≤ n) × (c ≤ j) × (c ≡ length (members iw j))
@@ -44,15 +44,18 @@ loop-again c =
     let l = c .before .before .before .loop in
     (omega arith, omega arith, counted-more (c .before .before .before .before .before .args .iw .now) (l .j) (l .c) _ (c .flag .ensures .0) (l .inv .2))
 
+add-result : tie.Need-add-result Inv-loop μ-loop
+add-result c = omega arith
+
 returns : tie.Need-returns Inv-loop μ-loop
 returns c =
     let l = c .before .loop in
     let a = c .before .before .before .args in
     let e : l .j ≡ a .n = omega arith in
-    λ (h : leb (l .c) (a .m) ≡ false). too-many (a .m) (a .n) (a .iw .now) (rw (← e) (omega (arith, l .inv .2, leb-false (l .c) (a .m) h)))
+    λ (h : leb (l .c + 1) (a .m) ≡ false). crowded (a .m) (a .n) (a .iw .now) (omega arith) (rw (← e) (omega (arith, l .inv .2, leb-false (l .c + 1) (a .m) h)))
 
-pub fits-spec : {M : Type 1} → statement M
-fits-spec =
+pub has-room-spec : {M : Type 1} → statement M
+has-room-spec =
     tie.close
     (tie.spec
     Inv-loop
@@ -65,4 +68,5 @@ fits-spec =
     add-j
     loop-less
     loop-again
+    add-result
     returns)

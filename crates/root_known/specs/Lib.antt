@@ -1,0 +1,2 @@
+-- Where roots are remembered. What a root is, is the crate `numbers`'. Definitions only.
+pub mod inner
