@@ -12,9 +12,21 @@ fn given(name: &str) -> String {
     env::var(name).unwrap_or_else(|_| panic!("set {name}: see bench/README.md"))
 }
 
+/// The search's loop, with its own copy of what stands below it.
+const LOOP: [(&str, &str); 3] =
+    [("looped", "slsqp/mod.rs"), ("finite_difference", "finite_difference.rs"), ("problem", "problem.rs")];
+
 /// The Rust files as modules.
 fn tree(folder: &Path) -> String {
-    let mut tree = String::from("mod objective { pub use reference::stand_in::ConstraintKind; }\n");
+    let mut tree = String::new();
+    for (name, what) in gather::STAND_INS {
+        tree += &format!("#[allow(unused_imports)]\nmod {name} {{ pub use reference::{{{what}}}; }}\n");
+    }
+    for (name, file) in LOOP {
+        let path = folder.join(file);
+        println!("cargo::rerun-if-changed={}", path.display());
+        tree += &format!("#[allow(dead_code)]\n#[path = {path:?}]\nmod {name};\n");
+    }
     for (parent, names) in FILES {
         tree += &format!("#[allow(dead_code, unused_imports)]\nmod {parent} {{\n");
         tree += "pub(crate) use reference::stand_in::{Failure, MatRef, norm};\n";

@@ -21,7 +21,7 @@
  * - w is a workspace of at least GRITSTRUT_FLOATS doubles (64 KiB) and iw one of at least
  *   GRITSTRUT_WORDS uint32_t (2 KiB). What they hold before a call does not matter.
  * - The result is a number of the table below. Tests are made in the order 1, 2, 3, 4, 14, 10, 15,
- *   20, 19.
+ *   16, 18, 20, 19.
  *
  *     number                                 outputs      workspaces
  *     0  GRITSTRUT_DONE                      all written  first 8192 and 512 entries zero
@@ -55,6 +55,12 @@
  *        NaN, a lower one of +infinity, an
  *        upper one of -infinity (not of the
  *        step that is not strict)
+ *     16 GRITSTRUT_CROSSED: a lower bound    untouched    untouched
+ *        above its upper one (of a search)
+ *     17 GRITSTRUT_NONFINITE: a number that  the machine  first 8192 and 512 entries zero
+ *        is not finite has ended a search    written
+ *     18 GRITSTRUT_UNASKED: a search is told untouched    untouched
+ *        an answer where no question stands
  *     19 GRITSTRUT_OUTPUT: an output that is untouched    untouched
  *        too short for the file
  *     20 GRITSTRUT_TRIANGLE: a factor entry  untouched    untouched
@@ -66,8 +72,9 @@
  *   workspace past the first 8192 and 512 never change. Inputs never change, except b under
  *   gritstrut_update and gritstrut_packed_update.
  * - Single results are stored through their pointers only where the number is 0; but a place only
- *   where it is 5, 11, 12 or 13 (and 15, of gritstrut_write_problem), a step's report where it is 0, 5, 6, 7 or 15, and its tally where
- *   it is 0, 5, 6 or 7. Else they are untouched.
+ *   where it is 5, 11, 12 or 13 (and 15, of gritstrut_write_problem and gritstrut_search_begin), a
+ *   step's report where it is 0, 5, 6, 7 or 15, and its tally where it is 0, 5, 6 or 7. Else they
+ *   are untouched.
  * - A place with 12 and 13 is a meter, with 15 a variable. With 5 and 11 it says where rank was lost: the index, from 0,
  *   of the column of the factored matrix that
  *   stands next after those that could be taken. With 11 the columns are the equalities: if one was
@@ -109,6 +116,9 @@ extern "C" {
 #define GRITSTRUT_SPREAD 13
 #define GRITSTRUT_WIDTH 14
 #define GRITSTRUT_BOUND 15
+#define GRITSTRUT_CROSSED 16
+#define GRITSTRUT_NONFINITE 17
+#define GRITSTRUT_UNASKED 18
 #define GRITSTRUT_OUTPUT 19
 #define GRITSTRUT_TRIANGLE 20
 
@@ -390,6 +400,62 @@ uint32_t gritstrut_write_problem(size_t n, size_t m, const uint64_t *factor, siz
                                  const uint64_t *upper, size_t upper_len,
                                  uint8_t *out, size_t out_len, size_t *written, uint32_t *place,
                                  double *w, size_t w_len, uint32_t *iw, size_t iw_len);
+
+/* The search: the whole iteration around the step, as a machine that asks and is told. It keeps all
+ * that it knows in two slices of the caller's, machine and words, and nothing else: they may be
+ * stored, copied and gone on with elsewhere. docs/RULES.md, "The search", has its rules. */
+#define GRITSTRUT_SEARCH_MACHINE 1024 /* the length of machine, in doubles */
+#define GRITSTRUT_SEARCH_WORDS 32     /* the length of words, in uint32_t */
+#define GRITSTRUT_SEARCH_BUDGET 10000 /* the most objective values that a run may cost */
+
+/* Where in machine stand: x, the last accepted point (n); the multipliers of the last step (m); the
+ * values at x (1 + m, the objective first); and, while a question stands, the point that it asks
+ * about (n). */
+#define GRITSTRUT_SEARCH_X 48
+#define GRITSTRUT_SEARCH_MULTIPLIERS 96
+#define GRITSTRUT_SEARCH_VALUES 128
+#define GRITSTRUT_SEARCH_POINT 976
+
+/* What words[0] says: the question that stands, or how the run has ended. 0 is no machine. Values
+ * are 1 + m numbers, the objective and then each constraint; slopes are 1 + m rows of n, the
+ * gradient first; one value is that of function words[9] - words[5], 0 being the objective and
+ * 1 + j constraint j. */
+enum {
+    GRITSTRUT_SEARCH_START = 1, /* all values at the start */
+    GRITSTRUT_SEARCH_TRIAL,     /* all values at a trial point */
+    GRITSTRUT_SEARCH_SLOPES,    /* all slopes */
+    GRITSTRUT_SEARCH_RAISED,    /* one value, a coordinate raised */
+    GRITSTRUT_SEARCH_LOWERED,   /* one value, a coordinate lowered */
+    GRITSTRUT_SEARCH_CONVERGED, /* ended: within ftol */
+    GRITSTRUT_SEARCH_INFEASIBLE, /* ended: no step, or one that relaxes all */
+    GRITSTRUT_SEARCH_EXHAUSTED, /* ended: an objective value is due, and none is left */
+    GRITSTRUT_SEARCH_NONFINITE  /* ended: a number that is not finite */
+};
+
+/* Begins a search of n variables, from 1 to 16, and m constraints, from 0 to 16. In: kinds (m; 0 an
+ * equality, 1 a floor: there are no bands), lower and upper (n each; -infinity and +infinity are
+ * open), the start x (n), ftol, the budget, from 0 to GRITSTRUT_SEARCH_BUDGET, and the scheme: 0,
+ * slopes are told. Out: machine and words, whole: what they held before does not matter. After 1 to 4
+ * comes 10 for ftol, then 15 with the lowest variable in place, then 16. With 17 the start is not
+ * finite: the machine is written, and its run is over. With 0 look at words[0]. */
+uint32_t gritstrut_search_begin(size_t n, size_t m, const uint8_t *kinds, size_t kinds_len,
+                                const double *lower, size_t lower_len,
+                                const double *upper, size_t upper_len,
+                                const double *x, size_t x_len,
+                                double ftol, uint32_t budget, uint32_t scheme,
+                                double *machine, size_t machine_len,
+                                uint32_t *words, size_t words_len, uint32_t *place,
+                                double *w, size_t w_len, uint32_t *iw, size_t iw_len);
+
+/* Tells a search the answer to its question, and it goes on to the next one, or ends. In: told, as
+ * many numbers as the question wants. In and out: machine and words. 2 is also for an answer of
+ * another length; 18 where no question stands, because the run has ended or words are no machine,
+ * as also where a word that another hand wrote is out of its range. With 17 a number is not finite:
+ * the machine is written, and its run is over. With 0 look at words[0]. */
+uint32_t gritstrut_search_tell(const double *told, size_t told_len,
+                               double *machine, size_t machine_len,
+                               uint32_t *words, size_t words_len,
+                               double *w, size_t w_len, uint32_t *iw, size_t iw_len);
 
 #ifdef __cplusplus
 }

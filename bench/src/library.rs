@@ -1,6 +1,6 @@
 //! The library, through its C interface, in workspaces that are lent again and again.
 
-use crate::problems::{Matrix, Step};
+use crate::problems::{Matrix, Step, Valves};
 
 #[rustfmt::skip]
 unsafe extern "C" {
@@ -67,7 +67,22 @@ unsafe extern "C" {
         tolerance: f64, verdict: *mut u32, verdict_len: usize,
         w: *mut f64, w_len: usize, iw: *mut u32, iw_len: usize,
     ) -> u32;
+    fn gritstrut_search_begin(
+        n: usize, m: usize, kinds: *const u8, kinds_len: usize,
+        lower: *const f64, lower_len: usize, upper: *const f64, upper_len: usize,
+        x: *const f64, x_len: usize, ftol: f64, budget: u32, scheme: u32,
+        machine: *mut f64, machine_len: usize, words: *mut u32, words_len: usize, place: *mut u32,
+        w: *mut f64, w_len: usize, iw: *mut u32, iw_len: usize,
+    ) -> u32;
+    fn gritstrut_search_tell(
+        told: *const f64, told_len: usize, machine: *mut f64, machine_len: usize,
+        words: *mut u32, words_len: usize, w: *mut f64, w_len: usize, iw: *mut u32, iw_len: usize,
+    ) -> u32;
 }
+
+/// The tolerance and the budget of a search.
+pub const FTOL: f64 = 1e-9;
+pub const BUDGET: u32 = 2_000;
 
 pub fn root(x: f64) -> f64 {
     unsafe { gritstrut_sqrt(x) }
@@ -227,6 +242,76 @@ impl Approximation {
         unsafe {
             call(self.n, self.b.as_mut_ptr(), self.b.len(), s.as_ptr(), s.len(), y.as_ptr(), y.len(),
                 self.w.as_mut_ptr(), 8192, self.iw.as_mut_ptr(), 512)
+        }
+    }
+}
+
+/// A search's machine, and what its calls are lent.
+pub struct Machine {
+    floats: Vec<f64>,
+    words: Vec<u32>,
+    told: Vec<f64>,
+    w: Vec<f64>,
+    iw: Vec<u32>,
+}
+
+impl Machine {
+    pub fn new() -> Self {
+        Machine { floats: vec![0.0; 1024], words: vec![0; 32], told: vec![], w: vec![0.0; 8192], iw: vec![0; 512] }
+    }
+
+    /// A whole search: how many numbers it was told.
+    pub fn search(&mut self, p: &Valves, scheme: u32) -> usize {
+        let (mut number, mut count) = (self.begin(p, scheme), 0);
+        while number == 0 && self.words[0] < 6 {
+            self.answer(p);
+            count += self.told.len();
+            number = self.tell();
+        }
+        count
+    }
+
+    /// The openings at the end.
+    pub fn openings(&self, n: usize) -> &[f64] {
+        &self.floats[48..48 + n]
+    }
+
+    #[rustfmt::skip]
+    fn begin(&mut self, p: &Valves, scheme: u32) -> u32 {
+        let ((n, m), mut place) = (p.sizes(), 0);
+        let kinds: [u8; 16] = std::array::from_fn(|j| u8::from(j > 0));
+        let (lower, upper) = ([0.0; 16], [1.0; 16]);
+        unsafe {
+            gritstrut_search_begin(
+                n, m, kinds.as_ptr(), m, lower.as_ptr(), n, upper.as_ptr(), n,
+                p.set_points.as_ptr(), n, FTOL, BUDGET, scheme,
+                self.floats.as_mut_ptr(), 1024, self.words.as_mut_ptr(), 32, &mut place,
+                self.w.as_mut_ptr(), 8192, self.iw.as_mut_ptr(), 512,
+            )
+        }
+    }
+
+    /// Answers the question that stands.
+    fn answer(&mut self, p: &Valves) {
+        let (n, m) = p.sizes();
+        let x = &self.floats[976..976 + n];
+        self.told.clear();
+        match self.words[0] {
+            1 | 2 => self.told.extend((0..=m).map(|function| p.value(function, x))),
+            3 => (0..=m).for_each(|function| {
+                self.told.extend((0..n).map(|variable| p.slope(function, variable, x)));
+            }),
+            _ => self.told.push(p.value(m - self.words[5] as usize, x)),
+        }
+    }
+
+    #[rustfmt::skip]
+    fn tell(&mut self) -> u32 {
+        unsafe {
+            gritstrut_search_tell(
+                self.told.as_ptr(), self.told.len(), self.floats.as_mut_ptr(), 1024,
+                self.words.as_mut_ptr(), 32, self.w.as_mut_ptr(), 8192, self.iw.as_mut_ptr(), 512,
+            )
         }
     }
 }

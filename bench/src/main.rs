@@ -4,6 +4,7 @@
 //!     bench growth               the same for steps with 0 to 16 active rows
 //!     bench forms                B as its lower triangle beside the square, both ours
 //!     bench scan                 what a factoring of a step takes, and the most that its sizes allow
+//!     bench search               whole searches, our machine beside the Rust's loop
 //!     bench accuracy             error and violation of steps whose bounds are far away, and the check
 //!     bench names [growth]       each set, a side that does it and the number of calls
 //!     bench count SET WHO N      one side goes through one set N times, for an instruction count
@@ -126,6 +127,7 @@ fn main() {
         ["growth"] => table(sets::growth()),
         ["forms"] => forms(sets::forms()),
         ["scan"] => scan(sets::all()),
+        ["search"] => table(sets::whole()),
         ["accuracy"] => accuracy::table(),
         ["names"] => names(sets::all()),
         ["names", "growth"] => names(sets::growth()),

@@ -21,6 +21,41 @@ pub struct Matrix {
     pub b: Vec<f64>,
 }
 
+/// Valves that meet demands with openings from 0 to 1, nearest to their set points. A valve passes
+/// its size times the square of its opening; a demand is of some valves' flows together, the first an
+/// equality and the others floors.
+#[derive(Clone)]
+pub struct Valves {
+    pub sizes: Vec<f64>,
+    pub set_points: Vec<f64>,
+    pub shares: Vec<Vec<f64>>,
+    pub demands: Vec<f64>,
+}
+
+impl Valves {
+    pub fn sizes(&self) -> (usize, usize) {
+        (self.sizes.len(), self.demands.len())
+    }
+
+    /// Function 0 is the objective, 1 + j demand j.
+    pub fn value(&self, function: usize, x: &[f64]) -> f64 {
+        if function == 0 {
+            return x.iter().zip(&self.set_points).map(|(x, set)| (x - set) * (x - set)).sum();
+        }
+        let shares = &self.shares[function - 1];
+        let flows = shares.iter().zip(&self.sizes).zip(x).map(|((share, size), x)| share * size * x * x);
+        flows.sum::<f64>() - self.demands[function - 1]
+    }
+
+    pub fn slope(&self, function: usize, variable: usize, x: &[f64]) -> f64 {
+        let x = x[variable];
+        match function {
+            0 => 2.0 * (x - self.set_points[variable]),
+            _ => 2.0 * self.shares[function - 1][variable] * self.sizes[variable] * x,
+        }
+    }
+}
+
 #[derive(Clone, Copy, PartialEq)]
 pub enum Bounds {
     None,
@@ -239,4 +274,19 @@ pub fn numbers(count: usize) -> Vec<f64> {
     (0..count)
         .map(|_| (1.0 + drawn.share()) * 2f64.powi((drawn.bits() % 201) as i32 - 100))
         .collect()
+}
+
+/// Valves whose demands can be met, though not at their set points.
+pub fn valves(count: usize, n: usize, m: usize) -> Vec<Valves> {
+    let mut drawn = Drawn(0x5eed_0012 + (64 * n + m) as u64);
+    let one = |drawn: &mut Drawn| {
+        let sizes: Vec<f64> = (0..n).map(|_| 1.0 + drawn.share()).collect();
+        let met: Vec<f64> = (0..n).map(|_| 0.3 + 0.5 * drawn.share()).collect();
+        let shares: Vec<Vec<f64>> = (0..m).map(|_| (0..n).map(|_| drawn.share()).collect()).collect();
+        let set_points = met.iter().map(|x| x - 0.2 * drawn.share()).collect();
+        let mut valves = Valves { sizes, set_points, shares, demands: vec![0.0; m] };
+        valves.demands = (1..=m).map(|function| valves.value(function, &met)).collect();
+        valves
+    };
+    (0..count).map(|_| one(&mut drawn)).collect()
 }

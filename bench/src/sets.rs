@@ -1,6 +1,6 @@
 //! The sets of inputs, and how each side goes through one.
 
-use crate::problems::{Bounds, Matrix, Step};
+use crate::problems::{Bounds, Matrix, Step, Valves};
 use crate::{library, problems, rust};
 use std::hint::black_box;
 
@@ -142,6 +142,22 @@ fn norms(problems: Vec<Matrix>) -> Set {
     )
 }
 
+/// Whole searches, our machine beside the Rust's loop: both must be told as many numbers, and end at
+/// the same bits.
+fn searches(problems: Vec<Valves>, scheme: u32) -> Set {
+    let mut machine = library::Machine::new();
+    for p in &problems {
+        let (count, (x, theirs)) = (machine.search(p, scheme), rust::search(p, scheme));
+        assert!(count == theirs && same_bits(&x, machine.openings(x.len())), "another search than the Rust's");
+    }
+    let theirs = problems.clone();
+    pair(
+        problems.len(),
+        move || problems.iter().map(|p| machine.search(p, scheme)).sum(),
+        move || theirs.iter().map(|p| rust::search(p, scheme).1).sum(),
+    )
+}
+
 /// A set that is made when it is asked for.
 pub struct Planned {
     pub name: String,
@@ -178,6 +194,13 @@ pub fn growth() -> Vec<Planned> {
     (0..=16)
         .map(|rows| planned(format!("{rows} active"), move || steps(problems::active(40, rows))))
         .collect()
+}
+
+/// Searches of several sizes, with slopes that are told.
+pub fn whole() -> Vec<Planned> {
+    let sizes = [(3, 3), (8, 4), (16, 8), (16, 16)];
+    let of = |(n, m)| planned(format!("search {n}/{m}"), move || searches(problems::valves(20, n, m), 0));
+    sizes.into_iter().map(of).collect()
 }
 
 /// One operation on B in each form, packed first, over the same steps and changes of gradient.

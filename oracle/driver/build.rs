@@ -8,7 +8,7 @@ use std::path::Path;
 const LIBRARY: &str = "GRITSTRUT_LIBRARY";
 
 /// The C interface's names after `gritstrut_`.
-const NAMES: [&str; 21] = [
+const NAMES: [&str; 23] = [
     "sqrt",
     "sum",
     "norm",
@@ -30,6 +30,8 @@ const NAMES: [&str; 21] = [
     "strict_step",
     "check",
     "write_problem",
+    "search_begin",
+    "search_tell",
 ];
 
 fn main() {

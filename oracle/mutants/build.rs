@@ -13,15 +13,15 @@ fn main() {
     let out = gather::out();
     let (mut modules, mut list) = (String::new(), String::new());
     for (index, slip) in SLIPS.iter().enumerate() {
-        let mut copies = sources.clone();
-        for source in copies.iter_mut().filter(|source| source.name == slip.file) {
-            source.text = slipped(slip.name, slip.changes, &source.text);
-        }
         let name = format!("slip_{index}");
-        let at = format!("crate::{name}");
-        let tree = gather::tree(&copies, &out.join(&name), &at, gather::NORM);
-        writeln!(modules, "#[allow(warnings)]\nmod {name} {{\n{tree}}}").expect("a module");
+        modules += &copy(&sources, slip, &name);
         writeln!(list, "    peer::library::<{name}::kernels::Rust, Sound>(),").expect("a line");
+    }
+    let mut searches = String::new();
+    for (index, slip) in SEARCH_SLIPS.iter().enumerate() {
+        let name = format!("search_{index}");
+        modules += &copy(&sources, slip, &name);
+        writeln!(searches, "    {name}::kernels::Rust::search,").expect("a line");
     }
     let mut pairs = String::new();
     let stand_in = stand_in();
@@ -45,10 +45,22 @@ fn main() {
         .expect("a line");
     }
     let text = format!(
-        "{modules}\nfn libraries() -> Vec<peer::Library> {{\n    vec![\n{list}]\n}}\n\
+        "{modules}\nfn searches() -> Vec<trial::search::Search> {{\n    vec![\n{searches}]\n}}\n\
+         fn libraries() -> Vec<peer::Library> {{\n    vec![\n{list}]\n}}\n\
          fn norm_libraries() -> Vec<[peer::Library; 2]> {{\n    vec![\n{pairs}]\n}}\n"
     );
     fs::write(out.join("slipped.rs"), text).expect("the copies written");
+}
+
+/// A copy of the Rust files with a slip in it, as a module of a name.
+fn copy(sources: &[gather::Source], slip: &Slip, name: &str) -> String {
+    let mut copies = sources.to_vec();
+    for source in copies.iter_mut().filter(|source| source.name == slip.file) {
+        source.text = slipped(slip.name, slip.changes, &source.text);
+    }
+    let at = format!("crate::{name}");
+    let tree = gather::tree(&copies, &gather::out().join(name), &at, gather::NORM);
+    format!("#[allow(warnings)]\nmod {name} {{\n{tree}}}\n")
 }
 
 /// The edge whose norm is the slipped stand-in's.

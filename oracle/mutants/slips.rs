@@ -48,6 +48,8 @@ const NNLS: &str = "nnls";
 const LSEI: &str = "lsei";
 const HESSIAN: &str = "hessian";
 const STEP: &str = "subproblem";
+const LOOP: &str = "mod";
+const DIFFERENCE: &str = "finite_difference";
 
 /// A sum that starts at +0.
 const FROM_ZERO: &str = ".fold(0.0, |sum: f64, term: f64| sum + term)";
@@ -248,4 +250,128 @@ pub const NORM_SLIPS: &[NormSlip] = &[
     norm("scaled back before the root", &[
         ("scaled(sum.sqrt(), power)", 1, "scaled(scaled(sum, power), power).sqrt()"),
     ], None, None),
+];
+
+/// The loop that raises the penalties, and the same before the test for standing still.
+const PENALTIES: &str = "        for (penalty, lambda) in penalty.iter_mut().zip(&lambda) {
+            *penalty = lambda.abs().max((*penalty + lambda.abs()) / 2.0);
+        }
+";
+const PENALTIES_FIRST: &str = "for (penalty, lambda) in penalty.iter_mut().zip(&lambda) {
+            *penalty = lambda.abs().max((*penalty + lambda.abs()) / 2.0);
+        }
+        if dot(&g, &step.d).abs()";
+
+/// Slips in the Rust's loop and in its differences, told by the questions that it asks and by its end.
+pub const SEARCH_SLIPS: &[Slip] = &[
+    told(LOOP, "the start not clipped", &[(".clamp(lower[i], upper[i])", 1, "")]),
+    told(LOOP, "trials not clipped", &[(".clamp(setup.lower[i], setup.upper[i])", 1, "")]),
+    told(LOOP, "bounds as they are in the step", &[("|(l, x)| l - x", 1, "|(l, _)| *l")]),
+    told(LOOP, "a B that has no factor ends the run", &[(
+        "continue;",
+        2,
+        "return Ok(Termination::Infeasible);",
+    )]),
+    told(LOOP, "a B that has no factor not fresh", &[("fresh = true;", 2, "")]),
+    told(LOOP, "a relaxation of 1 alone is all", &[("1.0 - 1e-8", 1, "1.0")]),
+    told(LOOP, "a relaxation of 1/2 is all", &[("1.0 - 1e-8", 1, "0.5")]),
+    told(LOOP, "multipliers kept from the step before", &[(
+        "Some(lambda.clone())",
+        1,
+        "state.multipliers.take().or(Some(lambda.clone()))",
+    )]),
+    told(LOOP, "multipliers after the test for standing still", &[
+        ("state.multipliers = Some(lambda.clone());", 1, ""),
+        (
+            "for (penalty, lambda) in penalty",
+            1,
+            "state.multipliers = Some(lambda.clone());\nfor (penalty, lambda) in penalty",
+        ),
+    ]),
+    unseen(LOOP, "penalties before the test for standing still", &[
+        (PENALTIES, 1, ""),
+        ("if dot(&g, &step.d).abs()", 1, PENALTIES_FIRST),
+    ], "a run that ends there reports no penalties, and its machine is emptied of them"),
+    told(LOOP, "stands still without its multipliers", &[(" + complementarity", 1, " + 0.0 * complementarity")]),
+    told(LOOP, "products not by magnitude", &[("(l * c).abs()", 1, "l * c")]),
+    told(LOOP, "predicted change not by magnitude", &[("dot(&g, &step.d).abs()", 1, "dot(&g, &step.d)")]),
+    told(LOOP, "stands still at the tolerance", &[("complementarity < setup.ftol", 1, "complementarity <= setup.ftol")]),
+    told(LOOP, "stands still whatever the violation", &[(" && violation < setup.ftol", 1, "")]),
+    told(LOOP, "no test for standing still", &[("complementarity < setup.ftol", 1, "complementarity < 0.0")]),
+    told(LOOP, "penalties by the mean alone", &[(
+        "lambda.abs().max((*penalty + lambda.abs()) / 2.0)",
+        1,
+        "(*penalty + lambda.abs()) / 2.0",
+    )]),
+    told(LOOP, "penalties by the multipliers alone", &[(
+        "lambda.abs().max((*penalty + lambda.abs()) / 2.0)",
+        1,
+        "lambda.abs()",
+    )]),
+    told(LOOP, "penalties never smaller", &[("(*penalty + lambda.abs()) / 2.0", 1, "*penalty")]),
+    told(LOOP, "signed multipliers as penalties", &[("lambda.abs().max(", 1, "lambda.max(")]),
+    told(LOOP, "the merit at x with the penalties before", &[
+        (
+            "for (penalty, lambda) in penalty",
+            1,
+            "let before = penalty.clone();\nfor (penalty, lambda) in penalty",
+        ),
+        ("merit(kinds, &penalty, state.f", 1, "merit(kinds, &before, state.f"),
+    ]),
+    told(LOOP, "violation of a floor by magnitude", &[("(-c).max(0.0)", 1, "c.abs()")]),
+    told(LOOP, "violation of an equality by its negative part", &[("c.abs(),", 1, "(-c).max(0.0),")]),
+    told(LOOP, "merit without penalties", &[("f + dot(", 1, "f + 0.0 * dot(")]),
+    told(LOOP, "slope without the violation", &[("- (1.0 - step.relaxation)", 1, "- 0.0")]),
+    told(LOOP, "slope without the relaxation", &[("(1.0 - step.relaxation)", 1, "1.0")]),
+    told(LOOP, "a decrease of a fifth", &[("DECREASE: f64 = 0.1", 1, "DECREASE: f64 = 0.2")]),
+    told(LOOP, "any decrease", &[("DECREASE: f64 = 0.1", 1, "DECREASE: f64 = 0.0")]),
+    told(LOOP, "the magnitude of the slope", &[("slope.min(0.0)", 1, "slope.abs()")]),
+    told(LOOP, "the slope also above zero", &[("slope.min(0.0)", 1, "slope")]),
+    told(LOOP, "refused at the decrease itself", &[("phi <= phi0", 1, "phi < phi0")]),
+    told(LOOP, "ten trials", &[("BACKTRACKS: usize = 10", 1, "BACKTRACKS: usize = 9")]),
+    told(LOOP, "twelve trials", &[("BACKTRACKS: usize = 10", 1, "BACKTRACKS: usize = 11")]),
+    told(LOOP, "alpha not clipped", &[("minimizer.clamp(0.1 * alpha, 0.5 * alpha)", 1, "minimizer")]),
+    told(LOOP, "alpha at least a fifth", &[("clamp(0.1 * alpha", 1, "clamp(0.2 * alpha")]),
+    told(LOOP, "alpha at most three quarters", &[("0.5 * alpha)", 1, "0.75 * alpha)")]),
+    told(LOOP, "a tenth of alpha where the parabola has no least", &[("0.5 * alpha\n", 1, "0.1 * alpha\n")]),
+    told(LOOP, "alpha always halved", &[("minimizer.is_finite()", 1, "false")]),
+    told(LOOP, "curvature over alpha", &[("(alpha * alpha)", 1, "alpha")]),
+    told(LOOP, "curvature without the slope", &[("phi - phi0 - slope * alpha", 1, "phi - phi0")]),
+    told(LOOP, "the parabola's root for its least", &[("(2.0 * curvature)", 1, "curvature")]),
+    told(LOOP, "the last trial taken on a used B", &[("if !accepted && !fresh", 1, "if false && !fresh")]),
+    told(LOOP, "B reset though it is fresh", &[("if !accepted && !fresh", 1, "if !accepted")]),
+    told(LOOP, "a reset that clears the penalties", &[(
+        "hessian = Hessian::identity(n);",
+        3,
+        "hessian = Hessian::identity(n);\npenalty = vec![0.0; m];",
+    )]),
+    told(LOOP, "a reset that leaves B", &[("hessian = Hessian::identity(n);", 3, "")]),
+    told(LOOP, "a reset that is not fresh", &[("fresh = true;", 3, "")]),
+    told(LOOP, "B fresh after an update", &[("fresh = false;", 1, "")]),
+    told(LOOP, "no update", &[("hessian.update(&s, &y);", 1, "")]),
+    told(LOOP, "the old Lagrangian without multipliers", &[("lagrangian(&g, &a, &lambda)", 1, "g.clone()")]),
+    told(LOOP, "the new Lagrangian without multipliers", &[("lagrangian(&g_new, &a_new, &lambda)", 1, "g_new.clone()")]),
+    told(LOOP, "the Lagrangian with the other sign", &[("*out -= lambda * a", 1, "*out += lambda * a")]),
+    told(LOOP, "the change of g alone", &[
+        ("lagrangian(&g_new, &a_new, &lambda)", 1, "g_new.clone()"),
+        ("lagrangian(&g, &a, &lambda)", 1, "g.clone()"),
+    ]),
+    told(LOOP, "a relative change of the objective", &[("(f - state.f).abs()", 1, "((f - state.f) / f).abs()")]),
+    told(LOOP, "settled at the tolerance", &[("if change < setup.ftol", 1, "if change <= setup.ftol")]),
+    told(LOOP, "settled whatever the violation", &[(" && max_violation(kinds, &state.c) < setup.ftol", 1, "")]),
+    told(LOOP, "settled only where a trial was accepted", &[("if change < setup.ftol", 1, "if accepted && change < setup.ftol")]),
+    told(LOOP, "constraints not looked at", &[(
+        "finite(objective.constraint(j, x).map_err(failed)?)",
+        1,
+        "objective.constraint(j, x).map_err(failed)",
+    )]),
+    told(LOOP, "the Jacobian not looked at", &[("a.iter().try_for_each(|&entry| finite(entry).map(drop))?;", 1, "")]),
+    told(LOOP, "a constraint's move not by its coordinate", &[("xi.abs().max(1.0);", 1, "1.0;")]),
+    told(LOOP, "a constraint's difference over its move", &[("(point[i] - xi)", 1, "(f64::EPSILON.sqrt() * xi.abs().max(1.0))")]),
+    told(LOOP, "moves of a constraint that add up", &[("point[i] = xi;", 1, "")]),
+    told(DIFFERENCE, "the objective's move not by its coordinate", &[("xi.abs().max(1.0));", 1, "1.0);")]),
+    told(DIFFERENCE, "the objective's difference over its move", &[("(f_plus - fx) / (plus - xi)", 1, "(f_plus - fx) / h")]),
+    told(DIFFERENCE, "moves of the objective that add up", &[("point[i] = xi;", 1, "")]),
+    told(DIFFERENCE, "the gradient not looked at", &[("if out.iter().all(", 1, "if true || out.iter().all(")]),
+    told(DIFFERENCE, "a move of the cube root", &[("f64::EPSILON.sqrt()", 1, "f64::EPSILON.cbrt()")]),
 ];

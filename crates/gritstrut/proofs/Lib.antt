@@ -4,3 +4,4 @@ pub mod Days
 pub mod Checking
 pub mod Mends
 pub mod Files
+pub mod Searches

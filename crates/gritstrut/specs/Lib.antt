@@ -5,3 +5,4 @@ pub mod Daily
 pub mod Checking
 pub mod Mending
 pub mod Writing
+pub mod Searching

@@ -3,6 +3,7 @@ mod check;
 mod day;
 pub mod problems;
 pub mod readings;
+mod runs;
 mod steps;
 
 ghost use mathlib.Core.Path.{_≡_};
@@ -24,6 +25,8 @@ use lsei_call::Ldp;
 use lsei_call::Lsei;
 use lsei_call::Lsi;
 use nnls_call::Nnls;
+pub use runs::gritstrut_search_begin;
+pub use runs::gritstrut_search_tell;
 pub use steps::gritstrut_step;
 pub use steps::gritstrut_strict_step;
 pub use steps::gritstrut_tally_raise;

@@ -3,6 +3,7 @@
 mod check;
 mod day;
 mod run;
+mod runs;
 mod step;
 
 ghost use mathlib.Core.Path.{_≡_};
@@ -58,7 +59,7 @@ fn no_call() -> Call
 // Reads a call of an operation and n bytes and replays it, if it is one.
 fn replay_next(operation: u64, n: usize) -> bool {
     let mut call = no_call();
-    if 19 < operation {
+    if 21 < operation {
         return false;
     }
     if 12288 < n {

@@ -1,6 +1,8 @@
 // Runs a stored call through the C interface on memory full of junk.
 use crate::check::run_check;
 use crate::day::run_day;
+use crate::runs::run_begin;
+use crate::runs::run_tell;
 use crate::step::run_step;
 use libc::STDOUT_FILENO;
 use replay_list::Call;
@@ -199,6 +201,8 @@ fn run_any(
         17 => run_day(call, values, x, w, iw),
         18 => run_step(operation, call, values, x, y, w, iw),
         19 => run_check(call, values, w, iw),
+        20 => run_begin(call, values, x, w, iw),
+        21 => run_tell(call, values, x, w, iw),
         _ => run_hessian(operation, call, values, x, w, iw),
     }
 }

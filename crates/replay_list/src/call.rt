@@ -53,6 +53,13 @@ pub fn low(x: u64) -> u32 {
     (x % 4294967296) as u32
 }
 
+// One of the four sizes as a u32: the last half of its word.
+pub fn small_size(call: &Call, i: usize) -> u32
+    requires { ⌜ i < 4 ⌝ }
+{
+    low(word(call, 8 * i))
+}
+
 // The u32 that outputs and the other workspace hold before the call.
 pub fn mark(call: &Call) -> u32 {
     low(word(call, 48))

@@ -16,6 +16,7 @@ pub use call::length_at;
 pub use call::mark;
 pub use call::part;
 pub use call::size;
+pub use call::small_size;
 pub use call::tally;
 pub use call::values_of;
 pub use check::lowers;

@@ -48,19 +48,22 @@ fn load(to: &mut [f64], from: &[f64]) {
     }
 }
 
-// An operation whose output is its first input: `update`, square or packed.
-fn is_update(operation: usize) -> bool {
+// An operation whose output is its first input: `update`, square or packed, and an answer to a search.
+fn is_changed(operation: usize) -> bool {
     if operation == 11 {
         return true;
     }
-    operation == 16
+    if operation == 16 {
+        return true;
+    }
+    operation == 21
 }
 
-// The memory of the first output: for an update the matrix, which is changed where it stands.
+// The memory of the first output: for an update the matrix, for an answer the machine, which are changed where they stand.
 pub fn first_output(operation: usize, call: &Call, values: &Values) -> Output
     ensures { λ r. ⌜ 1200 ≡ length r ⌝ }
 {
-    if !is_update(operation) {
+    if !is_changed(operation) {
         return lent_output(call);
     }
     let mut memory = lent_output(call);

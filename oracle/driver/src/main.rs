@@ -5,6 +5,7 @@ mod linked;
 mod mirror;
 mod programs;
 mod root;
+mod searching;
 mod writing;
 
 use arguments::Arguments;
@@ -18,6 +19,7 @@ use trial::held::Junk;
 use trial::kinds;
 use trial::replay::{self, List};
 use trial::run::{self, Plan};
+use trial::search::SCHEMES;
 use trial::table;
 use trial::tallies::{Tallied, tallies};
 
@@ -29,6 +31,7 @@ const USAGE: &str = "usage: oracle COMMAND [--OPTION VALUE]...
   packed      compares B's two forms       --sequences N --seed N
   tally       compares steps on one tally  --sequences N --seed N
   problems    compares problem files       --calls N --seed N
+  search      compares runs of the search  --runs N --seed N --threads N --schemes N
   records     compares record programs     --program FILE --files N --seed N --threads N
   all         calls, and then records      with the options of both
   write-list  writes the stored list       --folder FOLDER --each N --seed N
@@ -59,6 +62,7 @@ fn command(arguments: &Arguments) -> Result<bool, String> {
         "packed" => mirror::packed(arguments),
         "tally" => tally(arguments),
         "problems" => writing::compare(arguments),
+        "search" => searching::compare(arguments),
         "records" => records(arguments),
         "all" => Ok(calls(arguments)? & records(arguments)?),
         "write-list" => write_list(arguments),
@@ -174,7 +178,8 @@ fn stored(arguments: &Arguments) -> Result<[PathBuf; 2], String> {
 
 /// The list that a seed makes.
 fn made(arguments: &Arguments) -> Result<List, String> {
-    Ok(replay::list(arguments.value("seed", 1)?, arguments.value("each", 30)?))
+    let (seed, each) = (arguments.value("seed", 1)?, arguments.value("each", 30)?);
+    Ok(replay::list(seed, each, arguments.value("schemes", SCHEMES)?))
 }
 
 /// Writes the stored list.
@@ -205,8 +210,8 @@ fn check_list(arguments: &Arguments) -> Result<bool, String> {
         println!("{:<16}{:>7} {numbers:?}", op.name(), numbers.iter().sum::<u64>());
     }
     println!(
-        "{} calls, {} with a NaN ratio, the longest {} bytes",
-        found.calls, found.nan_ratios, found.longest
+        "{} calls, {} of them of the search, {} with a NaN ratio, the longest {} bytes",
+        found.calls, found.searches, found.nan_ratios, found.longest
     );
     let drawn = list == made(arguments)?;
     println!("both files are what the seed makes: {}", if drawn { "yes" } else { "no" });

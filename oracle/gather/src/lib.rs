@@ -9,12 +9,28 @@ use std::path::{Path, PathBuf};
 pub const FOLDER: &str = "GRITSTRUT_RUST";
 
 /// The Rust files, with the module of each.
-const FILES: [(&str, &str); 5] = [
+const FILES: [(&str, &str); 8] = [
     ("lsq", "householder"),
     ("lsq", "nnls"),
     ("lsq", "lsei"),
     ("slsqp", "hessian"),
     ("slsqp", "subproblem"),
+    ("slsqp", "mod"),
+    ("", "finite_difference"),
+    ("", "problem"),
+];
+
+/// What the Rust files lean on, and the documents lack: each module, and what stands in for it.
+pub const STAND_INS: [(&str, &str); 5] = [
+    ("objective", "stand_in::ConstraintKind, ground::Objective"),
+    ("counters", "ground::Counters, ground::Halt"),
+    ("error", "ground::InvalidInput, ground::MinimizeError"),
+    ("outcome", "ground::Converged, ground::Minimize, ground::Termination"),
+    (
+        "global",
+        "ground::DifferentialEvolutionOptions, ground::FireflyOptions, \
+         ground::HybridSimulatedAnnealingOptions, ground::ParticleSwarmOptions",
+    ),
 ];
 
 /// The norm of docs/RULES.md, and the plain one.
@@ -82,8 +98,31 @@ fn counted(name: &str, text: &str) -> String {
         }
         "subproblem" => after(text, "fn relaxed(", "    reference::tally::relaxed();"),
         "hessian" => format!("{text}{READ_HESSIAN}"),
+        "mod" => passed(&shown(&text.replace("#[cfg(test)]\nmod tests;\n", ""))),
         _ => text.to_string(),
     }
+}
+
+/// The loop's text, its two modules to be seen from beside it.
+fn shown(text: &str) -> String {
+    let text = text.replace("\nmod hessian;\n", "\npub(crate) mod hessian;\n");
+    text.replace("\nmod subproblem;\n", "\npub(crate) mod subproblem;\n")
+}
+
+/// The loop's text with what its turns pass through, counts of a step of its own for each, and the
+/// constraints' values of the report.
+fn passed(text: &str) -> String {
+    let pass = |at: &str| format!("reference::tally::pass(reference::tally::Turn::{at});");
+    let text = after(text, "let Some(l) = hessian.cholesky() else {", &pass("Unfactored"));
+    let text = before(&text, "let Ok(step) = solve(", "reference::tally::take();");
+    let relaxed = format!("if step.relaxation > 0.0 {{ {} }}", pass("Relaxed"));
+    let text = before(&text, "let lambda = step.multipliers;", &relaxed);
+    let text = after(&text, "+ complementarity < setup.ftol", &pass("Still"));
+    let text = after(&text, "if !accepted && !fresh {", &pass("Reset"));
+    let taken = format!("if !accepted {{ {} }}", pass("Taken"));
+    let text = before(&text, "let mut g_new =", &taken);
+    let text = after(&text, "if change < setup.ftol", &pass("Settled"));
+    before(&text, "let mut result = Minimize::new(", "reference::ground::keep(&state.c);")
 }
 
 /// Say which matrix fell short, and where.
@@ -140,30 +179,45 @@ fn beside(text: &str, mark: &str, put: impl Fn(&str) -> String) -> String {
 /// Writes the files into a folder and answers the module tree that takes them in over a norm, for
 /// the module `at` of the crate that is built (`crate` itself, or a module below it).
 pub fn tree(sources: &[Source], folder: &Path, at: &str, norm: &str) -> String {
-    fs::create_dir_all(folder).expect("a folder for the sources");
-    let mut modules = String::new();
-    for parent in ["lsq", "slsqp"] {
-        let stand_in = match parent {
-            "lsq" => format!(
-                "pub(crate) use reference::stand_in::{{Failure, MatRef}};\npub(crate) use {norm};\n"
-            ),
-            _ => String::new(),
-        };
-        modules += &format!("#[allow(dead_code)]\npub(crate) mod {parent} {{\n{stand_in}");
-        for source in sources.iter().filter(|source| source.parent == parent) {
-            let path = folder.join(format!("{}.rs", source.name));
-            let text = source.text.replace("use crate::", &format!("use {at}::"));
-            fs::write(&path, text).expect("a source written");
-            modules += &format!("#[path = {path:?}]\npub(crate) mod {};\n", source.name);
-        }
-        modules += "}\n";
+    let mut modules = format!(
+        "#[allow(dead_code)]\npub(crate) mod lsq {{\n\
+         pub(crate) use reference::stand_in::{{Failure, MatRef}};\npub(crate) use {norm};\n"
+    );
+    write(sources, folder, at);
+    for source in sources.iter().filter(|source| source.parent == "lsq") {
+        modules += &module(folder, source.parent, source.name, source.name);
     }
-    modules +=
-        "pub(crate) mod objective {\npub(crate) use reference::stand_in::ConstraintKind;\n}\n";
+    modules += "}\n";
+    modules += &module(folder, "slsqp", "mod", "slsqp");
+    for source in sources.iter().filter(|source| source.parent.is_empty()) {
+        modules += &module(folder, "", source.name, source.name);
+    }
+    for (name, what) in STAND_INS {
+        modules += &format!(
+            "#[allow(unused_imports)]\npub(crate) mod {name} {{\n\
+             pub(crate) use reference::{{{what}}};\n}}\n"
+        );
+    }
     let kernels = Path::new(env!("CARGO_MANIFEST_DIR")).join("../reference/src/kernels.rs");
     println!("cargo::rerun-if-changed={}", kernels.display());
     modules += &format!("#[path = {kernels:?}]\npub mod kernels;\n");
     modules
+}
+
+/// Writes the files below a folder, each by its module, for the module `at`.
+fn write(sources: &[Source], folder: &Path, at: &str) {
+    for source in sources {
+        let below = folder.join(source.parent);
+        fs::create_dir_all(&below).expect("a folder for the sources");
+        let text = source.text.replace("use crate::", &format!("use {at}::"));
+        fs::write(below.join(format!("{}.rs", source.name)), text).expect("a source written");
+    }
+}
+
+/// The line that takes a file in as a module.
+fn module(folder: &Path, parent: &str, file: &str, name: &str) -> String {
+    let path = folder.join(parent).join(format!("{file}.rs"));
+    format!("#[allow(dead_code)]\n#[path = {path:?}]\npub(crate) mod {name};\n")
 }
 
 /// The folder that a build writes into.

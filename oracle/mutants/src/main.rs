@@ -6,19 +6,25 @@ include!("../slips.rs");
 include!(concat!(env!("OUT_DIR"), "/slipped.rs"));
 
 use peer::Library;
-use reference::call::Sound;
+use reference::call::{Kernels, Sound};
+use reference::search::SLIPS as READINGS;
 use reference::shape::OPS;
 use std::process::ExitCode;
 use trial::files::{KINDS, file};
 use trial::held::Junk;
 use trial::records;
 use trial::run::{Difference, Plan, portions, try_one};
+use trial::search::calls::Read;
+use trial::search::{self, first_apart};
 
 /// Calls that a slip has to be told in.
 const CALLS: u64 = 150_000;
 
 /// Record files that a slip has to be told in.
 const FILES: u64 = 20_000;
+
+/// Runs of the search that a slip has to be told in.
+const RUNS: u64 = 14_000;
 
 /// The first difference of a library, and after how many calls it came.
 fn first_difference(library: &Library, plan: &Plan) -> Option<(u64, Difference)> {
@@ -49,6 +55,11 @@ fn line(place: &str, name: &str, library: &Library, unseen: Option<&str>, plan: 
         }
         None => (false, unseen.unwrap_or("NOT TOLD").to_string()),
     };
+    expected(place, name, told, unseen, &how)
+}
+
+/// Prints a slip's line: whether it was told exactly where it can be.
+fn expected(place: &str, name: &str, told: bool, unseen: Option<&str>, how: &str) -> bool {
     let as_expected = told == unseen.is_none();
     let mark = if told { "told" } else { "not told" };
     let flag = if as_expected { "" } else { " (UNEXPECTED)" };
@@ -75,6 +86,24 @@ fn reading(slip: records::Slip, files: u64, seed: u64) -> bool {
     }
     println!("| records | {slip:?} | not told (UNEXPECTED) | NOT TOLD |");
     false
+}
+
+/// Prints the line of a slip of the search, by the first run that tells it: whether it went as
+/// expected.
+fn searched(
+    place: &str,
+    name: &str,
+    unseen: Option<&str>,
+    found: Option<(u64, search::Difference)>,
+) -> bool {
+    let (told, how) = match &found {
+        Some((run, one)) => {
+            let first: String = one.found[0].chars().take(120).collect();
+            (true, format!("run {run}, {} {}: {first}", one.kind, one.index))
+        }
+        None => (false, unseen.unwrap_or("NOT TOLD").to_string()),
+    };
+    expected(place, name, told, unseen, &how)
 }
 
 fn main() -> ExitCode {
@@ -116,8 +145,22 @@ fn main() -> ExitCode {
         }
         unexpected += u32::from(!reading(slip, FILES, plan.seed));
     }
+    let plan = search::Plan { runs: RUNS, seed: 1, threads: 1, schemes: 3 };
+    for (slip, search) in SEARCH_SLIPS.iter().zip(searches()) {
+        if wants("search", slip.name) {
+            let found = first_apart(search, &plan);
+            unexpected += u32::from(!searched("search", slip.name, slip.unseen, found));
+        }
+    }
+    for &(slip, name) in READINGS {
+        if wants("machine", name) {
+            let found = search::first_difference(&Read(slip), &plan);
+            unexpected += u32::from(!searched("machine", name, None, found));
+        }
+    }
     let slips =
         SLIPS.len() + 2 * NORM_SLIPS.len() + edges::libraries().len() + records::SLIPS.len();
+    let slips = slips + SEARCH_SLIPS.len() + READINGS.len();
     println!("slips: {slips}; unexpected: {unexpected}");
     if unexpected == 0 { ExitCode::SUCCESS } else { ExitCode::FAILURE }
 }

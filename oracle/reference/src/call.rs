@@ -2,6 +2,7 @@
 
 use crate::check;
 use crate::day;
+use crate::search::{Functions, Setup, Transcript};
 use crate::shape::{Lengths, Op, REPORT, WORKSPACES};
 use crate::stand_in::{self, Failure};
 use crate::strict;
@@ -166,7 +167,7 @@ pub trait Edge: 'static {
     }
     /// Whether a number leaves the workspaces cleared.
     fn clears(number: u32) -> bool {
-        matches!(number, 0 | 5..=8 | 11)
+        matches!(number, 0 | 5..=8 | 11 | 17)
     }
     /// Whether LSI and LSEI store a place with a number.
     fn places(number: u32) -> bool {
@@ -198,7 +199,7 @@ pub trait Edge: 'static {
     }
     /// Whether a step writes its report with a number.
     fn reports(number: u32) -> bool {
-        matches!(number, 0 | 5..=8 | 11)
+        matches!(number, 0 | 5..=8 | 11 | 17)
     }
     /// Whether the strict step takes a variable's bounds.
     fn bounded(lower: f64, upper: f64) -> bool {
@@ -267,6 +268,8 @@ pub trait Kernels: 'static {
     /// The step for `[factor, gradient, values, jacobian, lower, upper]` of equalities and floors,
     /// and its relaxation.
     fn step(kinds: &[u8], inputs: &[Vec<f64>]) -> Result<(Solution, f64), Failure>;
+    /// The whole search from a start with a budget, its questions answered by functions.
+    fn search(setup: &Setup, x: &[f64], budget: usize, functions: &dyn Functions) -> Transcript;
 }
 
 /// The first refusal before the arithmetic, if there is one.

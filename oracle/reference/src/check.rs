@@ -153,7 +153,8 @@ impl<'a> Problem<'a> {
     fn bent(&self) -> Vec<f64> {
         let (n, l, d) = (self.n, self.list(0), self.list(D));
         let whole = |slip: Slip, from: usize| if self.slip == slip { 0 } else { from };
-        let column = |k: usize| (whole(Slip::UpperColumns, k)..n).map(|i| l[i * n + k] * d[i]).collect();
+        let column =
+            |k: usize| (whole(Slip::UpperColumns, k)..n).map(|i| l[i * n + k] * d[i]).collect();
         let halfway: Vec<f64> = (0..n).map(|k| self.sum(column(k))).collect();
         let end = |i: usize| if self.slip == Slip::UpperRows { n } else { i + 1 };
         let row = |i: usize| (0..end(i)).map(|k| l[i * n + k] * halfway[k]).collect();
@@ -183,7 +184,9 @@ impl<'a> Problem<'a> {
             }
             v
         };
-        (0..n).map(|i| Row { name: (Part::Variable, i), multiplier: 0.0, margin: slope(i) }).collect()
+        (0..n)
+            .map(|i| Row { name: (Part::Variable, i), multiplier: 0.0, margin: slope(i) })
+            .collect()
     }
 
     /// a'd + c of a constraint, or of a band's ceiling (-a)'d + (w - c).
@@ -236,8 +239,11 @@ impl<'a> Problem<'a> {
             _ if self.slip == Slip::NoCeilings => vec![floor(l)],
             _ => {
                 let [positive, negative] = self.parts(l);
-                let part =
-                    if self.slip == Slip::CeilingUnnamed { Part::Constraint } else { Part::Ceiling };
+                let part = if self.slip == Slip::CeilingUnnamed {
+                    Part::Constraint
+                } else {
+                    Part::Ceiling
+                };
                 let margin = self.value(j, true);
                 vec![floor(positive), Row { name: (part, j), multiplier: negative, margin }]
             }
@@ -263,7 +269,8 @@ impl<'a> Problem<'a> {
     }
 
     fn inequalities(&self, test: u32) -> Vec<Row> {
-        let equalities = matches!((self.slip, test), (Slip::EqualitySigns, 4) | (Slip::EqualityProducts, 5));
+        let equalities =
+            matches!((self.slip, test), (Slip::EqualitySigns, 4) | (Slip::EqualityProducts, 5));
         let open = self.slip == Slip::OpenProducts && test == 5;
         let constraints = (0..self.m).flat_map(|j| self.floors(j, equalities));
         let sides = (0..self.n).flat_map(|i| self.sides(i, open));

@@ -3,9 +3,14 @@
 use super::lsq::householder::Qr;
 use super::lsq::lsei::{Lsq, ldp, lsei, lsi};
 use super::lsq::nnls::nnls;
+use super::problem::{Bounds, Common, Problem, SlsqpOptions};
 use super::slsqp::hessian::Hessian;
+use super::slsqp::minimize;
 use super::slsqp::subproblem::{Linearization, solve};
 use reference::call::{Factored, Kernels, Solution};
+use reference::ground::{Allowance, MinimizeError, Termination, kept};
+use reference::search::tape::Tape;
+use reference::search::{Ending, Functions, Report, Setup, Transcript};
 use reference::stand_in::{ConstraintKind, Failure, MatRef};
 
 /// The Rust files.
@@ -17,6 +22,21 @@ fn matrix(data: &[f64], rows: usize, cols: usize) -> MatRef<'_> {
 
 fn solution(lsq: Lsq) -> Solution {
     Solution { x: lsq.x, multipliers: lsq.multipliers }
+}
+
+impl Allowance for Common {
+    fn evaluations(&self) -> Option<usize> {
+        self.maxfev
+    }
+}
+
+fn ending(status: Termination) -> Ending {
+    match status {
+        Termination::Converged(_) => Ending::Converged,
+        Termination::Infeasible => Ending::Infeasible,
+        Termination::Exhausted => Ending::Exhausted,
+        Termination::Nonfinite => Ending::Nonfinite,
+    }
 }
 
 impl Kernels for Rust {
@@ -89,5 +109,21 @@ impl Kernels for Rust {
         let step = solve(&inputs[0], &model)?;
         let solution = Solution { x: step.d, multipliers: step.multipliers };
         Ok((solution, step.relaxation))
+    }
+
+    fn search(setup: &Setup, x: &[f64], budget: usize, functions: &dyn Functions) -> Transcript {
+        let bounds = Bounds { lower: setup.lower.clone(), upper: setup.upper.clone() };
+        let problem = Problem { x0: x.to_vec(), bounds: Some(bounds) };
+        let options = SlsqpOptions { ftol: Some(setup.ftol) };
+        let common = Common { maxfev: Some(budget), ..Common::default() };
+        let mut tape = Tape::new(setup, functions);
+        let found = match minimize(&mut tape, &problem, &options, &common) {
+            Ok(found) => found,
+            Err(MinimizeError::Objective(never)) => match never {},
+        };
+        let values = [found.f].into_iter().chain(kept()).collect();
+        let multipliers = found.multipliers.unwrap_or_else(|| vec![0.0; setup.m]);
+        let report = Report { x: found.x, values, multipliers };
+        Transcript { asked: tape.asked, ending: ending(found.status), report }
     }
 }

@@ -6,6 +6,8 @@ extern crate self as reference;
 pub mod call;
 pub mod check;
 pub mod day;
+pub mod ground;
+pub mod search;
 pub mod shape;
 pub mod stand_in;
 pub mod strict;

@@ -169,3 +169,41 @@ pub fn ratio(candidate: (usize, f64)) -> (usize, f64) {
     let sign = if NAN_FIRST.with(Cell::get) { -1.0 } else { 1.0 };
     (candidate.0, f64::NAN.copysign(sign))
 }
+
+/// What a turn of the search passes through.
+#[derive(Debug, Clone, Copy, PartialEq, Eq)]
+pub enum Turn {
+    /// B had no factor.
+    Unfactored,
+    /// The step was done by relaxation.
+    Relaxed,
+    /// No trial was accepted on a used B, which was reset.
+    Reset,
+    /// The last trial was taken though it was not accepted.
+    Taken,
+    /// The step changes nothing within the tolerance.
+    Still,
+    /// The objective moved by less than the tolerance.
+    Settled,
+}
+
+/// How many ways of a turn are counted.
+pub const TURNS: usize = 6;
+
+thread_local! {
+    static WAYS: Cell<[u32; TURNS]> = const { Cell::new([0; TURNS]) };
+}
+
+/// Counts a turn that passes.
+pub fn pass(turn: Turn) {
+    WAYS.with(|cell| {
+        let mut counts = cell.get();
+        counts[turn as usize] += 1;
+        cell.set(counts);
+    });
+}
+
+/// Answers what turns have passed through and starts again from none.
+pub fn passed() -> [u32; TURNS] {
+    WAYS.with(Cell::take)
+}

@@ -10,8 +10,8 @@ const FACTOR: u64 = 1_664_525;
 
 /// The memory of an output and of the two workspaces; that of the permutation, in which the report of
 /// a step stands too, is as long as the second.
-const OUTPUT: usize = 1_200;
-const ROOMS: [usize; 2] = [8_231, 551];
+pub(crate) const OUTPUT: usize = 1_200;
+pub(crate) const ROOMS: [usize; 2] = [8_231, 551];
 
 /// A digest: two numbers below the prime, one of remainders and one of quotients.
 #[derive(Debug, Clone, Copy, PartialEq)]
@@ -45,7 +45,7 @@ impl Digest {
 }
 
 /// So many words of memory: those given, and then what it held before.
-fn memory(front: &[f64], before: u64, len: usize) -> Vec<u64> {
+pub(crate) fn memory(front: &[f64], before: u64, len: usize) -> Vec<u64> {
     let mut words = vec![pattern(f64::from_bits(before)); len];
     for (to, &value) in words.iter_mut().zip(front) {
         *to = pattern(value);
@@ -54,7 +54,7 @@ fn memory(front: &[f64], before: u64, len: usize) -> Vec<u64> {
 }
 
 /// A workspace: cleared in front after the arithmetic, and as it was before elsewhere.
-fn room(which: usize, number: u32, before: u64) -> Vec<u64> {
+pub(crate) fn room(which: usize, number: u32, before: u64) -> Vec<u64> {
     let cleared = if Sound::clears(number) { WORKSPACES[which] } else { 0 };
     let mut words = vec![before; ROOMS[which]];
     words[..cleared].fill(0);
@@ -128,8 +128,7 @@ fn first<'a>(stored: &'a Stored, owed: &'a Answer) -> &'a [f64] {
 }
 
 /// The floats that the program reads from a call's bytes, with zeros after them.
-fn values(stored: &Stored) -> Vec<u64> {
-    let mut bytes = stored.bytes();
+pub(crate) fn values(mut bytes: Vec<u8>) -> Vec<u64> {
     bytes.resize(BYTES, 0);
     let word = |bytes: &[u8]| u64::from_le_bytes(bytes.try_into().expect("eight bytes"));
     bytes[HEADER..].chunks(8).map(|bytes| pattern(f64::from_bits(word(bytes)))).collect()
@@ -148,7 +147,7 @@ pub fn digest(stored: &Stored, owed: &Answer) -> u64 {
     } else {
         digest.mix(owed.value.map_or(NAN, pattern));
     }
-    digest.mix_all(values(stored));
+    digest.mix_all(values(stored.bytes()));
     digest.number()
 }
 

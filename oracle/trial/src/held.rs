@@ -76,14 +76,14 @@ pub struct Held<T> {
 }
 
 impl<T: Pattern> Held<T> {
-    fn of(values: &[T], junk: &Junk, draw: &mut Draw) -> Self {
+    pub(crate) fn of(values: &[T], junk: &Junk, draw: &mut Draw) -> Self {
         let mut held = Self::junk(values.len(), junk, draw);
         held.before[MARGIN..MARGIN + values.len()].copy_from_slice(values);
         held.now.copy_from_slice(&held.before);
         held
     }
 
-    fn junk(len: usize, junk: &Junk, draw: &mut Draw) -> Self {
+    pub(crate) fn junk(len: usize, junk: &Junk, draw: &mut Draw) -> Self {
         let total = len + 2 * MARGIN;
         let start = draw.below(junk.0.len() - total);
         let before: Vec<T> = junk.0[start..start + total].iter().map(|&bits| T::of(bits)).collect();
@@ -95,12 +95,18 @@ impl<T: Pattern> Held<T> {
         (self.now[MARGIN..].as_mut_ptr(), len)
     }
 
-    fn body(&self) -> &[T] {
+    /// What is lent of the buffer.
+    pub(crate) fn lend(&mut self) -> &mut [T] {
+        let end = self.now.len() - MARGIN;
+        &mut self.now[MARGIN..end]
+    }
+
+    pub(crate) fn body(&self) -> &[T] {
         &self.now[MARGIN..self.now.len() - MARGIN]
     }
 
     /// The first entry from `start` on whose bits changed, counted in the buffer.
-    fn changed(&self, start: usize) -> Option<isize> {
+    pub(crate) fn changed(&self, start: usize) -> Option<isize> {
         let end = self.now.len();
         let differs = |&i: &usize| self.now[i].bits() != self.before[i].bits();
         let found = (MARGIN + start..end).chain(0..MARGIN).find(differs)?;
@@ -108,7 +114,7 @@ impl<T: Pattern> Held<T> {
     }
 
     /// The first entry before or after the buffer whose bits changed.
-    fn spilt(&self) -> Option<isize> {
+    pub(crate) fn spilt(&self) -> Option<isize> {
         let mut found = None;
         for i in (0..MARGIN).chain(self.now.len() - MARGIN..self.now.len()) {
             if self.now[i].bits() != self.before[i].bits() {
@@ -230,11 +236,11 @@ impl Lender for Buffers {
 }
 
 /// Whether a value is the one owed: the same bits, or any NaN for any NaN.
-fn same(owed: f64, found: f64) -> bool {
+pub(crate) fn same(owed: f64, found: f64) -> bool {
     owed.to_bits() == found.to_bits() || (owed.is_nan() && found.is_nan())
 }
 
-fn shown(value: f64) -> String {
+pub(crate) fn shown(value: f64) -> String {
     format!("{:016x} ({value:e})", value.to_bits())
 }
 
@@ -278,7 +284,7 @@ pub fn compare_on(
         found.push(format!("number: owed {}, found {number}", owed.number));
     }
     compare_inputs(&buffers, call.op.is_update() && owed.number == 0, &mut found);
-    compare_workspaces(&buffers, owed.number, &mut found);
+    compare_workspaces(&buffers.w, &buffers.iw, owed.number, &mut found);
     compare_outputs(&buffers, call.op, owed, &mut found);
     compare_single(&buffers, owed, &mut found);
     compare_tally(&buffers, *tally, owed, &mut found);
@@ -330,19 +336,24 @@ fn compare_inputs(buffers: &Buffers, updated: bool, found: &mut Vec<String>) {
 
 /// Entries of a workspace that are cleared by a call of the number that is owed.
 fn cleared(number: u32, entries: usize) -> usize {
-    if matches!(number, 0 | 5..=8 | 11) { entries } else { 0 }
+    if matches!(number, 0 | 5..=8 | 11 | 17) { entries } else { 0 }
 }
 
-fn compare_workspaces(buffers: &Buffers, number: u32, found: &mut Vec<String>) {
+pub(crate) fn compare_workspaces(
+    w: &Held<f64>,
+    iw: &Held<u32>,
+    number: u32,
+    found: &mut Vec<String>,
+) {
     let (reals, indices) = (cleared(number, WORKSPACES[0]), cleared(number, WORKSPACES[1]));
-    let w = buffers.w.body().iter().take(reals).position(|value| value.to_bits() != 0);
-    let iw = buffers.iw.body().iter().take(indices).position(|&value| value != 0);
+    let kept = [w.changed(reals), iw.changed(indices)];
+    let w = w.body().iter().take(reals).position(|value| value.to_bits() != 0);
+    let iw = iw.body().iter().take(indices).position(|&value| value != 0);
     for (name, entry) in [("workspace", w), ("index workspace", iw)] {
         if let Some(entry) = entry {
             found.push(format!("{name} not cleared at {entry}"));
         }
     }
-    let kept = [buffers.w.changed(reals), buffers.iw.changed(indices)];
     for (name, entry) in ["workspace", "index workspace"].into_iter().zip(kept) {
         if let Some(entry) = entry {
             found.push(format!("{name} not kept at {entry}"));
@@ -415,7 +426,12 @@ fn compare_tally(buffers: &Buffers, before: [u64; 2], owed: &Answer, found: &mut
 }
 
 /// What stays of a buffer: the margin where it is written, else all of it.
-fn compare_rest<T: Pattern>(name: &str, held: &Held<T>, written: bool, found: &mut Vec<String>) {
+pub(crate) fn compare_rest<T: Pattern>(
+    name: &str,
+    held: &Held<T>,
+    written: bool,
+    found: &mut Vec<String>,
+) {
     let (entry, what) =
         if written { (held.spilt(), "spilt") } else { (held.changed(0), "touched") };
     if let Some(entry) = entry {

@@ -9,6 +9,7 @@ pub mod problems;
 pub mod records;
 pub mod replay;
 pub mod run;
+pub mod search;
 pub mod sequences;
 pub mod stored;
 pub mod table;

@@ -4,6 +4,7 @@ use crate::digest::line;
 use crate::draw::Draw;
 use crate::held::{Junk, compare};
 use crate::kinds::{Kind, Share, all};
+use crate::search;
 use crate::stored::{self, BYTES, Fill, HEADER, Rest, Stored};
 use crate::table::NUMBERS;
 use peer::Library;
@@ -126,10 +127,10 @@ pub struct List {
     pub lines: String,
 }
 
-/// A list of so many calls of each kind.
-pub fn list(seed: u64, each: usize) -> List {
-    let chosen = chosen(seed, each);
-    let start = [MARK, chosen.len() as u64];
+/// A list of so many calls of each kind, and of some runs of the search, which serves so many schemes.
+pub fn list(seed: u64, each: usize, schemes: u32) -> List {
+    let (chosen, searches) = (chosen(seed, each), search::stored::drawn(seed, schemes));
+    let start = [MARK, (chosen.len() + searches.len()) as u64];
     let calls = start.into_iter().flat_map(u64::to_le_bytes).collect();
     let mut list = List { calls, lines: String::new() };
     for (index, (call, owed)) in chosen.into_iter().enumerate() {
@@ -138,6 +139,10 @@ pub fn list(seed: u64, each: usize) -> List {
         list.calls.extend(stored.record());
         list.lines.push_str(&line(&stored, &owed));
     }
+    for (record, line) in searches {
+        list.calls.extend(record);
+        list.lines.push_str(&line);
+    }
     list
 }
 
@@ -145,6 +150,8 @@ pub fn list(seed: u64, each: usize) -> List {
 #[derive(Default)]
 pub struct Found {
     pub calls: u64,
+    /// Calls of the search, whose lines are held to the second reading when the list is made anew.
+    pub searches: u64,
     /// Calls by operation and by number.
     pub numbers: [[u64; NUMBERS]; OPS.len()],
     pub nan_ratios: u64,
@@ -166,14 +173,20 @@ pub fn verify(list: &List, library: &Library) -> Result<Found, String> {
     let (mut found, junk) = (Found::default(), Junk::new(1));
     for index in 0..start[1] {
         let before = rest.0.len();
-        let stored = stored::next(&mut rest)?;
+        let (code, bytes) = stored::next(&mut rest)?;
+        found.calls += 1;
+        found.longest = found.longest.max(before - rest.0.len());
+        let Some(&op) = OPS.get(code) else {
+            found.searches += 1;
+            lines.next();
+            continue;
+        };
+        let stored = Stored::read(op, bytes)?;
         let (call, owed) = (&stored.call, answer::<Rust, Sound>(&stored.call));
         let mut draw = Draw::new(1, call.op, "replay", index);
         let differs = !compare(library, call, &owed, &junk, &mut draw).is_empty();
-        found.calls += 1;
         found.numbers[call.op.code()][owed.number as usize] += 1;
         found.nan_ratios += u64::from(owed.tally.nan_ratios > 0);
-        found.longest = found.longest.max(before - rest.0.len());
         found.lines += u64::from(lines.next() != Some(&line(&stored, &owed)));
         found.different += u64::from(differs);
     }

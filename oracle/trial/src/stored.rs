@@ -3,7 +3,7 @@
 use crate::draw::{Draw, SPECIAL};
 use reference::call::{Answer, Call};
 use reference::check::{LOWERS, MULTIPLIERS};
-use reference::shape::{OPS, Op};
+use reference::shape::Op;
 use reference::tally::NOWHERE;
 
 /// What stands for every NaN.
@@ -14,7 +14,7 @@ pub const BYTES: usize = 12_288;
 pub const HEADER: usize = 88;
 
 /// Lengths that the header has, and how many of them stand before those of the inputs.
-const LENGTHS: usize = 16;
+pub const LENGTHS: usize = 16;
 const BEFORE_INPUTS: usize = 7;
 
 /// The bits of a float, one pattern for every NaN.
@@ -62,6 +62,23 @@ fn unlike(draw: &mut Draw, taken: &[u64]) -> u64 {
     }
 }
 
+/// The bytes of a call: sizes, what memory holds before it, lengths, inputs, kinds.
+pub fn bytes_of<'a>(
+    sizes: [u64; 4],
+    fill: Fill,
+    lengths: [usize; LENGTHS],
+    inputs: impl Iterator<Item = &'a f64>,
+    kinds: &[u8],
+) -> Vec<u8> {
+    let Fill { output, room, mark } = fill;
+    let words = sizes.into_iter().chain([output, room, u64::from(mark)]);
+    let mut bytes: Vec<u8> = words.flat_map(u64::to_le_bytes).collect();
+    bytes.extend(lengths.into_iter().flat_map(|len| (len as u16).to_le_bytes()));
+    bytes.extend(inputs.flat_map(|value| value.to_bits().to_le_bytes()));
+    bytes.extend(kinds);
+    bytes
+}
+
 /// A call and what its memory holds before it.
 #[derive(Debug, Clone)]
 pub struct Stored {
@@ -101,15 +118,8 @@ impl Stored {
         for (to, &size) in sizes.iter_mut().zip(&self.call.sizes) {
             *to = size as u64;
         }
-        let Fill { output, room, mark } = self.fill;
-        let words = sizes.into_iter().chain([output, room, u64::from(mark)]);
-        let mut bytes: Vec<u8> = words.flat_map(u64::to_le_bytes).collect();
-        bytes.extend(self.lengths().into_iter().flat_map(|len| (len as u16).to_le_bytes()));
-        for value in self.call.inputs.iter().flatten() {
-            bytes.extend(value.to_bits().to_le_bytes());
-        }
-        bytes.extend(&self.call.kinds);
-        bytes
+        let inputs = self.call.inputs.iter().flatten();
+        bytes_of(sizes, self.fill, self.lengths(), inputs, &self.call.kinds)
     }
 
     /// The word before the bytes, and the bytes.
@@ -181,9 +191,8 @@ impl<'a> Rest<'a> {
     }
 }
 
-/// The next call of a list: the word before it, then its bytes.
-pub fn next(rest: &mut Rest) -> Result<Stored, String> {
+/// The next call of a list: its operation's code and its bytes.
+pub fn next<'a>(rest: &mut Rest<'a>) -> Result<(usize, &'a [u8]), String> {
     let head = rest.words(1)?[0];
-    let op = OPS.get((head & 0xffff) as usize).ok_or("no operation of that code")?;
-    Stored::read(*op, rest.take((head >> 16) as usize)?)
+    Ok(((head & 0xffff) as usize, rest.take((head >> 16) as usize)?))
 }

@@ -49,7 +49,9 @@ fn a_ceiling_is_its_row() {
     let kinds = of(Op::Check);
     let kind = kinds.iter().find(|kind| kind.name == "next to a ceiling").expect("that kind");
     let calls: Vec<Call> = (0..1_000).map(|index| kind.call(1, index).0).collect();
-    let told = calls.iter().filter(|call| verdict(call, Slip::CeilingOfFloor) != verdict(call, Slip::None));
+    let told = calls
+        .iter()
+        .filter(|call| verdict(call, Slip::CeilingOfFloor) != verdict(call, Slip::None));
     let count = told.count();
     assert!(count > 100, "{count} of 1,000");
 }
@@ -64,7 +66,8 @@ fn slips_are_told() {
             };
             (0..most).map(|index| kind.call(1, index * 7).0).any(|call| {
                 let fits = call.lengths() == Op::Check.lengths(&call.sizes);
-                fits && call.kinds.iter().all(|&kind| kind <= 2) && verdict(&call, slip) != verdict(&call, Slip::None)
+                fits && call.kinds.iter().all(|&kind| kind <= 2)
+                    && verdict(&call, slip) != verdict(&call, Slip::None)
             })
         });
         assert!(told, "{slip:?} is not told");

@@ -6,9 +6,10 @@ use peer::{Lender, Library, library};
 use reference::Rust;
 use reference::call::Sound;
 use reference::day;
-use reference::shape::Op;
+use reference::shape::{OPS, Op};
 use trial::digest::Digest;
 use trial::replay::list;
+use trial::search::SCHEMES;
 use trial::stored::{BYTES, HEADER, Rest, Stored, next, pattern};
 
 /// The memory of a call; `given` counts the sizes, inputs, outputs, counts and readings handed out.
@@ -179,12 +180,14 @@ fn replay_value(library: &Library, stored: &Stored, digest: &mut Digest) -> u32 
 
 #[test]
 fn lines_are_those_of_the_memory() {
-    let (list, library) = (list(1, 4), library::<Rust, Sound>());
+    let (list, library) = (list(1, 4, SCHEMES), library::<Rust, Sound>());
     let mut rest = Rest(&list.calls);
     let calls = rest.words(2).expect("the start of a list")[1];
     assert_eq!(calls, list.lines.lines().count() as u64);
     for line in list.lines.lines() {
-        let stored = next(&mut rest).expect("a stored call");
+        let (code, bytes) = next(&mut rest).expect("a stored call");
+        let Some(&op) = OPS.get(code) else { continue };
+        let stored = Stored::read(op, bytes).expect("a stored call");
         let mut digest = Digest::default();
         let run = if stored.call.op.is_lent() { replay_lent } else { replay_value };
         let number = run(&library, &stored, &mut digest);
@@ -194,7 +197,6 @@ fn lines_are_those_of_the_memory() {
             pattern(f64::from_bits(u64::from_le_bytes(bytes.try_into().expect("eight bytes"))))
         };
         digest.mix_all(bytes[HEADER..].chunks(8).map(value));
-        let code = stored.call.op.code();
         assert_eq!(format!("{code} {number} {:016x}", digest.number()), line);
     }
     assert!(rest.0.is_empty());

@@ -28,7 +28,12 @@ pub const ROWS: &[Row] = &[
     ("next to it", Share::Weight(10), &ALL, measured_edges),
     ("next to a ceiling", Share::Weight(5), &[Verdict(0), Verdict(3)], ceilings),
     ("least values", Share::All(4 * 6 * 9 * 9 * 9), &ALL, least),
-    ("steps of the Rust", Share::Weight(10), &[Verdict(0), Verdict(1), Verdict(3), Verdict(5)], solved),
+    (
+        "steps of the Rust",
+        Share::Weight(10),
+        &[Verdict(0), Verdict(1), Verdict(3), Verdict(5)],
+        solved,
+    ),
     ("smooth", Share::Weight(6), &[Verdict(1), Verdict(3), Verdict(4)], |_, _, draw| {
         drawn(draw, Palette::Smooth)
     }),
@@ -38,7 +43,9 @@ pub const ROWS: &[Row] = &[
     ("some special", Share::Weight(6), &[Verdict(1), Number(10), Number(14)], |_, _, draw| {
         strewn(draw, 6)
     }),
-    ("any bits", Share::Weight(3), &[Number(10), Number(14)], |_, _, draw| drawn(draw, Palette::Bits)),
+    ("any bits", Share::Weight(3), &[Number(10), Number(14)], |_, _, draw| {
+        drawn(draw, Palette::Bits)
+    }),
 ];
 
 /// Yes, and every test that fails first.
@@ -146,7 +153,10 @@ impl Draft {
     /// A side that is open, with any multiplier, or holds.
     fn close(&mut self, draw: &mut Draw, i: usize, lower: bool) {
         let (margin, multiplier) = match draw.one_in(3) {
-            true => (draw.pick(&[f64::INFINITY, f64::NEG_INFINITY, f64::NAN]), draw.real(Palette::Special)),
+            true => (
+                draw.pick(&[f64::INFINITY, f64::NEG_INFINITY, f64::NAN]),
+                draw.real(Palette::Special),
+            ),
             false => Self::pair(draw),
         };
         self.bound(i, lower, margin, multiplier);
@@ -195,7 +205,8 @@ impl Draft {
                 self.put_somewhere(draw, 0.0, multiplier);
             }
             5 => {
-                let (margin, multiplier) = draw.pick(&[(by, 1.0), (1.0, by), (2.0, by / 2.0), (-by, 1.0)]);
+                let (margin, multiplier) =
+                    draw.pick(&[(by, 1.0), (1.0, by), (2.0, by / 2.0), (-by, 1.0)]);
                 self.put_somewhere(draw, margin, multiplier);
             }
             _ => {}
@@ -205,11 +216,13 @@ impl Draft {
     /// The gradient with which each slope is the one given.
     fn gradient(&self, slopes: &[f64]) -> Vec<f64> {
         let (n, m) = (self.n, self.m);
-        let halfway = |k: usize| -> f64 { (k..n).map(|i| self.factor[i * n + k] * self.d[i]).sum() };
+        let halfway =
+            |k: usize| -> f64 { (k..n).map(|i| self.factor[i * n + k] * self.d[i]).sum() };
         let one = |i: usize| {
             let bent: f64 = (0..=i).map(|k| self.factor[i * n + k] * halfway(k)).sum();
             let terms: f64 = (0..m).map(|j| self.jacobian[j * n + i] * self.multipliers[j]).sum();
-            let side = |bound: f64, multiplier: f64| if bound.is_finite() { multiplier } else { 0.0 };
+            let side =
+                |bound: f64, multiplier: f64| if bound.is_finite() { multiplier } else { 0.0 };
             let sides = side(self.lower[i], self.lowers[i]) - side(self.upper[i], self.uppers[i]);
             slopes[i] - bent + terms + sides
         };
@@ -305,7 +318,8 @@ fn measured_edges(_: Op, _: u64, draw: &mut Draw) -> Call {
     let values: Vec<f64> = measured(&call).into_iter().filter(|value| *value >= 0.0).collect();
     let largest = values.iter().copied().fold(0.0, f64::max);
     let value = if draw.one_in(3) && !values.is_empty() { draw.pick(&values) } else { largest };
-    call.inputs[TOLERANCE][0] = draw.pick(&[value, value, value.next_down().max(0.0), value.next_up()]);
+    call.inputs[TOLERANCE][0] =
+        draw.pick(&[value, value, value.next_down().max(0.0), value.next_up()]);
     call
 }
 
@@ -427,7 +441,11 @@ fn drawn(draw: &mut Draw, palette: Palette) -> Call {
         call.inputs[3].iter_mut().for_each(|width| *width = width.abs());
         call.inputs[TOLERANCE][0] = 4.0 * draw.fraction();
         for (at, open) in [(5, f64::NEG_INFINITY), (6, f64::INFINITY)] {
-            call.inputs[at].iter_mut().for_each(|bound| if draw.one_in(3) { *bound = open });
+            call.inputs[at].iter_mut().for_each(|bound| {
+                if draw.one_in(3) {
+                    *bound = open
+                }
+            });
         }
     }
     call
@@ -442,7 +460,11 @@ fn endless(_: Op, _: u64, draw: &mut Draw) -> Call {
         2 => rescale(draw, &mut call.inputs[..TOLERANCE], 900, 1023),
         _ => strew(draw, &mut call.inputs[..TOLERANCE], 2),
     }
-    call.inputs[3].iter_mut().for_each(|width| if !width.is_finite() { *width = 1.0 });
+    call.inputs[3].iter_mut().for_each(|width| {
+        if !width.is_finite() {
+            *width = 1.0
+        }
+    });
     call.inputs[TOLERANCE][0] = draw.pick(&[f64::INFINITY, f64::INFINITY, f64::MAX]);
     call
 }

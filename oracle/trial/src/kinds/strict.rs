@@ -60,7 +60,8 @@ fn both_bounds(_: Op, index: u64, draw: &mut Draw) -> Call {
 
 /// Two variables whose four bounds are a number, a NaN or an infinity each.
 fn two_variables(_: Op, index: u64, draw: &mut Draw) -> Call {
-    let letters = [-2.0, 3.0, f64::NAN, f64::INFINITY, f64::NEG_INFINITY, -0.0, f64::MAX, -f64::NAN];
+    let letters =
+        [-2.0, 3.0, f64::NAN, f64::INFINITY, f64::NEG_INFINITY, -0.0, f64::MAX, -f64::NAN];
     let bounds = spell(index, &letters, 4);
     let factor = vec![1.0, 0.0, draw.pick(&[0.0, 0.5]), 2.0];
     let gradient = vec![draw.smooth(), draw.smooth()];

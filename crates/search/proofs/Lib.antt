@@ -1,0 +1,17 @@
+pub mod Agree
+pub mod Budgets
+pub mod Machines
+pub mod Answers
+pub mod Factor
+pub mod Quotients
+pub mod Laying
+pub mod Parts
+pub mod Layouts
+pub mod Sizes
+pub mod Calls
+pub mod Inside
+pub mod Relaid
+pub mod Turns
+pub mod Rereads
+pub mod Widths
+pub mod Lent

@@ -1,0 +1,5 @@
+pub mod Orders
+pub mod Questions
+pub mod Posing
+pub mod Starts
+pub mod Calls

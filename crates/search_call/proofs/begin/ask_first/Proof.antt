@@ -1,0 +1,55 @@
+-- `ask_first`: the clipped start twice, and two words.
+use mathlib.Core.Path.{refl}
+use native.Mathlib.Omega.{arith}
+use lib.ListN.{length-set}
+use Rattle.numbers.proofs.Lists.{length-tab}
+use Rattle.search_call.specs.inner.Work.{clippedIn}
+use Rattle.search_call.proofs.Posing.{asked-first}
+use Rattle.search_call.proofs.begin.ask_first.Statement.{statement}
+use Rattle.search_call.proofs.begin.ask_first.Tie as tie
+
+-- src/begin.rt:105:5
+clip-into-requires : tie.Need-clip-into-requires
+clip-into-requires c κs = (omega arith, omega arith, omega arith, omega arith, omega arith, omega arith)
+
+-- src/begin.rt:106:5
+copy-up-requires : tie.Need-copy-up-requires
+copy-up-requires c κs = (omega arith, omega arith)
+
+-- src/begin.rt:107:5
+slice-write-u : tie.Need-slice-write-u
+slice-write-u c = omega arith
+
+-- src/begin.rt:108:5
+slice-write-u-2 : tie.Need-slice-write-u-2
+slice-write-u-2 c = simp length-set (omega arith)
+
+-- src/begin.rt:93:1
+same-length : tie.Need-same-length
+same-length c = omega arith
+
+-- src/begin.rt:93:1
+same-length-2 : tie.Need-same-length-2
+same-length-2 c = simp length-set (omega arith)
+
+-- src/begin.rt:93:1
+returns : tie.Need-returns
+returns c =
+    let a = c .before .before .before .before .before .before .before .before .before .before .before .before .before .args in
+    let y = clippedIn (a .n) (a .lower .now) (a .upper .now) (a .x .now) in
+    record {
+      floats = asked-first (a .n) y (a .f .now) (c .before .before .before .before .before .before .clip-into .last .0) (c .before .before .copy-up .last .0) (omega arith) (length-tab (a .n) _) (omega arith) (omega arith) (omega arith) (c .before .before .before .before .before .before .clip-into .ensures) (c .before .before .copy-up .ensures);
+      words = refl;
+    }
+
+pub ask-first-spec : {M : Type 1} → statement M
+ask-first-spec =
+    tie.close
+    (tie.spec
+    clip-into-requires
+    copy-up-requires
+    slice-write-u
+    slice-write-u-2
+    same-length
+    same-length-2
+    returns)

@@ -1,0 +1,60 @@
+-- What the functions behind the search's two operations are handed and leave. Definitions only.
+use Prim.Native.Nat.{ℕ, suc, _*_, _≤_}
+use mathlib.Core.Path.{_≡_}
+use mathlib.Core.Bool.{Bool, true, false, cond, _&&_}
+use mathlib.Core.List.{List}
+use lib.Dec.{leb, eqb}
+use lib.ListN.{length, set, replicate}
+use lib.Ieee.{Float, nan}
+use Rattle.numbers.specs.Numbers.{at, nth, tab}
+use Rattle.workspace.specs.declared.Refusal.the-variants.{Nonfinite}
+use Rattle.workspace.specs.declared.Outcome.{Outcome}
+use Rattle.workspace.specs.declared.Outcome.the-variants.{Done, Refused}
+use Rattle.search.specs.Setup.{Setup}
+use Rattle.search.specs.Turn.{clip, backtracks}
+use Rattle.search.specs.Machine.{begin}
+use Rattle.search.specs.Layout.{setupFloats, setupWords, machineFloats, machineWords, laid, Posed, areWords}
+use Rattle.search.specs.Promise.{stateOutcome}
+use Rattle.search_next.specs.inner.Next.{wantedAt}
+
+-- ---- beginning
+
+-- x clipped into the bounds
+abbrev pub clippedIn : (n : ℕ) → (lower upper x : List Float) → List Float
+clippedIn n l u x = tab n (λ i. clip (at l i) (at u i) (at x i))
+
+-- a problem that can begin, with its start, and slices for its machine
+pub record Begins (p : Setup) (x f : List Float) (u : List ℕ) : Type 0 where
+  pub posed : Posed p
+  pub start : length x ≡ p .n
+  pub floats : length f ≡ 1024
+  pub words : length u ≡ 32
+
+-- the run is over before a value was told: the clipped start with values that are not known; k is the number of how
+pub record Unknown (k n m : ℕ) (y : List Float) (f f′ : List Float) (u u′ : List ℕ) : Type 0 where
+  pub floats : f′ ≡ laid 48 y (laid 128 (replicate (suc m) nan) f)
+  pub words : u′ ≡ set u 0 k
+
+-- the values at y are asked for, with b left
+pub record Asks (b : ℕ) (y : List Float) (f f′ : List Float) (u u′ : List ℕ) : Type 0 where
+  pub floats : f′ ≡ laid 976 y (laid 112 y f)
+  pub words : u′ ≡ set (set u 0 1) 1 b
+
+-- the search of p from x with a budget of b has begun
+pub record Started (p : Setup) (x : List Float) (b : ℕ) (r : Outcome) (f′ : List Float) (u′ : List ℕ) : Type 0 where
+  pub outcome : r ≡ stateOutcome (begin p x b)
+  pub floats : f′ ≡ machineFloats p (begin p x b) (setupFloats p)
+  pub words : u′ ≡ machineWords (begin p x b) (setupWords p)
+
+-- ---- telling
+
+-- the phase of the question that stands, or 0
+abbrev pub questionIn : List ℕ → ℕ
+questionIn u = cond (areWords u && leb (nth u 0) 5) (nth u 0) 0
+
+abbrev pub isTold : (phase n m told : ℕ) → Bool
+isTold k n m t = cond (eqb k 0) true (eqb t (wantedAt k n m))
+
+-- the outcome of a state whose first word is k
+abbrev pub outcomeIn : ℕ → Outcome
+outcomeIn k = cond (eqb k 9) (Refused Nonfinite) Done

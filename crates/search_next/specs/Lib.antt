@@ -1,0 +1,2 @@
+-- What the transitions of the search's machine leave. Definitions only.
+pub mod inner

@@ -1,0 +1,2 @@
+-- What serves the contracts of inner functions alone: no promise rests on it.
+pub mod Next

@@ -1,0 +1,238 @@
+// The search around the step: what a turn computes between its questions.
+ghost use mathlib.Core.Path.{_≡_};
+ghost use mathlib.Core.Bool.{_&&_};
+ghost use mathlib.Core.List.{List};
+ghost use Prim.Native.Nat.{ℕ, _+_, _≤_};
+ghost use lib.ListN.{length};
+ghost use lib.Ieee.{Float, lt};
+ghost use Rattle.numbers.specs.Numbers.{at, nth, tab, dot, _⊕_, _⊗_, _⊘_};
+ghost use Rattle.workspace.specs.inner.Readings.{vec};
+ghost use Rattle.search.specs.Setup.{isFinite, areFinite};
+ghost use Rattle.search.specs.Layout.{setupIn, newIn, iterateIn, lineIn, laid};
+ghost use Rattle.search.specs.Turn.{magnitude, larger, negative, clip, violation, violations, maxViolation, merit, complementarity, moveOf, two, penalties, isEnough, shorter, isSettled};
+
+// The search, with its fixed fractions.
+pub struct Search {}
+
+impl Search {
+    // The fraction of the predicted decrease of the merit that a trial must achieve.
+    pub const SUFFICIENT_DECREASE: f64 = 0.1;
+    // The relaxation at or above which a step has reduced no violation.
+    pub const FULL_RELAXATION: f64 = 1.0 - 1e-8;
+    // The root of the spacing of numbers at one, 2^-26: the relative move of a coordinate.
+    pub const MOVE: f64 = 1.4901161193847656e-8;
+}
+
+// |x|, of both zeros +0.
+pub fn magnitude_of(x: f64) -> f64
+    ensures { λ r. ⌜ r ≡ magnitude x ⌝ }
+{
+    if x < 0.0 {
+        return -x;
+    }
+    if x == 0.0 {
+        return 0.0;
+    }
+    x
+}
+
+// The larger of two; a NaN gives way to a number.
+pub fn larger_of(x: f64, y: f64) -> f64
+    ensures { λ r. ⌜ r ≡ larger x y ⌝ }
+{
+    if x != x {
+        return y;
+    }
+    if x < y {
+        return y;
+    }
+    x
+}
+
+// x where it is below zero, else +0.
+pub fn negative_of(x: f64) -> f64
+    ensures { λ r. ⌜ r ≡ negative x ⌝ }
+{
+    if x < 0.0 {
+        return x;
+    }
+    0.0
+}
+
+// x clipped to [low, high].
+pub fn clip_to(low: f64, high: f64, x: f64) -> f64
+    ensures { λ r. ⌜ r ≡ clip low high x ⌝ }
+{
+    if x < low {
+        return low;
+    }
+    if high < x {
+        return high;
+    }
+    x
+}
+
+// Neither NaN nor infinite.
+pub fn is_finite(x: f64) -> bool
+    ensures { λ r. ⌜ r ≡ isFinite x ⌝ }
+{
+    if x < 1.0 / 0.0 {
+        return -1.0 / 0.0 < x;
+    }
+    false
+}
+
+// How far a constraint of value c is violated; zero is +0.
+pub fn violation_of(equality: bool, c: f64) -> f64
+    ensures { λ r. ⌜ r ≡ violation equality c ⌝ }
+{
+    if equality {
+        return magnitude_of(c);
+    }
+    if c < 0.0 {
+        return -c;
+    }
+    0.0
+}
+
+// The move of a coordinate.
+pub fn move_of(x: f64) -> f64
+    ensures { λ r. ⌜ r ≡ moveOf x ⌝ }
+{
+    Search::MOVE * larger_of(magnitude_of(x), 1.0)
+}
+
+// All numbers of a slice are finite.
+pub fn are_finite(v: &[f64]) -> bool
+    ensures { λ r. ⌜ r ≡ areFinite (now (v .entry)) ⌝ }
+{
+    for i in 0..v.len() {
+        if !is_finite(v[i]) {
+            return false;
+        }
+    }
+    true
+}
+
+// ---- the machine's slice
+
+// The point at alpha on the line, clipped into the bounds, written at o.
+pub fn along_into(f: &mut [f64], o: usize, n: usize, alpha: f64)
+    requires { ⌜ (length (now f) ≡ 1024) × (n ≤ 16) × (80 ≤ o) × (o ≤ 1008) ⌝ }
+    ensures { λ _. ⌜ now (f .exit) ≡ laid o (tab n (λ i. clip (at (now (f .entry)) (16 + i)) (at (now (f .entry)) (32 + i)) (at (now (f .entry)) (48 + i) ⊕ alpha ⊗ at (now (f .entry)) (64 + i)))) (now (f .entry)) ⌝ }
+{
+    for i in 0..n {
+        let y = clip_to(f[16 + i], f[32 + i], f[48 + i] + alpha * f[64 + i]);
+        f[o + i] = y;
+    }
+}
+
+// The merit has decreased by a tenth of what its slope predicts.
+pub fn is_enough(f: &[f64], trial: f64) -> bool
+    requires { ⌜ length (now f) ≡ 1024 ⌝ }
+    ensures { λ r. ⌜ ((n : ℕ) → r ≡ isEnough (lineIn n (now (f .entry))) (at (now (f .entry)) 1) trial) ⌝ }
+{
+    trial <= f[2] + Search::SUFFICIENT_DECREASE * f[1] * negative_of(f[3])
+}
+
+// The next alpha, where the parabola is least.
+pub fn shorter_of(f: &[f64], trial: f64) -> f64
+    requires { ⌜ length (now f) ≡ 1024 ⌝ }
+    ensures { λ r. ⌜ ((n : ℕ) → r ≡ shorter (lineIn n (now (f .entry))) (at (now (f .entry)) 1) trial) ⌝ }
+{
+    let alpha = f[1];
+    let curvature = (trial - f[2] - f[3] * alpha) / (alpha * alpha);
+    let least = -f[3] / (2.0 * curvature);
+    if is_finite(least) {
+        return clip_to(0.1 * alpha, 0.5 * alpha, least);
+    }
+    0.5 * alpha
+}
+
+// The larger of a multiplier's magnitude and its mean with the old penalty.
+pub fn penalty_of(old: f64, multiplier: f64) -> f64
+    ensures { λ r. ⌜ r ≡ larger (magnitude multiplier) ((old ⊕ magnitude multiplier) ⊘ two) ⌝ }
+{
+    let size = magnitude_of(multiplier);
+    larger_of(size, (old + size) / 2.0)
+}
+
+// The penalties of a step, from the multipliers and in place of the old ones.
+pub fn penalties_into(f: &mut [f64], m: usize)
+    requires { ⌜ (length (now f) ≡ 1024) × (m ≤ 16) ⌝ }
+    ensures { λ _. ⌜ now (f .exit) ≡ laid 80 (penalties m (vec 80 m (now (f .entry))) (vec 96 m (now (f .entry)))) (now (f .entry)) ⌝ }
+{
+    for j in 0..m {
+        let r = penalty_of(f[80 + j], f[96 + j]);
+        f[80 + j] = r;
+    }
+}
+
+// ---- violations and merit of values v
+
+// The violations, each times its penalty, summed.
+pub fn penalized(f: &[f64], u: &[u32], v: &[f64], m: usize) -> f64
+    requires { ⌜ (length (now f) ≡ 1024) × (length (now u) ≡ 32) × (length (now v) ≡ m + 1) × (m ≤ 16) × (nth (now u) 9 ≡ m) ⌝ }
+    ensures { λ r. ⌜ r ≡ dot m (vec 80 m (now (f .entry))) (violations (setupIn (now (f .entry)) (now (u .entry))) (now (v .entry))) ⌝ }
+{
+    let mut total = -0.0;
+    for j in 0..m {
+        total = total + f[80 + j] * violation_of(u[16 + j] == 0, v[1 + j]);
+    }
+    total
+}
+
+// The merit.
+pub fn merit_of(f: &[f64], u: &[u32], v: &[f64], m: usize) -> f64
+    requires { ⌜ (length (now f) ≡ 1024) × (length (now u) ≡ 32) × (length (now v) ≡ m + 1) × (m ≤ 16) × (nth (now u) 9 ≡ m) ⌝ }
+    ensures { λ r. ⌜ r ≡ merit (setupIn (now (f .entry)) (now (u .entry))) (vec 80 m (now (f .entry))) (now (v .entry)) ⌝ }
+{
+    v[0] + penalized(f, u, v, m)
+}
+
+// The largest violation, whatever the numbers f of the machine are.
+pub fn max_violation_of(u: &[u32], v: &[f64], m: usize) -> f64
+    requires { ⌜ (length (now u) ≡ 32) × (length (now v) ≡ m + 1) × (m ≤ 16) × (nth (now u) 9 ≡ m) ⌝ }
+    ensures { λ r. ⌜ ((f : List Float) → r ≡ maxViolation (setupIn f (now (u .entry))) (now (v .entry))) ⌝ }
+{
+    let mut most = 0.0;
+    for j in 0..m {
+        most = larger_of(most, violation_of(u[16 + j] == 0, v[1 + j]));
+    }
+    most
+}
+
+// ---- what ends a search
+
+// The products of multipliers and values, in magnitude, summed.
+pub fn complementarity_of(l: &[f64], v: &[f64], m: usize) -> f64
+    requires { ⌜ (m ≤ length (now l)) × (m + 1 ≤ length (now v)) ⌝ }
+    ensures { λ r. ⌜ r ≡ complementarity m (now (l .entry)) (now (v .entry)) ⌝ }
+{
+    let mut total = -0.0;
+    for j in 0..m {
+        total = total + magnitude_of(l[j] * v[1 + j]);
+    }
+    total
+}
+
+// A change and the largest violation of values v are both within the tolerance.
+pub fn is_within(f: &[f64], u: &[u32], v: &[f64], change: f64, m: usize) -> bool
+    requires { ⌜ (length (now f) ≡ 1024) × (length (now u) ≡ 32) × (length (now v) ≡ m + 1) × (m ≤ 16) × (nth (now u) 9 ≡ m) ⌝ }
+    ensures { λ r. ⌜ r ≡ (lt change (at (now (f .entry)) 0) && lt (maxViolation (setupIn (now (f .entry)) (now (u .entry))) (now (v .entry))) (at (now (f .entry)) 0)) ⌝ }
+{
+    if change < f[0] {
+        return max_violation_of(u, v, m) < f[0];
+    }
+    false
+}
+
+// The objective moved by less than the tolerance from the accepted values to the new ones, and the violation is within it.
+pub fn is_settled(f: &[f64], u: &[u32], m: usize) -> bool
+    requires { ⌜ (length (now f) ≡ 1024) × (length (now u) ≡ 32) × (m ≤ 16) × (nth (now u) 9 ≡ m) ⌝ }
+    ensures { λ r. ⌜ ((n : ℕ) → r ≡ isSettled (setupIn (now (f .entry)) (now (u .entry))) (iterateIn n m (now (f .entry)) (now (u .entry))) (newIn n m (now (f .entry)))) ⌝ }
+{
+    let e = 153 + m;
+    let v = &f[152..e];
+    is_within(f, u, v, magnitude_of(f[152] - f[128]), m)
+}
