@@ -4,7 +4,7 @@
     /usr/bin/python3 bench/valves.py
 
 SciPy and NLopt's Python module come from the system (Debian: python3-scipy, python3-nlopt); one that
-is missing is left out. Slopes are given. Printed are the answer, what it cost and how far it is from
+is missing is left out. Slopes are given; SciPy is asked for its own differences too. Printed are the answer, what it cost and how far it is from
 the root of the three conditions that hold there, worked out here with 60 digits.
 """
 import math
@@ -66,7 +66,7 @@ def answer():
 def show(name, x, cost):
     away = max(abs(found - exact) for found, exact in zip(x, answer()))
     openings = f"{x[0]:.4f} and {x[1]:.4f}, header at {x[2]:.4f} bar"
-    print(f"{name:<14} {cost} evaluations, objective {objective(x):.9f}, {openings}; away by {away:.1e}")
+    print(f"{name:<21} {cost} evaluations, objective {objective(x):.9f}, {openings}; away by {away:.1e}")
 
 
 def by_scipy():
@@ -76,9 +76,12 @@ def by_scipy():
     for i in range(2):
         constraints.append({"type": "ineq", "fun": lambda x, i=i: flow(i, x) - LEAST[i],
                             "jac": lambda x, i=i: flow_slopes(i, x)})
-    found = minimize(objective, SET_POINT, jac=gradient, method="SLSQP", constraints=constraints,
-                     bounds=list(zip(LOWER, UPPER)), options={"ftol": TOLERANCE})
-    show(f"SciPy {scipy.__version__}", found.x, found.nfev)
+    bare = [{"type": one["type"], "fun": one["fun"]} for one in constraints]
+    for slopes, held in (gradient, constraints), ("2-point", bare), ("3-point", bare):
+        found = minimize(objective, SET_POINT, jac=slopes, method="SLSQP", constraints=held,
+                         bounds=list(zip(LOWER, UPPER)), options={"ftol": TOLERANCE})
+        how = f", {slopes}" if isinstance(slopes, str) else ""
+        show(f"SciPy {scipy.__version__}{how}", found.x, found.nfev)
 
 
 def by_nlopt():
@@ -111,7 +114,7 @@ def by_nlopt():
 
 
 def main():
-    print("exact          openings {:.12f} and {:.12f}, header at {:.12f} bar".format(*answer()))
+    print("exact                 openings {:.12f} and {:.12f}, header at {:.12f} bar".format(*answer()))
     for peer in by_scipy, by_nlopt:
         try:
             peer()

@@ -435,7 +435,8 @@ enum {
 /* Begins a search of n variables, from 1 to 16, and m constraints, from 0 to 16. In: kinds (m; 0 an
  * equality, 1 a floor: there are no bands), lower and upper (n each; -infinity and +infinity are
  * open), the start x (n), ftol, the budget, from 0 to GRITSTRUT_SEARCH_BUDGET, and the scheme: 0,
- * slopes are told. Out: machine and words, whole: what they held before does not matter. After 1 to 4
+ * slopes are told; 1, they are worked out by forward differences, or 2, by central ones, of single
+ * values that are asked for. Out: machine and words, whole: what they held before does not matter. After 1 to 4
  * comes 10 for ftol, then 15 with the lowest variable in place, then 16. With 17 the start is not
  * finite: the machine is written, and its run is over. With 0 look at words[0]. */
 uint32_t gritstrut_search_begin(size_t n, size_t m, const uint8_t *kinds, size_t kinds_len,

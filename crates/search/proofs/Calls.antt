@@ -17,7 +17,7 @@ use Rattle.workspace.specs.declared.Refusal.the-variants.{Tolerance, Crossed, U
 use Rattle.step_call.specs.Strict.{isBounded}
 use Rattle.step_call.specs.Claims.{LowestBound, all-bounded, wrong-bound}
 use Rattle.step_call.proofs.Strictly.{lowest-variable}
-use Rattle.search.specs.Setup.{Setup, isBudget, isAdmitted, areKinds, Question}
+use Rattle.search.specs.Setup.{Setup, isBudget, isScheme, areKinds, Question}
 use Rattle.search.specs.Written.{Script, ends, asks, Standing, over, waits, written, stands, follow, play}
 use Rattle.search.specs.Machine.{Machine, ended, begin, tell, tellAll, standing}
 use Rattle.search.specs.Layout.{setupIn, machineIn, setupFloats, setupWords, machineFloats, machineWords, Fits, Posed, Holds}
@@ -161,7 +161,7 @@ module _ (p : Setup) (i : ℕ) (h : i < p .n) where
 
 pub bounds-first : BoundsFirst
 bounds-first p scheme x b f u w iw e i h =
-    tested p i h (isDimension (p .n) && isConstraints (p .m) && isBudget b && isAdmitted scheme)
+    tested p i h (isDimension (p .n) && isConstraints (p .m) && isBudget b && isScheme scheme)
     (has (p .kinds) (p .m) && has (p .lower) (p .n) && has (p .upper) (p .n) && has x (p .n) && has f 1024 && has u 32) (isRoom w iw) (areKinds (p .kinds)) (le +0 (p .ftol))
     (test (areOrdered (p .n) (p .lower) (p .upper)) Crossed (done (begin p x b))) _
     (lowest-variable Machine (p .lower) (p .upper) (p .n) (test (areOrdered (p .n) (p .lower) (p .upper)) Crossed (done (begin p x b)))) e

@@ -11,7 +11,7 @@ use Rattle.workspace.specs.declared.Outcome.{Outcome}
 use Rattle.workspace.specs.declared.Outcome.the-variants.{Done, Refused}
 use Rattle.workspace.specs.Tables.{Answer, done, refused, call, test, output, floats, words, isDimension, isConstraints, isRoom, has}
 use Rattle.step_call.specs.Strict.{bounds}
-use Rattle.search.specs.Setup.{Setup, isBudget, isAdmitted, areKinds, Question, values, slopes, single, Ending, converged, infeasible, exhausted, nonfinite}
+use Rattle.search.specs.Setup.{Setup, isBudget, isScheme, areKinds, Question, values, slopes, single, Ending, converged, infeasible, exhausted, nonfinite}
 use Rattle.search.specs.Written.{Standing, over, waits}
 use Rattle.search.specs.Machine.{Machine, ended, starting, trying, sloping, raised, lowered, begin, tell, standing}
 use Rattle.search.specs.Layout.{schemeOf, setupIn, machineIn, setupFloats, setupWords, machineFloats, machineWords}
@@ -31,7 +31,7 @@ setupOf n m kinds lower upper ftol scheme = record { n = n; m = m; kinds = kinds
 -- then each bound, as in the strict step; then that they are in order.
 abbrev pub beginCall : (p : Setup) (scheme : ℕ) (x : List Float) (b : ℕ) (f : List Float) (u : List ℕ) (w : List Float) (iw : List ℕ) → Answer Machine
 beginCall p scheme x b f u w iw =
-    call (isDimension (p .n) && isConstraints (p .m) && isBudget b && isAdmitted scheme)
+    call (isDimension (p .n) && isConstraints (p .m) && isBudget b && isScheme scheme)
     (has (p .kinds) (p .m) && has (p .lower) (p .n) && has (p .upper) (p .n) && has x (p .n) && has f 1024 && has u 32)
     (isRoom w iw) (areKinds (p .kinds))
     (test (le +0 (p .ftol)) Tolerance (bounds (p .lower) (p .upper) (p .n) 0 (test (areOrdered (p .n) (p .lower) (p .upper)) Crossed (done (begin p x b)))))

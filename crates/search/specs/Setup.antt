@@ -21,15 +21,12 @@ pub record Setup : Type 0 where
   pub ftol : Float
   pub scheme : Scheme
 
--- how many objective values a run may cost; the number of a scheme, and of one that a run may begin with
+-- how many objective values a run may cost, and the number of a scheme
 abbrev pub isBudget : ℕ → Bool
 isBudget b = leb b 10000
 
 abbrev pub isScheme : ℕ → Bool
 isScheme k = leb k 2
-
-abbrev pub isAdmitted : ℕ → Bool
-isAdmitted k = leb k 0
 
 -- every kind is 0 or 1: a search has no bands
 unfoldable pub areKinds : List ℕ → Bool

@@ -17,7 +17,7 @@ use Rattle.workspace.specs.declared.Outcome.{Outcome}
 use Rattle.workspace.specs.declared.Outcome.the-variants.{Refused}
 use Rattle.workspace.specs.inner.Readings.{Cleared}
 use Rattle.workspace.proofs.Tests.{and-true, dimension-le, dimension-ge, constraints-le, has-length}
-use Rattle.search.specs.Setup.{Setup, isBudget, isAdmitted, areKinds, Report, Ending, converged, infeasible, exhausted, nonfinite}
+use Rattle.search.specs.Setup.{Setup, isBudget, isScheme, areKinds, Report, Ending, converged, infeasible, exhausted, nonfinite}
 use Rattle.search.specs.Written.{Standing, over, waits}
 use Rattle.search.specs.Machine.{Machine, ended, starting, trying, sloping, raised, lowered, begin, tell, standing}
 use Rattle.search.specs.Layout.{laid, fronted, setupIn, stateIn, areWords, machineIn, machineWords, Posed}
@@ -76,17 +76,17 @@ lengths-rest a b c d h k = rw h k
 
 -- what the tests show where none refuses
 pub begins-of : (n m b s : ℕ) (kinds : List ℕ) (lower upper x f : List Float) (u : List ℕ) (ftol : Float)
-    → (isDimension n && isConstraints m && isBudget b && isAdmitted s) ≡ true → (has kinds m && has lower n && has upper n && has x n) ≡ true → (has f 1024 && has u 32) ≡ true
+    → (isDimension n && isConstraints m && isBudget b && isScheme s) ≡ true → (has kinds m && has lower n && has upper n && has x n) ≡ true → (has f 1024 && has u 32) ≡ true
     → areKinds kinds ≡ true → Begins (setupOf n m kinds lower upper ftol s) x f u × (s ≤ 2)
 begins-of n m b s kinds lower upper x f u ftol hs hl hm hk =
-    let s₁ = and-true (isDimension n && isConstraints m && isBudget b) (isAdmitted s) hs in
+    let s₁ = and-true (isDimension n && isConstraints m && isBudget b) (isScheme s) hs in
     let s₂ = and-true (isDimension n && isConstraints m) (isBudget b) (s₁ .0) in
     let s₃ = and-true (isDimension n) (isConstraints m) (s₂ .0) in
     let l₁ = and-true (has kinds m && has lower n && has upper n) (has x n) hl in
     let l₂ = and-true (has kinds m && has lower n) (has upper n) (l₁ .0) in
     let l₃ = and-true (has kinds m) (has lower n) (l₂ .0) in
     let m₁ = and-true (has f 1024) (has u 32) hm in
-    let z = leb-true s 0 (s₁ .1) in (
+    let z = leb-true s 2 (s₁ .1) in (
       record {
         posed =
             record {

@@ -8,7 +8,7 @@ ghost use lib.Ieee.{le};
 ghost use Rattle.numbers.specs.Numbers.{+0, nth};
 ghost use Rattle.workspace.specs.Tables.{isDimension, isConstraints};
 ghost use Rattle.workspace.specs.inner.Readings.{nums};
-ghost use Rattle.search.specs.Setup.{isBudget, isScheme, isAdmitted, areKinds};
+ghost use Rattle.search.specs.Setup.{isBudget, isScheme, areKinds};
 ghost use Rattle.search.specs.Turn.{backtracks};
 ghost use Rattle.search.specs.Layout.{areWords};
 ghost use Rattle.search.specs.Promise.{areOrdered};
@@ -17,9 +17,7 @@ ghost use Rattle.search_call.specs.inner.Work.{questionIn, isTold};
 
 // The most objective values that a run may cost.
 pub const MOST_VALUES: u32 = 10000;
-// The last scheme that a run may begin with, and the last one that there is.
-pub const LAST_ADMITTED: u32 = 0;
-
+// The last scheme.
 pub const LAST_SCHEME: u32 = 2;
 // The trials after the first one of a line.
 pub const BACKTRACKS: u32 = 10;
@@ -35,7 +33,7 @@ fn wide(x: u32) -> usize
 
 // The numbers of variables and constraints, the budget and the scheme.
 pub fn are_sizes(n: usize, m: usize, budget: u32, scheme: u32) -> bool
-    ensures { λ r. ⌜ r ≡ (isDimension n && isConstraints m && isBudget budget && isAdmitted scheme) ⌝ }
+    ensures { λ r. ⌜ r ≡ (isDimension n && isConstraints m && isBudget budget && isScheme scheme) ⌝ }
 {
     if !step_call::are_sizes(n, m) {
         return false;
@@ -43,7 +41,7 @@ pub fn are_sizes(n: usize, m: usize, budget: u32, scheme: u32) -> bool
     if budget > MOST_VALUES {
         return false;
     }
-    if scheme > LAST_ADMITTED {
+    if scheme > LAST_SCHEME {
         return false;
     }
     true

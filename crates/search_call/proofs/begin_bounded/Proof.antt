@@ -8,41 +8,32 @@ use borrow.Author.Needs.{needs}
 use Rattle.search_call.proofs.begin_bounded.Statement.{statement}
 use Rattle.search_call.proofs.begin_bounded.Tie as tie
 
--- src/lib.rt:64:9
 are-ordered-requires : tie.Need-are-ordered-requires
 are-ordered-requires c κs = let q = c .before .before .before .before .before .before .before .before .pre .0 .posed in (q .lower, q .upper)
 
--- src/lib.rt:65:9
 returns : tie.Need-returns
 returns c =
     let a = c .before .before .before .before .before .before .before .before .before .before .args in
     crossed-refused (setupOf (a .n) (a .m) (a .kinds .now) (a .lower .now) (a .upper .now) (a .ftol) (a .scheme)) (a .machine .now) (a .w .now) (a .words .now) (a .iw .now) _ _ (sym (c .before .are-ordered .ensures) ∙ not-true _ (c .if1 .taken))
 
--- src/lib.rt:67:9
 begin-posed-requires : tie.Need-begin-posed-requires
 begin-posed-requires c κs = let s = c .before .before .before .before .before .before .before .before .before .before .before .before in (s .pre .0, s .pre .1)
 
--- src/lib.rt:68:5
 clear-requires : tie.Need-clear-requires
 clear-requires c κs = let s = c .before .before .before .before .before .before .before .before .before .before .before .before .before .before .before .before .before .before .before in (s .pre .2, s .pre .3)
 
--- src/lib.rt:46:1
 same-length : tie.Need-same-length
 same-length c = search needs
 
--- src/lib.rt:46:1
 same-length-2 : tie.Need-same-length-2
 same-length-2 c = search needs
 
--- src/lib.rt:46:1
 same-length-3 : tie.Need-same-length-3
 same-length-3 c = search needs
 
--- src/lib.rt:46:1
 same-length-4 : tie.Need-same-length-4
 same-length-4 c = search needs
 
--- src/lib.rt:46:1
 returns-2 : tie.Need-returns-2
 returns-2 c =
     let a = c .before .before .before .before .before .before .before .before .before .before .before .before .before .before .before .before .before .before .before .before .before .before .before .before .args in

@@ -9,27 +9,21 @@ use borrow.Author.Needs.{needs}
 use Rattle.search_call.proofs.hear_all.Statement.{statement}
 use Rattle.search_call.proofs.hear_all.Tie as tie
 
--- src/lib.rt:83:13
 slice-relend-prefix-v : tie.Need-slice-relend-prefix-v
 slice-relend-prefix-v c = c .before .before .before .before .before .pre .1
 
--- src/lib.rt:83:9
 slice-aggregate-v : tie.Need-slice-aggregate-v
 slice-aggregate-v c = let s = c .before .before .before .before .before .before in sym (length-take-le 8192 (s .args .w .now) (s .pre .1))
 
--- src/lib.rt:84:13
 slice-relend-prefix-l : tie.Need-slice-relend-prefix-l
 slice-relend-prefix-l c = c .before .before .before .before .before .before .pre .2
 
--- src/lib.rt:84:9
 slice-aggregate-l : tie.Need-slice-aggregate-l
 slice-aggregate-l c = let s = c .before .before .before .before .before .before .before in sym (length-take-le 512 (s .args .iw .now) (s .pre .2))
 
--- src/lib.rt:85:5
 hear-requires : tie.Need-hear-requires
 hear-requires c κs = let s = c .before .before .before .before .before .before .before .before .before in (s .pre .0, omega (arith, length-take-le 8192 (s .args .w .now) (s .pre .1)), omega (arith, length-take-le 512 (s .args .iw .now) (s .pre .2)))
 
--- src/lib.rt:86:5
 clear-requires : tie.Need-clear-requires
 clear-requires c κs =
     let s = c .before .before .before .before .before .before .before .before .before .before .before .before .before .before .before .before .before .before .before .before in
@@ -38,31 +32,24 @@ clear-requires c κs =
     let lu = h .kept .1 .1 .1 .1 .0 ∙ length-take-le 512 (s .args .iw .now) (s .pre .2) in
     (front-long 8192 (h .last .1 .1 .1 .0) (s .args .w .now) lv, front-long 512 (h .last .1 .1 .1 .1 .0) (s .args .iw .now) lu)
 
--- src/lib.rt:87:16
 slice-read-outcome-of : tie.Need-slice-read-outcome-of
 slice-read-outcome-of c = omega (arith, c .before .before .before .before .before .before .before .before .before .before .before .before .before .before .before .before .before .before .before .before .before .before .before .before .before .before .pre .0 .words)
 
--- src/lib.rt:87:5
 outcome-of-requires : tie.Need-outcome-of-requires
 outcome-of-requires c κs = tt
 
--- src/lib.rt:73:1
 same-length : tie.Need-same-length
 same-length c = search needs
 
--- src/lib.rt:73:1
 same-length-2 : tie.Need-same-length-2
 same-length-2 c = search needs
 
--- src/lib.rt:73:1
 same-length-3 : tie.Need-same-length-3
 same-length-3 c = search needs
 
--- src/lib.rt:73:1
 same-length-4 : tie.Need-same-length-4
 same-length-4 c = search needs
 
--- src/lib.rt:73:1
 returns : tie.Need-returns
 returns c =
     let s = c .before .before .before .before .before .before .before .before .before .before .before .before .before .before .before .before .before .before .before .before .before .before .before .before .before .before .before in

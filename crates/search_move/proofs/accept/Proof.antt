@@ -4,23 +4,18 @@ use Rattle.search_move.proofs.Iterates.{accepted}
 use Rattle.search_move.proofs.accept.Statement.{statement}
 use Rattle.search_move.proofs.accept.Tie as tie
 
--- src/lib.rt:89:39
 add-copy-down : tie.Need-add-copy-down
 add-copy-down c = omega arith
 
--- src/lib.rt:89:5
 copy-down-requires : tie.Need-copy-down-requires
 copy-down-requires c κs = (omega arith, omega arith)
 
--- src/lib.rt:90:5
 copy-down-requires-2 : tie.Need-copy-down-requires-2
 copy-down-requires-2 c κs = (omega arith, omega arith)
 
--- src/lib.rt:85:1
 same-length : tie.Need-same-length
 same-length c = omega arith
 
--- src/lib.rt:85:1
 returns : tie.Need-returns
 returns c =
     let a = c .before .before .before .before .before .before .before .before .before .args in

@@ -17,35 +17,27 @@ Inv-loop y₀ f w n m i₀ y i = (i ≤ n) × Fill i (λ k. lagrangianAt n (vec 
 abbrev μ-loop : tie.MeasureT-loop
 μ-loop y₀ f w n m i₀ y i = n - i
 
--- src/lib.rt:42:5
 loop-holds : tie.Need-loop-holds Inv-loop μ-loop
 loop-holds c = (omega arith, fill-none _ _)
 
--- src/lib.rt:43:16
 lagrangian-at-requires : tie.Need-lagrangian-at-requires Inv-loop μ-loop
 lagrangian-at-requires c κs = (omega arith, omega arith, omega arith, omega arith, omega arith, omega arith)
 
--- src/lib.rt:43:50
 lagrangian-at-requires-2 : tie.Need-lagrangian-at-requires-2 Inv-loop μ-loop
 lagrangian-at-requires-2 c κs = let a = c .before .before .before .before .before .before .args in (omega (arith, slopes-few (a .n) (a .m) (omega arith) (omega arith)), omega arith, omega arith, omega arith, omega arith, omega arith)
 
--- src/lib.rt:43:9
 mul-y : tie.Need-mul-y Inv-loop μ-loop
 mul-y c = omega arith
 
--- src/lib.rt:43:9
 slice-write-y : tie.Need-slice-write-y Inv-loop μ-loop
 slice-write-y c = omega arith
 
--- src/lib.rt:42:9
 add-i : tie.Need-add-i Inv-loop μ-loop
 add-i c = omega arith
 
--- src/lib.rt:42:5
 loop-less : tie.Need-loop-less Inv-loop μ-loop
 loop-less c = omega arith
 
--- src/lib.rt:42:5
 loop-again : tie.Need-loop-again Inv-loop μ-loop
 loop-again c =
     let l = c .before .before .before .loop in
@@ -53,11 +45,9 @@ loop-again c =
     let b = c .lagrangian-at2 .ensures in
     (omega arith, fill-more (l .inv .1) (omega arith) (λ t. a t ⊖ b t))
 
--- src/lib.rt:38:1
 same-length : tie.Need-same-length Inv-loop μ-loop
 same-length c = omega arith
 
--- src/lib.rt:38:1
 returns : tie.Need-returns Inv-loop μ-loop
 unfolding changeIn
 returns c = fill-all (c .before .loop .inv .1) (omega arith) (omega arith)

@@ -12,35 +12,27 @@ use borrow.Author.Needs.{needs}
 use Rattle.search_move.proofs.identity_in.Statement.{statement}
 use Rattle.search_move.proofs.identity_in.Tie as tie
 
--- src/lib.rt:80:19
 mul-e : tie.Need-mul-e
 mul-e c = omega (arith, square-few (c .before .args .n) (omega arith))
 
--- src/lib.rt:80:13
 add-e : tie.Need-add-e
 add-e c = omega (arith, square-few (c .before .args .n) (omega arith))
 
--- src/lib.rt:81:31
 sub-identity-into : tie.Need-sub-identity-into
 sub-identity-into c = omega (arith, square-few (c .before .args .n) (omega arith))
 
--- src/lib.rt:81:31
 part-identity-into-start : tie.Need-part-identity-into-start
 part-identity-into-start c = omega (arith, square-few (c .before .args .n) (omega arith))
 
--- src/lib.rt:81:31
 part-identity-into-end : tie.Need-part-identity-into-end
 part-identity-into-end c = omega (arith, square-few (c .before .args .n) (omega arith))
 
--- src/lib.rt:81:5
 identity-into-requires : tie.Need-identity-into-requires
 identity-into-requires c κs = let a = c .before .before .args in lent-length 720 (a .n * a .n) (a .f .now) (omega (arith, square-few (a .n) (omega arith)))
 
--- src/lib.rt:76:1
 same-length : tie.Need-same-length
 same-length c = search needs
 
--- src/lib.rt:76:1
 returns : tie.Need-returns
 returns c =
     let a = c .before .before .before .before .before .args in

@@ -15,71 +15,54 @@ Inv-loop g f o n m i total₀ j₀ total j = (j ≤ m) × (total ≡ lagrangianA
 abbrev μ-loop : tie.MeasureT-loop
 μ-loop g f o n m i total₀ j₀ total j = m - j
 
--- src/lib.rt:21:23
 add-total : tie.Need-add-total Inv-loop μ-loop
 add-total c = let a = c .args in omega (arith, index-lt (suc (a .m)) (a .n) 0 (a .i) (omega arith) (omega arith))
 
--- src/lib.rt:21:21
 mul-total : tie.Need-mul-total Inv-loop μ-loop
 mul-total c = let a = c .args in omega (arith, index-lt (suc (a .m)) (a .n) 0 (a .i) (omega arith) (omega arith))
 
--- src/lib.rt:21:21
 shared-slice-read-total : tie.Need-shared-slice-read-total Inv-loop μ-loop
 shared-slice-read-total c = let a = c .before .args in omega (arith, index-lt (suc (a .m)) (a .n) 0 (a .i) (omega arith) (omega arith))
 
--- src/lib.rt:22:5
 loop-holds : tie.Need-loop-holds Inv-loop μ-loop
 loop-holds c = let a = c .before .args in (omega arith, lagrangian-none (a .n) (a .m) (a .o) (a .g .now) (a .f .now) (a .i) (omega arith))
 
--- src/lib.rt:23:27
 add-total-2 : tie.Need-add-total-2 Inv-loop μ-loop
 add-total-2 c = omega arith
 
--- src/lib.rt:23:25
 mul-total-2 : tie.Need-mul-total-2 Inv-loop μ-loop
 mul-total-2 c = omega arith
 
--- src/lib.rt:23:25
 shared-slice-read-total-2 : tie.Need-shared-slice-read-total-2 Inv-loop μ-loop
 shared-slice-read-total-2 c = omega arith
 
--- src/lib.rt:23:44
 add-total-3 : tie.Need-add-total-3 Inv-loop μ-loop
 add-total-3 c = let a = c .before .before .before .before .args in let l = c .before .before .loop in omega (arith, index-lt (suc (a .m)) (a .n) (suc (l .j)) (a .i) (omega arith) (omega arith))
 
--- src/lib.rt:23:43
 mul-total-3 : tie.Need-mul-total-3 Inv-loop μ-loop
 mul-total-3 c = let a = c .before .before .before .before .args in let l = c .before .before .loop in omega (arith, index-lt (suc (a .m)) (a .n) (suc (l .j)) (a .i) (omega arith) (omega arith))
 
--- src/lib.rt:23:39
 add-total-4 : tie.Need-add-total-4 Inv-loop μ-loop
 add-total-4 c = let a = c .before .before .before .before .args in let l = c .before .before .loop in omega (arith, index-lt (suc (a .m)) (a .n) (suc (l .j)) (a .i) (omega arith) (omega arith))
 
--- src/lib.rt:23:39
 add-total-5 : tie.Need-add-total-5 Inv-loop μ-loop
 add-total-5 c = let a = c .before .before .before .before .args in let l = c .before .before .loop in omega (arith, index-lt (suc (a .m)) (a .n) (suc (l .j)) (a .i) (omega arith) (omega arith))
 
--- src/lib.rt:23:37
 mul-total-4 : tie.Need-mul-total-4 Inv-loop μ-loop
 mul-total-4 c = let a = c .before .before .before .before .args in let l = c .before .before .loop in omega (arith, index-lt (suc (a .m)) (a .n) (suc (l .j)) (a .i) (omega arith) (omega arith))
 
--- src/lib.rt:23:37
 shared-slice-read-total-3 : tie.Need-shared-slice-read-total-3 Inv-loop μ-loop
 shared-slice-read-total-3 c = let a = c .before .before .before .before .before .args in let l = c .before .before .before .loop in omega (arith, index-lt (suc (a .m)) (a .n) (suc (l .j)) (a .i) (omega arith) (omega arith))
 
--- src/lib.rt:22:9
 add-j : tie.Need-add-j Inv-loop μ-loop
 add-j c = omega arith
 
--- src/lib.rt:22:5
 loop-less : tie.Need-loop-less Inv-loop μ-loop
 loop-less c = omega arith
 
--- src/lib.rt:22:5
 loop-again : tie.Need-loop-again Inv-loop μ-loop
 loop-again c = let a = c .before .before .before .before .before .args in let l = c .before .before .before .loop in (omega arith, lagrangian-more (a .n) (a .m) (a .o) (a .g .now) (a .f .now) (a .i) (omega arith) (l .j) (l .total) (omega arith) (l .inv .1))
 
--- src/lib.rt:17:1
 returns : tie.Need-returns Inv-loop μ-loop
 returns c = let a = c .before .before .before .args in let l = c .before .loop in lagrangian-done (a .n) (a .m) (a .o) (a .g .now) (a .f .now) (a .i) (omega arith) (l .j) (l .total) (omega arith) (omega arith) (l .inv .1)
 

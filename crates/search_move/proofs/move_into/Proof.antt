@@ -14,59 +14,45 @@ Inv-loop s₀ f n i₀ s i = (i ≤ n) × Fill i (λ k. at f (112 + k) ⊖ at f 
 abbrev μ-loop : tie.MeasureT-loop
 μ-loop s₀ f n i₀ s i = n - i
 
--- src/lib.rt:33:5
 loop-holds : tie.Need-loop-holds Inv-loop μ-loop
 loop-holds c = (omega arith, fill-none _ _)
 
--- src/lib.rt:34:18
 add-s : tie.Need-add-s Inv-loop μ-loop
 add-s c = omega arith
 
--- src/lib.rt:34:16
 mul-s : tie.Need-mul-s Inv-loop μ-loop
 mul-s c = omega arith
 
--- src/lib.rt:34:16
 shared-slice-read-s : tie.Need-shared-slice-read-s Inv-loop μ-loop
 shared-slice-read-s c = omega arith
 
--- src/lib.rt:34:31
 add-s-2 : tie.Need-add-s-2 Inv-loop μ-loop
 add-s-2 c = omega arith
 
--- src/lib.rt:34:29
 mul-s-2 : tie.Need-mul-s-2 Inv-loop μ-loop
 mul-s-2 c = omega arith
 
--- src/lib.rt:34:29
 shared-slice-read-s-2 : tie.Need-shared-slice-read-s-2 Inv-loop μ-loop
 shared-slice-read-s-2 c = omega arith
 
--- src/lib.rt:34:9
 mul-s-3 : tie.Need-mul-s-3 Inv-loop μ-loop
 mul-s-3 c = omega arith
 
--- src/lib.rt:34:9
 slice-write-s : tie.Need-slice-write-s Inv-loop μ-loop
 slice-write-s c = omega arith
 
--- src/lib.rt:33:9
 add-i : tie.Need-add-i Inv-loop μ-loop
 add-i c = omega arith
 
--- src/lib.rt:33:5
 loop-less : tie.Need-loop-less Inv-loop μ-loop
 loop-less c = omega arith
 
--- src/lib.rt:33:5
 loop-again : tie.Need-loop-again Inv-loop μ-loop
 loop-again c = let l = c .before .before .before .loop in (omega arith, fill-more (l .inv .1) (omega arith) refl)
 
--- src/lib.rt:29:1
 same-length : tie.Need-same-length Inv-loop μ-loop
 same-length c = omega arith
 
--- src/lib.rt:29:1
 returns : tie.Need-returns Inv-loop μ-loop
 unfolding moveIn
 returns c = fill-all (c .before .loop .inv .1) (omega arith) (omega arith)

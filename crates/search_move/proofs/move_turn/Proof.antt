@@ -7,39 +7,30 @@ use borrow.Author.Needs.{needs}
 use Rattle.search_move.proofs.move_turn.Statement.{statement}
 use Rattle.search_move.proofs.move_turn.Tie as tie
 
--- src/lib.rt:124:5
 renew-for-requires : tie.Need-renew-for-requires
 renew-for-requires c κs = let a = c .before .before .before .before .args in let r = c .before .before .before .before .pre .0 in (omega (arith, r .floats, r .few, r .constraints, slopes-few (a .n) (a .m) (r .few) (r .constraints)), omega (arith, r .floats, r .few, r .constraints, slopes-few (a .n) (a .m) (r .few) (r .constraints)), omega (arith, r .floats, r .few, r .constraints, slopes-few (a .n) (a .m) (r .few) (r .constraints)), omega (arith, r .floats, r .few, r .constraints, slopes-few (a .n) (a .m) (r .few) (r .constraints)))
 
--- src/lib.rt:125:5
 accept-requires : tie.Need-accept-requires
 accept-requires c κs = let r = c .before .before .before .before .before .before .before .before .pre .0 in (omega (arith, r .floats, r .few, r .constraints), omega (arith, r .floats, r .few, r .constraints), omega (arith, r .floats, r .few, r .constraints))
 
--- src/lib.rt:126:33
 add-load : tie.Need-add-load
 add-load c = let r = c .before .before .before .before .before .before .before .before .before .before .before .before .pre .0 in omega (arith, r .floats, r .words, r .few, r .constraints)
 
--- src/lib.rt:126:32
 mul-load : tie.Need-mul-load
 mul-load c = let a = c .before .before .before .before .before .before .before .before .before .before .before .before .args in let r = c .before .before .before .before .before .before .before .before .before .before .before .before .pre .0 in omega (arith, r .floats, r .words, r .few, r .constraints, slopes-few (a .n) (a .m) (r .few) (r .constraints))
 
--- src/lib.rt:126:5
 load-requires : tie.Need-load-requires
 load-requires c κs = let a = c .before .before .before .before .before .before .before .before .before .before .before .before .args in let r = c .before .before .before .before .before .before .before .before .before .before .before .before .pre .0 in (omega (arith, r .floats, r .few, r .constraints, slopes-few (a .n) (a .m) (r .few) (r .constraints)), omega (arith, r .floats, r .few, r .constraints, slopes-few (a .n) (a .m) (r .few) (r .constraints)))
 
--- src/lib.rt:127:5
 slice-write-u : tie.Need-slice-write-u
 slice-write-u c = let r = c .before .before .before .before .before .before .before .before .before .before .before .before .before .before .before .pre .0 in omega (arith, r .floats, r .words, r .few, r .constraints)
 
--- src/lib.rt:120:1
 same-length : tie.Need-same-length
 same-length c = search needs
 
--- src/lib.rt:120:1
 same-length-2 : tie.Need-same-length-2
 same-length-2 c = search needs
 
--- src/lib.rt:120:1
 returns : tie.Need-returns
 returns c =
     let s = c .before .before .before .before .before .before .before .before .before .before .before .before .before .before .before in

@@ -8,55 +8,42 @@ use borrow.Author.Needs.{needs}
 use Rattle.search_move.proofs.renew_for.Statement.{statement}
 use Rattle.search_move.proofs.renew_for.Tie as tie
 
--- src/lib.rt:97:17
 vector-room-requires : tie.Need-vector-room-requires
 vector-room-requires c κs = tt
 
--- src/lib.rt:98:17
 vector-room-requires-2 : tie.Need-vector-room-requires-2
 vector-room-requires-2 c κs = tt
 
--- src/lib.rt:99:15
 array-borrow-prefix-s : tie.Need-array-borrow-prefix-s
 array-borrow-prefix-s c = omega (arith, c .before .vector-room .ensures)
 
--- src/lib.rt:99:15
 slice-aggregate-move-into : tie.Need-slice-aggregate-move-into
 slice-aggregate-move-into c = sym (length-take-le (c .before .before .before .before .before .args .n) (c .before .before .vector-room .result) (omega (arith, c .before .before .vector-room .ensures)))
 
--- src/lib.rt:99:5
 move-into-requires : tie.Need-move-into-requires
 move-into-requires c κs = (length-take-le (c .before .before .before .before .before .before .args .n) (c .before .before .before .vector-room .result) (omega (arith, c .before .before .before .vector-room .ensures)), omega arith, omega arith)
 
--- src/lib.rt:100:17
 array-borrow-prefix-y : tie.Need-array-borrow-prefix-y
 array-borrow-prefix-y c = omega (arith, c .before .before .before .before .vector-room2 .ensures)
 
--- src/lib.rt:100:17
 slice-aggregate-change-into : tie.Need-slice-aggregate-change-into
 slice-aggregate-change-into c = sym (length-take-le (c .before .before .before .before .before .before .before .before .before .args .n) (c .before .before .before .before .before .vector-room2 .result) (omega (arith, c .before .before .before .before .before .vector-room2 .ensures)))
 
--- src/lib.rt:100:5
 change-into-requires : tie.Need-change-into-requires
 change-into-requires c κs = (length-take-le (c .before .before .before .before .before .before .before .before .before .before .args .n) (c .before .before .before .before .before .before .vector-room2 .result) (omega (arith, c .before .before .before .before .before .before .vector-room2 .ensures)), omega arith, omega arith, omega arith, omega arith)
 
--- src/lib.rt:101:17
 array-share-prefix-s : tie.Need-array-share-prefix-s
 array-share-prefix-s c = let a = c .before .before .before .before .before .before .before .before .before .before .before .before .before .args in front-le (a .n) (c .before .before .before .before .before .before .move-into .last .0) (drop (a .n) (c .before .before .before .before .before .before .before .before .before .before .vector-room .result)) (move-length (a .n) (a .f .now) _ (c .before .before .before .before .before .before .move-into .ensures))
 
--- src/lib.rt:101:17
 slice-aggregate-renew-in : tie.Need-slice-aggregate-renew-in
 slice-aggregate-renew-in c = let a = c .before .before .before .before .before .before .before .before .before .before .before .before .before .before .args in sym (front-length (a .n) (c .before .before .before .before .before .before .before .move-into .last .0) _ (move-length (a .n) (a .f .now) _ (c .before .before .before .before .before .before .before .move-into .ensures)))
 
--- src/lib.rt:101:26
 array-share-prefix-y : tie.Need-array-share-prefix-y
 array-share-prefix-y c = let a = c .before .before .before .before .before .before .before .before .before .before .before .before .before .before .args in front-le (a .n) (c .before .before .before .change-into .last .0) (drop (a .n) (c .before .before .before .before .before .before .before .before .before .before .vector-room2 .result)) (change-length (a .n) (a .m) (a .f .now) (a .w .now) _ (c .before .before .before .change-into .ensures))
 
--- src/lib.rt:101:26
 slice-aggregate-renew-in-2 : tie.Need-slice-aggregate-renew-in-2
 slice-aggregate-renew-in-2 c = let a = c .before .before .before .before .before .before .before .before .before .before .before .before .before .before .before .args in sym (front-length (a .n) (c .before .before .before .before .change-into .last .0) _ (change-length (a .n) (a .m) (a .f .now) (a .w .now) _ (c .before .before .before .before .change-into .ensures)))
 
--- src/lib.rt:101:5
 renew-in-requires : tie.Need-renew-in-requires
 renew-in-requires c κs =
     let a = c .before .before .before .before .before .before .before .before .before .before .before .before .before .before .before .args in
@@ -64,11 +51,9 @@ renew-in-requires c κs =
     let y = front-length (a .n) (c .before .before .before .before .change-into .last .0) (drop (a .n) (c .before .before .before .before .before .before .before .before .before .before .before .vector-room2 .result)) (change-length (a .n) (a .m) (a .f .now) (a .w .now) _ (c .before .before .before .before .change-into .ensures)) in
     (omega arith, s, y, omega arith)
 
--- src/lib.rt:93:1
 same-length : tie.Need-same-length
 same-length c = search needs
 
--- src/lib.rt:93:1
 returns : tie.Need-returns
 returns c =
     let a = c .before .before .before .before .before .before .before .before .before .before .before .before .before .before .before .before .before .before .args in

@@ -13,51 +13,39 @@ use borrow.Author.Needs.{needs}
 use Rattle.search_move.proofs.renew_in.Statement.{statement}
 use Rattle.search_move.proofs.renew_in.Tie as tie
 
--- src/lib.rt:69:20
 side-room-requires : tie.Need-side-room-requires
 side-room-requires c κs = tt
 
--- src/lib.rt:70:13
 add-k : tie.Need-add-k
 add-k c = omega arith
 
--- src/lib.rt:71:19
 mul-e : tie.Need-mul-e
 mul-e c = omega (arith, square-few (c .before .before .before .before .args .n) (omega arith))
 
--- src/lib.rt:71:13
 add-e : tie.Need-add-e
 add-e c = omega (arith, square-few (c .before .before .before .before .args .n) (omega arith))
 
--- src/lib.rt:72:23
 sub-renew : tie.Need-sub-renew
 sub-renew c = omega (arith, square-few (c .before .before .before .before .args .n) (omega arith))
 
--- src/lib.rt:72:23
 part-renew-start : tie.Need-part-renew-start
 part-renew-start c = omega (arith, square-few (c .before .before .before .before .args .n) (omega arith))
 
--- src/lib.rt:72:23
 part-renew-end : tie.Need-part-renew-end
 part-renew-end c = omega (arith, square-few (c .before .before .before .before .args .n) (omega arith))
 
--- src/lib.rt:72:45
 array-borrow-prefix-room : tie.Need-array-borrow-prefix-room
 array-borrow-prefix-room c = omega (arith, c .before .side-room .ensures)
 
--- src/lib.rt:72:45
 slice-aggregate-renew : tie.Need-slice-aggregate-renew
 slice-aggregate-renew c = let n = c .before .before .before .before .before .before .args .n in sym (length-take-le (n + n) (c .before .before .side-room .result) (omega (arith, c .before .before .side-room .ensures)))
 
--- src/lib.rt:72:5
 renew-requires : tie.Need-renew-requires
 renew-requires c κs = let a = c .before .before .before .before .before .before .args in (lent-length 720 (a .n * a .n) (a .f .now) (omega (arith, square-few (a .n) (omega arith))), omega arith, omega arith, length-take-le (a .n + a .n) (c .before .before .side-room .result) (omega (arith, c .before .before .side-room .ensures)))
 
--- src/lib.rt:65:1
 same-length : tie.Need-same-length
 same-length c = search needs
 
--- src/lib.rt:65:1
 returns : tie.Need-returns
 returns c =
     let a = c .before .before .before .before .before .before .before .before .before .before .args in

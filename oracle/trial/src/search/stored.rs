@@ -15,7 +15,7 @@ const INPUTS: usize = 7;
 const TOLERANCE: usize = 15;
 
 /// Runs of a kind that the list has, and answers of a run.
-const RUNS: u64 = 2;
+const RUNS: u64 = 3;
 const ANSWERS: usize = 4;
 
 /// What is called.

@@ -10,73 +10,60 @@ use borrow.Author.Needs.{needs}
 use Rattle.search_call.proofs.Search.begin.Statement.{statement}
 use Rattle.search_call.proofs.Search.begin.Tie as tie
 
--- src/lib.rt:109:13
 are-sizes-requires : tie.Need-are-sizes-requires
 are-sizes-requires c κs = tt
 
--- src/lib.rt:110:13
 returns : tie.Need-returns
 returns c =
     let a = c .before .before .before .before .before .before .before .before .before .before .args in
     let p = setupOf (a .n) (a .m) (a .kinds .now) (a .lower .now) (a .upper .now) (a .ftol) (a .scheme) in
     size-refused p (a .machine .now) (a .w .now) (a .words .now) (a .iw .now) _ _ _ _ _ (sym (c .before .are-sizes .ensures) ∙ not-true _ (c .if1 .taken))
 
--- src/lib.rt:112:13
 are-lengths-requires : tie.Need-are-lengths-requires
 are-lengths-requires c κs = tt
 
--- src/lib.rt:113:13
 returns-2 : tie.Need-returns-2
 returns-2 c =
     let a = c .before .before .before .before .before .before .before .before .before .before .before .before .args in
     let p = setupOf (a .n) (a .m) (a .kinds .now) (a .lower .now) (a .upper .now) (a .ftol) (a .scheme) in
     length-refused p (a .machine .now) (a .w .now) (a .words .now) (a .iw .now) _ _ _ _ _ (sym (c .before .before .before .are-sizes .ensures) ∙ not-false _ (c .before .before .if1 .left)) (lengths-bad _ _ _ (sym (c .before .are-lengths .ensures) ∙ not-true _ (c .if2 .taken)))
 
--- src/lib.rt:115:13
 are-slices-requires : tie.Need-are-slices-requires
 are-slices-requires c κs = tt
 
--- src/lib.rt:116:13
 returns-3 : tie.Need-returns-3
 returns-3 c =
     let a = c .before .before .before .before .before .before .before .before .before .before .before .before .before .before .args in
     let p = setupOf (a .n) (a .m) (a .kinds .now) (a .lower .now) (a .upper .now) (a .ftol) (a .scheme) in
     length-refused p (a .machine .now) (a .w .now) (a .words .now) (a .iw .now) _ _ _ _ _ (sym (c .before .before .before .before .before .are-sizes .ensures) ∙ not-false _ (c .before .before .before .before .if1 .left)) (lengths-rest _ _ _ _ (sym (c .before .before .before .are-lengths .ensures) ∙ not-false _ (c .before .before .if2 .left)) (sym (c .before .are-slices .ensures) ∙ not-true _ (c .if3 .taken)))
 
--- src/lib.rt:118:13
 is-room-requires : tie.Need-is-room-requires
 is-room-requires c κs = tt
 
--- src/lib.rt:119:13
 returns-4 : tie.Need-returns-4
 returns-4 c =
     let a = c .before .before .before .before .before .before .before .before .before .before .before .before .before .before .before .before .args in
     let p = setupOf (a .n) (a .m) (a .kinds .now) (a .lower .now) (a .upper .now) (a .ftol) (a .scheme) in
     room-refused p (a .machine .now) (a .w .now) (a .words .now) (a .iw .now) _ _ _ _ _ (sym (c .before .before .before .before .before .before .before .are-sizes .ensures) ∙ not-false _ (c .before .before .before .before .before .before .if1 .left)) (lengths-rest _ _ _ _ (sym (c .before .before .before .before .before .are-lengths .ensures) ∙ not-false _ (c .before .before .before .before .if2 .left)) (sym (c .before .before .before .are-slices .ensures) ∙ not-false _ (c .before .before .if3 .left))) (sym (c .before .is-room .ensures) ∙ not-true _ (c .if4 .taken))
 
--- src/lib.rt:121:13
 are-kinds-requires : tie.Need-are-kinds-requires
 are-kinds-requires c κs = tt
 
--- src/lib.rt:122:13
 returns-5 : tie.Need-returns-5
 returns-5 c =
     let a = c .before .before .before .before .before .before .before .before .before .before .before .before .before .before .before .before .before .before .args in
     let p = setupOf (a .n) (a .m) (a .kinds .now) (a .lower .now) (a .upper .now) (a .ftol) (a .scheme) in
     kind-refused p (a .machine .now) (a .w .now) (a .words .now) (a .iw .now) _ _ _ _ _ (sym (c .before .before .before .before .before .before .before .before .before .are-sizes .ensures) ∙ not-false _ (c .before .before .before .before .before .before .before .before .if1 .left)) (lengths-rest _ _ _ _ (sym (c .before .before .before .before .before .before .before .are-lengths .ensures) ∙ not-false _ (c .before .before .before .before .before .before .if2 .left)) (sym (c .before .before .before .before .before .are-slices .ensures) ∙ not-false _ (c .before .before .before .before .if3 .left))) (sym (c .before .before .before .is-room .ensures) ∙ not-false _ (c .before .before .if4 .left)) (sym (c .before .are-kinds .ensures) ∙ not-true _ (c .if5 .taken))
 
--- src/lib.rt:124:13
 is-tolerance-requires : tie.Need-is-tolerance-requires
 is-tolerance-requires c κs = tt
 
--- src/lib.rt:125:13
 returns-6 : tie.Need-returns-6
 returns-6 c =
     let a = c .before .before .before .before .before .before .before .before .before .before .before .before .before .before .before .before .before .before .before .before .args in
     let p = setupOf (a .n) (a .m) (a .kinds .now) (a .lower .now) (a .upper .now) (a .ftol) (a .scheme) in
     tolerance-refused p (a .machine .now) (a .w .now) (a .words .now) (a .iw .now) _ _ _ _ _ _ (sym (c .before .before .before .before .before .before .before .before .before .before .before .are-sizes .ensures) ∙ not-false _ (c .before .before .before .before .before .before .before .before .before .before .if1 .left)) (lengths-rest _ _ _ _ (sym (c .before .before .before .before .before .before .before .before .before .are-lengths .ensures) ∙ not-false _ (c .before .before .before .before .before .before .before .before .if2 .left)) (sym (c .before .before .before .before .before .before .before .are-slices .ensures) ∙ not-false _ (c .before .before .before .before .before .before .if3 .left))) (sym (c .before .before .before .before .before .is-room .ensures) ∙ not-false _ (c .before .before .before .before .if4 .left)) (sym (c .before .before .before .are-kinds .ensures) ∙ not-false _ (c .before .before .if5 .left)) (sym (c .before .is-tolerance .ensures) ∙ not-true _ (c .if6 .taken))
 
--- src/lib.rt:127:15
 test-bounds-requires : tie.Need-test-bounds-requires
 test-bounds-requires c κs =
     let a = c .before .before .before .before .before .before .before .before .before .before .before .before .before .before .before .before .before .before .before .before .args in
@@ -84,15 +71,12 @@ test-bounds-requires c κs =
     let q = b .posed in
     (q .few, omega (arith, q .lower), omega (arith, q .upper))
 
--- src/lib.rt:128:30
 enum-known-why : tie.Need-enum-known-why
 enum-known-why c = search needs
 
--- src/lib.rt:139:17
 enum-told : tie.Need-enum-told
 enum-told c = search needs
 
--- src/lib.rt:129:30
 begin-bounded-requires : tie.Need-begin-bounded-requires
 begin-bounded-requires c κs =
     let a = c .before .before .before .before .before .before .before .before .before .before .before .before .before .before .before .before .before .before .before .before .before .before .before .before .before .before .before .args in
@@ -100,7 +84,6 @@ begin-bounded-requires c κs =
     let r = room-ge (a .w .now) (a .iw .now) (sym (c .before .before .before .before .before .before .before .before .before .before .before .before .is-room .ensures) ∙ not-false _ (c .before .before .before .before .before .before .before .before .before .before .before .if4 .left)) in
     (b .0, b .1, r .0, r .1)
 
--- src/lib.rt:92:5
 returns-7 : tie.Need-returns-7
 returns-7 c =
     let a = c .before .before .before .before .before .before .before .before .before .before .before .before .before .before .before .before .before .before .before .before .before .before .before .before .args in
@@ -108,23 +91,18 @@ returns-7 c =
     bound-refused p (a .machine .now) (a .w .now) (a .words .now) (a .iw .now) _ _ _ _ _ _ (sym (c .before .before .before .before .before .before .before .before .before .before .before .before .before .before .before .are-sizes .ensures) ∙ not-false _ (c .before .before .before .before .before .before .before .before .before .before .before .before .before .before .if1 .left)) (lengths-rest _ _ _ _ (sym (c .before .before .before .before .before .before .before .before .before .before .before .before .before .are-lengths .ensures) ∙ not-false _ (c .before .before .before .before .before .before .before .before .before .before .before .before .if2 .left)) (sym (c .before .before .before .before .before .before .before .before .before .before .before .are-slices .ensures) ∙ not-false _ (c .before .before .before .before .before .before .before .before .before .before .if3 .left))) (sym (c .before .before .before .before .before .before .before .before .before .is-room .ensures) ∙ not-false _ (c .before .before .before .before .before .before .before .before .if4 .left)) (sym (c .before .before .before .before .before .before .before .are-kinds .ensures) ∙ not-false _ (c .before .before .before .before .before .before .if5 .left)) _ (sym (c .before .before .before .before .before .is-tolerance .ensures) ∙ not-false _ (c .before .before .before .before .if6 .left))
     (all-stop (a .lower .now) (a .upper .now) _ (a .n) 0 _ (sym (c .before .before .before .test-bounds .ensures) ∙ c .before .why .given .1))
 
--- src/lib.rt:92:5
 same-length : tie.Need-same-length
 same-length c = search needs
 
--- src/lib.rt:92:5
 same-length-2 : tie.Need-same-length-2
 same-length-2 c = search needs
 
--- src/lib.rt:92:5
 same-length-3 : tie.Need-same-length-3
 same-length-3 c = search needs
 
--- src/lib.rt:92:5
 same-length-4 : tie.Need-same-length-4
 same-length-4 c = search needs
 
--- src/lib.rt:92:5
 returns-8 : tie.Need-returns-8
 returns-8 c =
     let a = c .before .before .before .before .before .before .before .before .before .before .before .before .before .before .before .before .before .before .before .before .before .before .before .before .before .before .before .before .before .before .before .before .before .before .before .before .args in

@@ -9,82 +9,65 @@ use borrow.Author.Needs.{needs}
 use Rattle.search_call.proofs.Search.tell.Statement.{statement}
 use Rattle.search_call.proofs.Search.tell.Tie as tie
 
--- src/lib.rt:157:13
 are-slices-requires : tie.Need-are-slices-requires
 are-slices-requires c κs = tt
 
--- src/lib.rt:158:13
 returns : tie.Need-returns
 returns c =
     let a = c .before .before .before .before .before .before .before .args in
     slices-refused (a .told .now) (a .machine .now) (a .w .now) (a .words .now) (a .iw .now) (sym (c .before .are-slices .ensures) ∙ not-true _ (c .if1 .taken))
 
--- src/lib.rt:160:13
 question-of-requires : tie.Need-question-of-requires
 question-of-requires c κs = let a = c .before .before .before .before .before .before .before .before .args in has-length (a .words .now) 32 (and-true (has (a .machine .now) 1024) (has (a .words .now) 32) (sym (c .before .before .are-slices .ensures) ∙ not-false _ (c .before .if1 .left)) .1)
 
--- src/lib.rt:161:13
 is-told-requires : tie.Need-is-told-requires
 is-told-requires c κs = let a = c .before .before .before .before .before .before .before .before .before .before .args in (has-length (a .words .now) 32 (and-true (has (a .machine .now) 1024) (has (a .words .now) 32) (sym (c .before .before .before .before .are-slices .ensures) ∙ not-false _ (c .before .before .before .if1 .left)) .1), c .before .question-of .ensures)
 
--- src/lib.rt:162:13
 same-length : tie.Need-same-length
 same-length c = search needs
 
--- src/lib.rt:162:13
 returns-2 : tie.Need-returns-2
 returns-2 c =
     let a = c .before .before .before .before .before .before .before .before .before .before .before .before .args in
     told-refused (a .told .now) (a .machine .now) (a .w .now) (a .words .now) (a .iw .now) (sym (c .before .before .before .before .before .before .are-slices .ensures) ∙ not-false _ (c .before .before .before .before .before .if1 .left)) _ (c .before .before .before .question-of .ensures) (sym (c .before .is-told .ensures) ∙ not-true _ (c .if2 .taken))
 
--- src/lib.rt:164:13
 is-room-requires : tie.Need-is-room-requires
 is-room-requires c κs = tt
 
--- src/lib.rt:165:13
 same-length-2 : tie.Need-same-length-2
 same-length-2 c = search needs
 
--- src/lib.rt:165:13
 returns-3 : tie.Need-returns-3
 returns-3 c =
     let a = c .before .before .before .before .before .before .before .before .before .before .before .before .before .before .args in
     told-room (a .told .now) (a .machine .now) (a .w .now) (a .words .now) (a .iw .now) (sym (c .before .before .before .before .before .before .before .before .are-slices .ensures) ∙ not-false _ (c .before .before .before .before .before .before .before .if1 .left)) _ (c .before .before .before .before .before .question-of .ensures) (sym (c .before .before .before .is-told .ensures) ∙ not-false _ (c .before .before .if2 .left)) (sym (c .before .is-room .ensures) ∙ not-true _ (c .if3 .taken))
 
--- src/lib.rt:168:13
 same-length-3 : tie.Need-same-length-3
 same-length-3 c = search needs
 
--- src/lib.rt:168:13
 returns-4 : tie.Need-returns-4
 returns-4 c =
     let a = c .before .before .before .before .before .before .before .before .before .before .before .before .before .before .before .args in
     told-unasked (a .told .now) (a .machine .now) (a .w .now) (a .words .now) (a .iw .now) (sym (c .before .before .before .before .before .before .before .before .before .are-slices .ensures) ∙ not-false _ (c .before .before .before .before .before .before .before .before .if1 .left)) _ (c .before .before .before .before .before .before .question-of .ensures) (sym (c .before .before .is-room .ensures) ∙ not-false _ (c .before .if3 .left)) (c .if4 .taken)
 
--- src/lib.rt:170:9
 hear-all-requires : tie.Need-hear-all-requires
 hear-all-requires c κs =
     let a = c .before .before .before .before .before .before .before .before .before .before .before .before .before .before .before .before .before .before .before .args in
     let r = room-ge (a .w .now) (a .iw .now) (sym (c .before .before .before .before .before .before .is-room .ensures) ∙ not-false _ (c .before .before .before .before .before .if3 .left)) in
     (heard-of (a .told .now) (a .machine .now) (a .w .now) (a .words .now) (a .iw .now) (sym (c .before .before .before .before .before .before .before .before .before .before .before .before .before .are-slices .ensures) ∙ not-false _ (c .before .before .before .before .before .before .before .before .before .before .before .before .if1 .left)) _ (c .before .before .before .before .before .before .before .before .before .before .question-of .ensures) (sym (c .before .before .before .before .before .before .before .before .is-told .ensures) ∙ not-false _ (c .before .before .before .before .before .before .before .if2 .left)) (c .before .before .before .before .if4 .left), r .0, r .1)
 
--- src/lib.rt:148:5
 same-length-4 : tie.Need-same-length-4
 same-length-4 c = search needs
 
--- src/lib.rt:148:5
 same-length-5 : tie.Need-same-length-5
 same-length-5 c = search needs
 
--- src/lib.rt:148:5
 same-length-6 : tie.Need-same-length-6
 same-length-6 c = search needs
 
--- src/lib.rt:148:5
 same-length-7 : tie.Need-same-length-7
 same-length-7 c = search needs
 
--- src/lib.rt:148:5
 returns-5 : tie.Need-returns-5
 returns-5 c =
     let a = c .before .before .before .before .before .before .before .before .before .before .before .before .before .before .before .before .before .before .before .before .before .before .before .before .before .before .before .before .args in

@@ -8,31 +8,24 @@ use Rattle.search_call.proofs.Posing.{asked-first}
 use Rattle.search_call.proofs.begin.ask_first.Statement.{statement}
 use Rattle.search_call.proofs.begin.ask_first.Tie as tie
 
--- src/begin.rt:105:5
 clip-into-requires : tie.Need-clip-into-requires
 clip-into-requires c κs = (omega arith, omega arith, omega arith, omega arith, omega arith, omega arith)
 
--- src/begin.rt:106:5
 copy-up-requires : tie.Need-copy-up-requires
 copy-up-requires c κs = (omega arith, omega arith)
 
--- src/begin.rt:107:5
 slice-write-u : tie.Need-slice-write-u
 slice-write-u c = omega arith
 
--- src/begin.rt:108:5
 slice-write-u-2 : tie.Need-slice-write-u-2
 slice-write-u-2 c = simp length-set (omega arith)
 
--- src/begin.rt:93:1
 same-length : tie.Need-same-length
 same-length c = omega arith
 
--- src/begin.rt:93:1
 same-length-2 : tie.Need-same-length-2
 same-length-2 c = simp length-set (omega arith)
 
--- src/begin.rt:93:1
 returns : tie.Need-returns
 returns c =
     let a = c .before .before .before .before .before .before .before .before .before .before .before .before .before .args in

@@ -9,31 +9,24 @@ use borrow.Author.Needs.{needs}
 use Rattle.search_call.proofs.begin.begin_posed.Statement.{statement}
 use Rattle.search_call.proofs.begin.begin_posed.Tie as tie
 
--- src/begin.rt:128:5
 pose-floats-requires : tie.Need-pose-floats-requires
 pose-floats-requires c κs = let b = c .before .before .before .before .before .before .before .pre .0 in let q = b .posed in (omega (arith, b .start, b .floats, b .words, q .few, q .constraints, q .kinds, q .lower, q .upper), omega (arith, b .start, b .floats, b .words, q .few, q .constraints, q .kinds, q .lower, q .upper), omega (arith, b .start, b .floats, b .words, q .few, q .constraints, q .kinds, q .lower, q .upper), omega (arith, b .start, b .floats, b .words, q .few, q .constraints, q .kinds, q .lower, q .upper))
 
--- src/begin.rt:129:5
 pose-words-requires : tie.Need-pose-words-requires
 pose-words-requires c κs = let b = c .before .before .before .before .before .before .before .before .before .before .before .pre .0 in let q = b .posed in (omega (arith, b .words), q .kinds, q .few, q .constraints, c .before .before .before .before .before .before .before .before .before .before .before .pre .1)
 
--- src/begin.rt:130:9
 are-finite-requires : tie.Need-are-finite-requires
 are-finite-requires c κs = tt
 
--- src/begin.rt:131:9
 end-unknown-requires : tie.Need-end-unknown-requires
 end-unknown-requires c κs = let b = c .before .before .before .before .before .before .before .before .before .before .before .before .before .before .before .before .before .before .pre .0 in let q = b .posed in (omega (arith, b .start, b .floats, b .words, q .few, q .constraints, q .kinds, q .lower, q .upper), omega (arith, b .start, b .floats, b .words, q .few, q .constraints, q .kinds, q .lower, q .upper), omega (arith, b .start, b .floats, b .words, q .few, q .constraints, q .kinds, q .lower, q .upper), omega (arith, b .start, b .floats, b .words, q .few, q .constraints, q .kinds, q .lower, q .upper), omega (arith, b .start, b .floats, b .words, q .few, q .constraints, q .kinds, q .lower, q .upper), omega (arith, b .start, b .floats, b .words, q .few, q .constraints, q .kinds, q .lower, q .upper), omega (arith, b .start, b .floats, b .words, q .few, q .constraints, q .kinds, q .lower, q .upper))
 
--- src/begin.rt:132:9
 same-length : tie.Need-same-length
 same-length c = search needs
 
--- src/begin.rt:132:9
 same-length-2 : tie.Need-same-length-2
 same-length-2 c = search needs
 
--- src/begin.rt:132:9
 returns : tie.Need-returns
 unfolding clipped
 returns c =
@@ -43,19 +36,15 @@ returns c =
     started-nonfinite p (s .pre .0 .posed) (a .x .now) (a .budget) (c .before .before .before .before .before .before .before .before .before .before .before .before .before .before .before .pose-floats .last .0) (c .before .before .before .before .end-unknown .last .0) (c .before .before .before .before .before .before .before .before .before .before .before .pose-words .last .0) (c .before .before .before .before .end-unknown .last .1 .0)
     (c .before .before .before .before .before .before .before .before .before .before .before .before .before .before .before .pose-floats .ensures (a .m) (a .scheme) (a .kinds .now)) (c .before .before .before .before .before .before .before .before .before .before .before .pose-words .ensures (a .lower .now) (a .upper .now) (a .ftol)) (sym (c .before .before .before .before .before .before .before .before .are-finite .ensures) ∙ not-true _ (c .before .before .before .before .before .before .before .if1 .taken)) (c .before .before .before .before .end-unknown .ensures)
 
--- src/begin.rt:135:9
 end-unknown-requires-2 : tie.Need-end-unknown-requires-2
 end-unknown-requires-2 c κs = let b = c .before .before .before .before .before .before .before .before .before .before .before .before .before .before .before .before .before .before .before .pre .0 in let q = b .posed in (omega (arith, b .start, b .floats, b .words, q .few, q .constraints, q .kinds, q .lower, q .upper), omega (arith, b .start, b .floats, b .words, q .few, q .constraints, q .kinds, q .lower, q .upper), omega (arith, b .start, b .floats, b .words, q .few, q .constraints, q .kinds, q .lower, q .upper), omega (arith, b .start, b .floats, b .words, q .few, q .constraints, q .kinds, q .lower, q .upper), omega (arith, b .start, b .floats, b .words, q .few, q .constraints, q .kinds, q .lower, q .upper), omega (arith, b .start, b .floats, b .words, q .few, q .constraints, q .kinds, q .lower, q .upper), omega (arith, b .start, b .floats, b .words, q .few, q .constraints, q .kinds, q .lower, q .upper))
 
--- src/begin.rt:136:9
 same-length-3 : tie.Need-same-length-3
 same-length-3 c = search needs
 
--- src/begin.rt:136:9
 same-length-4 : tie.Need-same-length-4
 same-length-4 c = search needs
 
--- src/begin.rt:136:9
 returns-2 : tie.Need-returns-2
 unfolding clipped
 returns-2 c =
@@ -65,23 +54,18 @@ returns-2 c =
     started-exhausted p (s .pre .0 .posed) (a .x .now) (a .budget) (c .before .before .before .before .before .before .before .before .before .before .before .before .before .before .before .before .pose-floats .last .0) (c .before .before .before .before .end-unknown2 .last .0) (c .before .before .before .before .before .before .before .before .before .before .before .before .pose-words .last .0) (c .before .before .before .before .end-unknown2 .last .1 .0)
     (c .before .before .before .before .before .before .before .before .before .before .before .before .before .before .before .before .pose-floats .ensures (a .m) (a .scheme) (a .kinds .now)) (c .before .before .before .before .before .before .before .before .before .before .before .before .pose-words .ensures (a .lower .now) (a .upper .now) (a .ftol)) (sym (c .before .before .before .before .before .before .before .before .before .are-finite .ensures) ∙ not-false _ (c .before .before .before .before .before .before .before .before .if1 .left)) (c .before .before .before .before .before .before .before .if2 .taken) (c .before .before .before .before .end-unknown2 .ensures)
 
--- src/begin.rt:138:41
 sub-ask-first : tie.Need-sub-ask-first
 sub-ask-first c = omega arith
 
--- src/begin.rt:138:5
 ask-first-requires : tie.Need-ask-first-requires
 ask-first-requires c κs = let b = c .before .before .before .before .before .before .before .before .before .before .before .before .before .before .before .before .before .before .before .pre .0 in let q = b .posed in (omega (arith, b .start, b .floats, b .words, q .few, q .constraints, q .kinds, q .lower, q .upper), omega (arith, b .start, b .floats, b .words, q .few, q .constraints, q .kinds, q .lower, q .upper), omega (arith, b .start, b .floats, b .words, q .few, q .constraints, q .kinds, q .lower, q .upper), omega (arith, b .start, b .floats, b .words, q .few, q .constraints, q .kinds, q .lower, q .upper), omega (arith, b .start, b .floats, b .words, q .few, q .constraints, q .kinds, q .lower, q .upper), omega (arith, b .start, b .floats, b .words, q .few, q .constraints, q .kinds, q .lower, q .upper))
 
--- src/begin.rt:112:1
 same-length-5 : tie.Need-same-length-5
 same-length-5 c = search needs
 
--- src/begin.rt:112:1
 same-length-6 : tie.Need-same-length-6
 same-length-6 c = search needs
 
--- src/begin.rt:112:1
 returns-3 : tie.Need-returns-3
 unfolding clipped
 returns-3 c =

@@ -18,67 +18,51 @@ Inv-loop f₀ lower upper x o n i₀ f i = (i ≤ n) × (length f ≡ length f�
 abbrev μ-loop : tie.MeasureT-loop
 μ-loop f₀ lower upper x o n i₀ f i = n - i
 
--- src/begin.rt:58:5
 loop-holds : tie.Need-loop-holds Inv-loop μ-loop
 loop-holds c = (omega arith, refl, written-none nan _ _ _)
 
--- src/begin.rt:59:41
 mul-clip-to : tie.Need-mul-clip-to Inv-loop μ-loop
 mul-clip-to c = omega arith
 
--- src/begin.rt:59:41
 shared-slice-read-clip-to : tie.Need-shared-slice-read-clip-to Inv-loop μ-loop
 shared-slice-read-clip-to c = omega arith
 
--- src/begin.rt:59:51
 mul-clip-to-2 : tie.Need-mul-clip-to-2 Inv-loop μ-loop
 mul-clip-to-2 c = omega arith
 
--- src/begin.rt:59:51
 shared-slice-read-clip-to-2 : tie.Need-shared-slice-read-clip-to-2 Inv-loop μ-loop
 shared-slice-read-clip-to-2 c = omega arith
 
--- src/begin.rt:59:61
 mul-clip-to-3 : tie.Need-mul-clip-to-3 Inv-loop μ-loop
 mul-clip-to-3 c = omega arith
 
--- src/begin.rt:59:61
 shared-slice-read-clip-to-3 : tie.Need-shared-slice-read-clip-to-3 Inv-loop μ-loop
 shared-slice-read-clip-to-3 c = omega arith
 
--- src/begin.rt:59:20
 clip-to-requires : tie.Need-clip-to-requires Inv-loop μ-loop
 clip-to-requires c κs = tt
 
--- src/begin.rt:59:11
 add-f : tie.Need-add-f Inv-loop μ-loop
 add-f c = omega arith
 
--- src/begin.rt:59:9
 mul-f : tie.Need-mul-f Inv-loop μ-loop
 mul-f c = omega arith
 
--- src/begin.rt:59:9
 slice-write-f : tie.Need-slice-write-f Inv-loop μ-loop
 slice-write-f c = omega arith
 
--- src/begin.rt:58:9
 add-i : tie.Need-add-i Inv-loop μ-loop
 add-i c = omega arith
 
--- src/begin.rt:58:5
 loop-less : tie.Need-loop-less Inv-loop μ-loop
 loop-less c = omega arith
 
--- src/begin.rt:58:5
 loop-again : tie.Need-loop-again Inv-loop μ-loop
 loop-again c = let l = c .before .before .before .before .before .loop in (omega arith, simp length-set (l .inv .1), written-more nan _ _ _ _ _ _ (omega arith) (c .clip-to .ensures) (l .inv .2))
 
--- src/begin.rt:54:1
 same-length : tie.Need-same-length Inv-loop μ-loop
 same-length c = c .before .loop .inv .1
 
--- src/begin.rt:54:1
 returns : tie.Need-returns Inv-loop μ-loop
 returns c = let a = c .before .before .before .before .before .before .args in let l = c .before .loop in let e : l .i ≡ a .n = omega arith in rw (← e) (written-laid nan (a .o) (l .i) _ _ _ (l .inv .1) (omega arith) (l .inv .2))
 

@@ -9,27 +9,21 @@ use Rattle.search_call.specs.inner.Work.{clippedIn}
 use Rattle.search_call.proofs.begin.end_unknown.Statement.{statement}
 use Rattle.search_call.proofs.begin.end_unknown.Tie as tie
 
--- src/begin.rt:87:5
 forget-values-requires : tie.Need-forget-values-requires
 forget-values-requires c κs = (omega arith, omega arith)
 
--- src/begin.rt:88:5
 clip-into-requires : tie.Need-clip-into-requires
 clip-into-requires c κs = (omega arith, omega arith, omega arith, omega arith, omega arith, omega arith)
 
--- src/begin.rt:89:5
 slice-write-u : tie.Need-slice-write-u
 slice-write-u c = omega arith
 
--- src/begin.rt:74:1
 same-length : tie.Need-same-length
 same-length c = omega arith
 
--- src/begin.rt:74:1
 same-length-2 : tie.Need-same-length-2
 same-length-2 c = simp length-set (omega arith)
 
--- src/begin.rt:74:1
 returns : tie.Need-returns
 returns c =
     let a = c .before .before .before .before .before .before .before .before .before .before .before .before .before .args in

@@ -16,43 +16,33 @@ Inv-loop f₀ m j₀ j-end f j = (j ≤ m + 1) × (j-end ≡ m + 1) × (length f
 abbrev μ-loop : tie.MeasureT-loop
 μ-loop f₀ m j₀ j-end f j = m + 1 - j
 
--- src/begin.rt:68:17
 add-j-end : tie.Need-add-j-end Inv-loop μ-loop
 add-j-end c = omega arith
 
--- src/begin.rt:68:5
 loop-holds : tie.Need-loop-holds Inv-loop μ-loop
 loop-holds c = (omega arith, omega arith, refl, written-none nan _ _ _)
 
--- src/begin.rt:69:11
 add-f : tie.Need-add-f Inv-loop μ-loop
 add-f c = omega arith
 
--- src/begin.rt:69:9
 mul-f : tie.Need-mul-f Inv-loop μ-loop
 mul-f c = omega arith
 
--- src/begin.rt:69:9
 slice-write-f : tie.Need-slice-write-f Inv-loop μ-loop
 slice-write-f c = omega arith
 
--- src/begin.rt:68:9
 add-j : tie.Need-add-j Inv-loop μ-loop
 add-j c = omega arith
 
--- src/begin.rt:68:5
 loop-less : tie.Need-loop-less Inv-loop μ-loop
 loop-less c = omega arith
 
--- src/begin.rt:68:5
 loop-again : tie.Need-loop-again Inv-loop μ-loop
 loop-again c = let l = c .before .loop in (omega arith, omega arith, simp length-set (l .inv .2), written-more nan _ _ _ _ _ _ (omega arith) lit-nan (l .inv .3))
 
--- src/begin.rt:64:1
 same-length : tie.Need-same-length Inv-loop μ-loop
 same-length c = c .before .loop .inv .2
 
--- src/begin.rt:64:1
 returns : tie.Need-returns Inv-loop μ-loop
 returns c = let a = c .before .before .args in let l = c .before .loop in forgotten (a .m) (l .j) (a .f .now) (l .f) (l .inv .2) (omega arith) (omega arith) (l .inv .3)
 

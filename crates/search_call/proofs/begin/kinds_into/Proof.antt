@@ -16,47 +16,36 @@ Inv-loop u₀ kinds m j₀ u j = (j ≤ m) × (length u ≡ length u₀) × Span
 abbrev μ-loop : tie.MeasureT-loop
 μ-loop u₀ kinds m j₀ u j = m - j
 
--- src/begin.rt:36:5
 loop-holds : tie.Need-loop-holds Inv-loop μ-loop
 loop-holds c = (omega arith, refl, written-none 0 _ _ _)
 
--- src/begin.rt:37:29
 shared-slice-read-word-of : tie.Need-shared-slice-read-word-of Inv-loop μ-loop
 shared-slice-read-word-of c = omega arith
 
--- src/begin.rt:37:21
 word-of-requires : tie.Need-word-of-requires Inv-loop μ-loop
 word-of-requires c κs = tt
 
--- src/begin.rt:37:11
 add-u : tie.Need-add-u Inv-loop μ-loop
 add-u c = omega arith
 
--- src/begin.rt:37:9
 mul-u : tie.Need-mul-u Inv-loop μ-loop
 mul-u c = omega arith
 
--- src/begin.rt:37:9
 slice-write-u : tie.Need-slice-write-u Inv-loop μ-loop
 slice-write-u c = omega arith
 
--- src/begin.rt:36:9
 add-j : tie.Need-add-j Inv-loop μ-loop
 add-j c = omega arith
 
--- src/begin.rt:36:5
 loop-less : tie.Need-loop-less Inv-loop μ-loop
 loop-less c = omega arith
 
--- src/begin.rt:36:5
 loop-again : tie.Need-loop-again Inv-loop μ-loop
 loop-again c = let l = c .before .before .before .loop in (omega arith, simp length-set (l .inv .1), written-more 0 _ _ _ _ _ _ (omega arith) (c .word-of .ensures) (l .inv .2))
 
--- src/begin.rt:32:1
 same-length : tie.Need-same-length Inv-loop μ-loop
 same-length c = c .before .loop .inv .1
 
--- src/begin.rt:32:1
 returns : tie.Need-returns Inv-loop μ-loop
 returns c = let a = c .before .before .before .before .args in let l = c .before .loop in kinds-laid (a .m) (l .j) (a .kinds .now) (a .u .now) (l .u) (omega arith) (l .inv .1) (omega arith) (omega arith) (omega arith) (l .inv .2)
 

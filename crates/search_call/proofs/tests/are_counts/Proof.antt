@@ -4,27 +4,21 @@ use borrow.Author.Tests.{not-true, not-false, le-leb, lt-leb}
 use Rattle.search_call.proofs.tests.are_counts.Statement.{statement}
 use Rattle.search_call.proofs.tests.are_counts.Tie as tie
 
--- src/tests.rt:115:9
 are-sizes-requires : tie.Need-are-sizes-requires
 are-sizes-requires c κs = tt
 
--- src/tests.rt:116:9
 returns : tie.Need-returns
 returns c = rw (sym (c .before .are-sizes .ensures) ∙ not-true _ (c .if1 .taken))
 
--- src/tests.rt:119:9
 returns-2 : tie.Need-returns-2
 returns-2 c = rw (sym (c .before .before .are-sizes .ensures) ∙ not-false _ (c .before .if1 .left), lt-leb _ _ (c .if2 .taken))
 
--- src/tests.rt:122:9
 returns-3 : tie.Need-returns-3
 returns-3 c = rw (sym (c .before .before .before .are-sizes .ensures) ∙ not-false _ (c .before .before .if1 .left), le-leb _ _ (c .before .if2 .left), lt-leb _ _ (c .if3 .taken))
 
--- src/tests.rt:125:9
 returns-4 : tie.Need-returns-4
 returns-4 c = rw (sym (c .before .before .before .before .are-sizes .ensures) ∙ not-false _ (c .before .before .before .if1 .left), le-leb _ _ (c .before .before .if2 .left), le-leb _ _ (c .before .if3 .left), lt-leb _ _ (c .if4 .taken))
 
--- src/tests.rt:112:1
 returns-5 : tie.Need-returns-5
 returns-5 c = rw (sym (c .before .before .before .before .are-sizes .ensures) ∙ not-false _ (c .before .before .before .if1 .left), le-leb _ _ (c .before .before .if2 .left), le-leb _ _ (c .before .if3 .left), le-leb _ _ (c .if4 .left))
 

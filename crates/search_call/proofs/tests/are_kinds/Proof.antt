@@ -14,31 +14,24 @@ Inv-loop kinds j₀ j-end j = (j ≤ length kinds) × (j-end ≡ length kinds) �
 abbrev μ-loop : tie.MeasureT-loop
 μ-loop kinds j₀ j-end j = length kinds - j
 
--- src/tests.rt:81:5
 loop-holds : tie.Need-loop-holds Inv-loop μ-loop
 loop-holds c = (omega arith, omega arith, refl)
 
--- src/tests.rt:82:12
 shared-slice-read-if1 : tie.Need-shared-slice-read-if1 Inv-loop μ-loop
 shared-slice-read-if1 c = omega arith
 
--- src/tests.rt:83:13
 returns : tie.Need-returns Inv-loop μ-loop
 returns c = kinds-bad _ _ (omega arith) (c .if1 .taken) (c .before .before .before .loop .inv .2)
 
--- src/tests.rt:81:9
 add-j : tie.Need-add-j Inv-loop μ-loop
 add-j c = omega arith
 
--- src/tests.rt:81:5
 loop-less : tie.Need-loop-less Inv-loop μ-loop
 loop-less c = omega arith
 
--- src/tests.rt:81:5
 loop-again : tie.Need-loop-again Inv-loop μ-loop
 loop-again c = (omega arith, omega arith, kinds-more _ _ (omega arith) (c .if1 .left) (c .before .before .before .loop .inv .2))
 
--- src/tests.rt:78:1
 returns-2 : tie.Need-returns-2 Inv-loop μ-loop
 returns-2 c = let l = c .before .loop in kinds-all _ (l .j) (omega arith) (l .inv .2)
 

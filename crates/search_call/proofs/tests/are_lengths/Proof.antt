@@ -3,19 +3,15 @@ use borrow.Author.Tests.{eq-eqb, ne-eqb}
 use Rattle.search_call.proofs.tests.are_lengths.Statement.{statement}
 use Rattle.search_call.proofs.tests.are_lengths.Tie as tie
 
--- src/tests.rt:56:9
 returns : tie.Need-returns
 returns c = rw (ne-eqb _ _ (c .if1 .taken))
 
--- src/tests.rt:59:9
 returns-2 : tie.Need-returns-2
 returns-2 c = rw (eq-eqb _ _ (c .before .if1 .left), ne-eqb _ _ (c .if2 .taken))
 
--- src/tests.rt:62:9
 returns-3 : tie.Need-returns-3
 returns-3 c = rw (eq-eqb _ _ (c .before .before .if1 .left), eq-eqb _ _ (c .before .if2 .left), ne-eqb _ _ (c .if3 .taken))
 
--- src/tests.rt:52:1
 returns-4 : tie.Need-returns-4
 returns-4 c = rw (eq-eqb _ _ (c .before .before .if1 .left), eq-eqb _ _ (c .before .if2 .left), eq-eqb _ _ (c .if3 .left))
 

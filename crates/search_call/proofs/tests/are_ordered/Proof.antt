@@ -14,43 +14,33 @@ Inv-loop lower upper n i₀ i = (i ≤ n) × (areOrdered i lower upper ≡ true)
 abbrev μ-loop : tie.MeasureT-loop
 μ-loop lower upper n i₀ i = n - i
 
--- src/tests.rt:101:5
 loop-holds : tie.Need-loop-holds Inv-loop μ-loop
 loop-holds c = (omega arith, ordered-none _ _)
 
--- src/tests.rt:102:12
 mul-if1 : tie.Need-mul-if1 Inv-loop μ-loop
 mul-if1 c = omega arith
 
--- src/tests.rt:102:12
 shared-slice-read-if1 : tie.Need-shared-slice-read-if1 Inv-loop μ-loop
 shared-slice-read-if1 c = omega arith
 
--- src/tests.rt:102:23
 mul-if1-2 : tie.Need-mul-if1-2 Inv-loop μ-loop
 mul-if1-2 c = omega arith
 
--- src/tests.rt:102:23
 shared-slice-read-if1-2 : tie.Need-shared-slice-read-if1-2 Inv-loop μ-loop
 shared-slice-read-if1-2 c = omega arith
 
--- src/tests.rt:103:13
 returns : tie.Need-returns Inv-loop μ-loop
 returns c = let a = c .before .before .before .before .before .args in sym (ordered-bad (a .lower .now) (a .upper .now) (a .n) (c .before .before .before .before .loop .i) (omega arith) (c .if1 .taken))
 
--- src/tests.rt:101:9
 add-i : tie.Need-add-i Inv-loop μ-loop
 add-i c = omega arith
 
--- src/tests.rt:101:5
 loop-less : tie.Need-loop-less Inv-loop μ-loop
 loop-less c = omega arith
 
--- src/tests.rt:101:5
 loop-again : tie.Need-loop-again Inv-loop μ-loop
 loop-again c = let a = c .before .before .before .before .before .args in let l = c .before .before .before .before .loop in (omega arith, ordered-more (a .lower .now) (a .upper .now) (l .i) (c .if1 .left) (l .inv .1))
 
--- src/tests.rt:97:1
 returns-2 : tie.Need-returns-2 Inv-loop μ-loop
 returns-2 c = let a = c .before .before .args in let l = c .before .loop in ordered-all (a .lower .now) (a .upper .now) (a .n) (l .i) (omega arith) (omega arith) (l .inv .1)
 

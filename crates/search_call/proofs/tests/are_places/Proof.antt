@@ -5,23 +5,18 @@ use borrow.Author.Tests.{le-leb, lt-leb}
 use Rattle.search_call.proofs.tests.are_places.Statement.{statement}
 use Rattle.search_call.proofs.tests.are_places.Tie as tie
 
--- src/tests.rt:135:9
 returns : tie.Need-returns
 returns c = rw (lt-leb _ _ (c .if1 .taken))
 
--- src/tests.rt:138:9
 returns-2 : tie.Need-returns-2
 returns-2 c = rw (le-leb _ _ (c .before .if1 .left), lt-leb _ _ (c .if2 .taken))
 
--- src/tests.rt:141:9
 returns-3 : tie.Need-returns-3
 returns-3 c = rw (le-leb _ _ (c .before .before .if1 .left), le-leb _ _ (c .before .if2 .left), lt-leb _ _ (c .if3 .taken))
 
--- src/tests.rt:144:9
 returns-4 : tie.Need-returns-4
 returns-4 c = let a = c .before .before .before .before .args in let h : a .n < suc (a .cols) = omega arith in rw (le-leb _ _ (c .before .before .before .if1 .left), le-leb _ _ (c .before .before .if2 .left), le-leb _ _ (c .before .if3 .left), lt-leb (suc (a .cols)) (a .n) h)
 
--- src/tests.rt:131:1
 returns-5 : tie.Need-returns-5
 returns-5 c = let a = c .before .before .before .before .args in let h : suc (a .cols) ≤ a .n = omega arith in rw (le-leb _ _ (c .before .before .before .if1 .left), le-leb _ _ (c .before .before .if2 .left), le-leb _ _ (c .before .if3 .left), le-leb (suc (a .cols)) (a .n) h)
 

@@ -4,23 +4,18 @@ use borrow.Author.Tests.{not-true, not-false, le-leb, lt-leb}
 use Rattle.search_call.proofs.tests.are_sizes.Statement.{statement}
 use Rattle.search_call.proofs.tests.are_sizes.Tie as tie
 
--- src/tests.rt:39:9
 are-sizes-requires : tie.Need-are-sizes-requires
 are-sizes-requires c κs = tt
 
--- src/tests.rt:40:9
 returns : tie.Need-returns
 returns c = rw (sym (c .before .are-sizes .ensures) ∙ not-true _ (c .if1 .taken))
 
--- src/tests.rt:43:9
 returns-2 : tie.Need-returns-2
 returns-2 c = rw (sym (c .before .before .are-sizes .ensures) ∙ not-false _ (c .before .if1 .left), lt-leb _ _ (c .if2 .taken))
 
--- src/tests.rt:46:9
 returns-3 : tie.Need-returns-3
 returns-3 c = rw (sym (c .before .before .before .are-sizes .ensures) ∙ not-false _ (c .before .before .if1 .left), le-leb _ _ (c .before .if2 .left), lt-leb _ _ (c .if3 .taken))
 
--- src/tests.rt:36:1
 returns-4 : tie.Need-returns-4
 returns-4 c = rw (sym (c .before .before .before .are-sizes .ensures) ∙ not-false _ (c .before .before .if1 .left), le-leb _ _ (c .before .if2 .left), le-leb _ _ (c .if3 .left))
 

@@ -3,11 +3,9 @@ use borrow.Author.Tests.{eq-eqb, ne-eqb}
 use Rattle.search_call.proofs.tests.are_slices.Statement.{statement}
 use Rattle.search_call.proofs.tests.are_slices.Tie as tie
 
--- src/tests.rt:72:9
 returns : tie.Need-returns
 returns c = rw (ne-eqb _ _ (c .if1 .taken))
 
--- src/tests.rt:68:1
 returns-2 : tie.Need-returns-2
 returns-2 c = rw (eq-eqb _ _ (c .if1 .left))
 

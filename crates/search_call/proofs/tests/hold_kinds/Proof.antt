@@ -17,39 +17,30 @@ Inv-loop u m j₀ j = (j ≤ m) × (areKinds (nums 16 m u) ≡ areKinds (drop j 
 abbrev μ-loop : tie.MeasureT-loop
 μ-loop u m j₀ j = m - j
 
--- src/tests.rt:154:5
 loop-holds : tie.Need-loop-holds Inv-loop μ-loop
 loop-holds c = (omega arith, refl)
 
--- src/tests.rt:155:14
 add-if1 : tie.Need-add-if1 Inv-loop μ-loop
 add-if1 c = omega arith
 
--- src/tests.rt:155:12
 mul-if1 : tie.Need-mul-if1 Inv-loop μ-loop
 mul-if1 c = omega arith
 
--- src/tests.rt:155:12
 shared-slice-read-if1 : tie.Need-shared-slice-read-if1 Inv-loop μ-loop
 shared-slice-read-if1 c = omega arith
 
--- src/tests.rt:156:13
 returns : tie.Need-returns Inv-loop μ-loop
 returns c = let a = c .before .before .before .before .args in let l = c .before .before .before .loop in let z = length-nums 16 (a .m) (a .u .now) in let e : nth (nums 16 (a .m) (a .u .now)) (l .j) ≡ nth (a .u .now) (16 + l .j) = nth-nums 16 (a .m) (a .u .now) (l .j) (omega arith) in kinds-bad (nums 16 (a .m) (a .u .now)) (l .j) (omega arith) (omega (arith, e)) (l .inv .1)
 
--- src/tests.rt:154:9
 add-j : tie.Need-add-j Inv-loop μ-loop
 add-j c = omega arith
 
--- src/tests.rt:154:5
 loop-less : tie.Need-loop-less Inv-loop μ-loop
 loop-less c = omega arith
 
--- src/tests.rt:154:5
 loop-again : tie.Need-loop-again Inv-loop μ-loop
 loop-again c = let a = c .before .before .before .before .args in let l = c .before .before .before .loop in let z = length-nums 16 (a .m) (a .u .now) in let e : nth (nums 16 (a .m) (a .u .now)) (l .j) ≡ nth (a .u .now) (16 + l .j) = nth-nums 16 (a .m) (a .u .now) (l .j) (omega arith) in (omega arith, kinds-more (nums 16 (a .m) (a .u .now)) (l .j) (omega arith) (omega (arith, e)) (l .inv .1))
 
--- src/tests.rt:150:1
 returns-2 : tie.Need-returns-2 Inv-loop μ-loop
 returns-2 c = let a = c .before .before .args in let l = c .before .loop in let z = length-nums 16 (a .m) (a .u .now) in kinds-all (nums 16 (a .m) (a .u .now)) (l .j) (omega arith) (l .inv .1)
 

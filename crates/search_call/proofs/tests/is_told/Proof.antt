@@ -9,27 +9,21 @@ use Rattle.search_call.proofs.Questions.{words-sizes, asked-of}
 use Rattle.search_call.proofs.tests.is_told.Statement.{statement}
 use Rattle.search_call.proofs.tests.is_told.Tie as tie
 
--- src/tests.rt:212:9
 returns : tie.Need-returns
 returns c = rw (eq-eqb _ _ (c .if1 .taken))
 
--- src/tests.rt:214:35
 shared-slice-read-wide : tie.Need-shared-slice-read-wide
 shared-slice-read-wide c = omega arith
 
--- src/tests.rt:214:30
 wide-requires : tie.Need-wide-requires
 wide-requires c κs = tt
 
--- src/tests.rt:214:47
 shared-slice-read-wide-2 : tie.Need-shared-slice-read-wide-2
 shared-slice-read-wide-2 c = omega arith
 
--- src/tests.rt:214:42
 wide-requires-2 : tie.Need-wide-requires-2
 wide-requires-2 c κs = tt
 
--- src/tests.rt:214:13
 wanted-of-requires : tie.Need-wanted-of-requires
 wanted-of-requires c κs =
     let s = c .before .before .before .before .before .before in
@@ -38,7 +32,6 @@ wanted-of-requires c κs =
     let z = words-sizes u (q .good) in
     (omega (arith, q .some, q .phase), omega (arith, z .1, c .before .before .wide .ensures), omega (arith, z .2, c .wide2 .ensures))
 
--- src/tests.rt:207:1
 returns-2 : tie.Need-returns-2
 returns-2 c =
     let a = c .before .before .before .before .before .before .before .args in

@@ -4,7 +4,6 @@ use lib.Ieee.{ofBits}
 use Rattle.search_call.proofs.tests.is_tolerance.Statement.{statement}
 use Rattle.search_call.proofs.tests.is_tolerance.Tie as tie
 
--- src/tests.rt:90:1
 returns : tie.Need-returns
 unfolding ofBits
 returns c = refl

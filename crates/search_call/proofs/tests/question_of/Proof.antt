@@ -5,27 +5,21 @@ use borrow.Author.Tests.{not-true, not-false, le-leb, lt-leb}
 use Rattle.search_call.proofs.tests.question_of.Statement.{statement}
 use Rattle.search_call.proofs.tests.question_of.Tie as tie
 
--- src/tests.rt:183:9
 are-words-requires : tie.Need-are-words-requires
 are-words-requires c κs = omega arith
 
--- src/tests.rt:184:9
 returns : tie.Need-returns
 returns c = rw (sym (c .before .are-words .ensures) ∙ not-true _ (c .if1 .taken))
 
--- src/tests.rt:186:8
 shared-slice-read-if2 : tie.Need-shared-slice-read-if2
 shared-slice-read-if2 c = omega arith
 
--- src/tests.rt:187:9
 returns-2 : tie.Need-returns-2
 returns-2 c = rw ((sym (c .before .before .before .are-words .ensures) ∙ not-false _ (c .before .before .if1 .left)), lt-leb _ _ (c .if2 .taken))
 
--- src/tests.rt:189:5
 shared-slice-read-result : tie.Need-shared-slice-read-result
 shared-slice-read-result c = omega arith
 
--- src/tests.rt:179:1
 returns-3 : tie.Need-returns-3
 returns-3 c = rw ((sym (c .before .before .before .before .are-words .ensures) ∙ not-false _ (c .before .before .before .if1 .left)), le-leb _ _ (c .before .if2 .left))
 

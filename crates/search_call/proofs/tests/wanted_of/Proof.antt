@@ -6,27 +6,21 @@ use Rattle.search_call.proofs.Questions.{wanted-values, wanted-slopes, 
 use Rattle.search_call.proofs.tests.wanted_of.Statement.{statement}
 use Rattle.search_call.proofs.tests.wanted_of.Tie as tie
 
--- src/tests.rt:198:16
 add-result : tie.Need-add-result
 add-result c = omega arith
 
--- src/tests.rt:198:9
 returns : tie.Need-returns
 returns c = let s = c .before in wanted-values (s .args .phase) (s .args .n) (s .args .m) (omega arith) (omega arith)
 
--- src/tests.rt:201:17
 add-result-2 : tie.Need-add-result-2
 add-result-2 c = omega arith
 
--- src/tests.rt:201:16
 mul-result : tie.Need-mul-result
 mul-result c = let a = c .before .before .args in let h : (a .m + 1) * a .n ≤ 17 * 16 = mul-le-mul {n₁ = a .m + 1} {m₁ = a .n} {n₂ = 17} {m₂ = 16} (omega arith) (omega arith) in omega (arith, h)
 
--- src/tests.rt:201:9
 returns-2 : tie.Need-returns-2
 returns-2 c = let a = c .before .before .args in wanted-slopes (a .phase) (a .n) (a .m) (c .if2 .taken)
 
--- src/tests.rt:193:1
 returns-3 : tie.Need-returns-3
 returns-3 c = let a = c .before .before .args in wanted-single (a .phase) (a .n) (a .m) (omega arith) (c .if2 .left)
 
