@@ -1,7 +1,8 @@
-/* Measures the stack that steps take: each runs in a thread on a stack that was painted before,
- * and what is not paint afterwards was used. The caller's frame and its arguments are counted.
+/* Measures the stack that steps and searches take: each runs in a thread on a stack that was
+ * painted before, and what is not paint afterwards was used. The caller's frame and its arguments are
+ * counted. Linked statically, since a dynamic linker's first look for memset goes deeper.
  *
- *     cc -std=gnu11 -O2 -Wall -Wextra -pthread -I include bench/stack.c LIBRARY -o target/stack && target/stack
+ *     cc -static -std=gnu11 -O2 -Wall -Wextra -pthread -I include bench/stack.c LIBRARY -o target/stack && target/stack
  */
 #define _GNU_SOURCE
 #include <math.h>
@@ -29,6 +30,12 @@ struct step {
     double d[16], multipliers[16], relaxation;
     uint32_t report[GRITSTRUT_REPORT];
     uint32_t number;
+};
+
+/* What is called on the painted stack, with what, and how many bytes that took. */
+struct measured {
+    void (*call)(void *);
+    void *given;
     size_t bytes;
 };
 
@@ -75,8 +82,9 @@ static void fill(struct step *p, size_t n, size_t m, enum bounds bounds)
     }
 }
 
-static void call(struct step *p)
+static void call_step(void *given)
 {
+    struct step *p = given;
     size_t n = p->n, m = p->m;
     p->number = gritstrut_step(n, m, p->factor, n * n, p->gradient, n, p->kinds, m, p->values, m,
                                p->widths, m, p->jacobian, m * n, p->lower, n, p->upper, n,
@@ -84,30 +92,84 @@ static void call(struct step *p)
                                GRITSTRUT_REPORT, &tally, workspace, GRITSTRUT_FLOATS, words, GRITSTRUT_WORDS);
 }
 
+/* A whole search, from zero, for the point nearest to one whose sum is at least 1, .., m. */
+struct search {
+    size_t n, m;
+    uint32_t scheme, ended;
+};
+
+static double machine[GRITSTRUT_SEARCH_MACHINE];
+static uint32_t machine_words[GRITSTRUT_SEARCH_WORDS];
+static double told[17 * 16];
+
+static double value(size_t n, size_t function)
+{
+    const double *x = machine + GRITSTRUT_SEARCH_POINT;
+    double sum = 0;
+    for (size_t i = 0; i < n; i++)
+        sum += function ? x[i] : (x[i] - 1) * (x[i] - 1);
+    return function ? sum - (double) function : sum;
+}
+
+/* Answers the question that stands, and says with how many numbers. */
+static size_t answer(size_t n, size_t m)
+{
+    uint32_t asked = machine_words[0];
+    if (asked > GRITSTRUT_SEARCH_SLOPES) {
+        told[0] = value(n, m - machine_words[5]);
+        return 1;
+    }
+    if (asked < GRITSTRUT_SEARCH_SLOPES) {
+        for (size_t j = 0; j <= m; j++)
+            told[j] = value(n, j);
+        return m + 1;
+    }
+    for (size_t k = 0; k < (m + 1) * n; k++)
+        told[k] = k < n ? 2 * (machine[GRITSTRUT_SEARCH_POINT + k] - 1) : 1;
+    return (m + 1) * n;
+}
+
+static void call_search(void *given)
+{
+    struct search *p = given;
+    static const double lower[16], upper[16] = {2, 2, 2, 2, 2, 2, 2, 2, 2, 2, 2, 2, 2, 2, 2, 2};
+    static const uint8_t kinds[16] = {1, 1, 1, 1, 1, 1, 1, 1, 1, 1, 1, 1, 1, 1, 1, 1};
+    uint32_t place, number = gritstrut_search_begin(
+        p->n, p->m, kinds, p->m, lower, p->n, upper, p->n, lower, p->n, 1e-9, 1000, p->scheme,
+        machine, GRITSTRUT_SEARCH_MACHINE, machine_words, GRITSTRUT_SEARCH_WORDS, &place,
+        workspace, GRITSTRUT_FLOATS, words, GRITSTRUT_WORDS);
+    while (number == 0 && machine_words[0] < GRITSTRUT_SEARCH_CONVERGED)
+        number = gritstrut_search_tell(told, answer(p->n, p->m), machine, GRITSTRUT_SEARCH_MACHINE,
+                                       machine_words, GRITSTRUT_SEARCH_WORDS,
+                                       workspace, GRITSTRUT_FLOATS, words, GRITSTRUT_WORDS);
+    p->ended = machine_words[0];
+}
+
 /* Paints what lies below its own frame, makes the call, and looks how deep the paint is gone. It
  * does both itself: what a thread needs to begin and end may be deeper than a step. */
 static void *measure(void *given)
 {
-    struct step *p = given;
+    struct measured *p = given;
     unsigned char *here = __builtin_frame_address(0);
     volatile unsigned char *at = stack;
     memset(stack, PAINT, (size_t) (here - stack) - MARGIN);
-    call(p);
+    p->call(p->given);
     while (*at == PAINT)
         at++;
     p->bytes = (size_t) (here - at);
     return NULL;
 }
 
-static size_t bytes_of(struct step *p)
+static size_t bytes_of(void (*call)(void *), void *given)
 {
+    struct measured p = {call, given, 0};
     pthread_attr_t attributes;
     pthread_t thread;
     pthread_attr_init(&attributes);
     if (pthread_attr_setstack(&attributes, stack, ROOM) != 0 ||
-        pthread_create(&thread, &attributes, measure, p) != 0 || pthread_join(thread, NULL) != 0)
+        pthread_create(&thread, &attributes, measure, &p) != 0 || pthread_join(thread, NULL) != 0)
         exit(1);
-    return p->bytes;
+    return p.bytes;
 }
 
 int main(void)
@@ -123,7 +185,7 @@ int main(void)
         for (int i = 0; i < 200; i++) {
             struct step p;
             fill(&p, sets[k].n, sets[k].m, sets[k].bounds);
-            size_t bytes = bytes_of(&p);
+            size_t bytes = bytes_of(call_step, &p);
             deepest = bytes > deepest ? bytes : deepest;
             done += p.number == 0;
             relaxed += p.number == 0 && p.relaxation > 0;
@@ -133,5 +195,11 @@ int main(void)
         most = deepest > most ? deepest : most;
     }
     printf("deepest stack of a step: %zu bytes\n", most);
+    for (uint32_t scheme = 0; scheme < 3; scheme++) {
+        struct search p = {16, 16, scheme, 0};
+        size_t bytes = bytes_of(call_search, &p);
+        printf("search 16/16, scheme %u: %5zu bytes, %s\n", (unsigned) scheme, bytes,
+               p.ended == GRITSTRUT_SEARCH_CONVERGED ? "converged" : "not converged");
+    }
     return 0;
 }

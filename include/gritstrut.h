@@ -5,8 +5,8 @@
  * For all functions:
  *
  * - No heap, no globals, no locks: they are re-entrant, and two threads may call them at once
- *   with buffers of their own. They need the two workspaces, stack (under 2 KiB was measured for
- *   a step and a day, 2272 bytes for gritstrut_packed_cholesky) and, of the C library, memset and
+ *   with buffers of their own. They need the two workspaces, stack (under 4 KiB was measured for
+ *   a step, under 6 KiB for a search) and, of the C library, memset and
  *   memmove alone.
  * - A slice is a pointer and then its length in entries. Matrices are dense and row-major: entry
  *   (i, j) of a matrix of n columns is at i * n + j.
