@@ -6,7 +6,7 @@
  *
  * - No heap, no globals, no locks: they are re-entrant, and two threads may call them at once
  *   with buffers of their own. They need the two workspaces, stack (under 4 KiB was measured for
- *   a step, under 6 KiB for a search) and, of the C library, memset and
+ *   a step, under 7 KiB for a search) and, of the C library, memset and
  *   memmove alone.
  * - A slice is a pointer and then its length in entries. Matrices are dense and row-major: entry
  *   (i, j) of a matrix of n columns is at i * n + j.

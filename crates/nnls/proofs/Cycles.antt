@@ -101,6 +101,13 @@ module _ (n : ℕ) (dual : List Float → List Float) (solve : List ℕ → Solv
   leads-around x p d e a (suc q) left past f =
       from x p (omega arith) refl refl ∙ a (left + q * d) past f ∙ leads-around x p d e a q left (past + d) (f + e) ∙ from x p refl (omega arith) (omega arith)
 
+  -- the same pass after f₀ factorings
+  pub pass-moved : (x : List Float) (p : List ℕ) (f : ℕ) (p' : List ℕ) (z : List Float) (g : ℕ) → pass n dual solve x p f ≡ kept p' z g → (f₀ : ℕ) → pass n dual solve x p f₀ ≡ kept p' z (g - f + f₀)
+  pass-moved x p f p' z g h f₀ =
+      ap (pass n dual solve x p) (omega arith)
+      ∙ pass-raised x p 0 f₀
+      ∙ same-kept f f₀ p' z g (pass n dual solve x p 0) (sym (pass-raised x p 0 f) ∙ ap (pass n dual solve x p) (omega arith) ∙ h) .0
+
   -- a round that begins with a pass after f factorings
   pub leads-once : (x : List Float) (p : List ℕ) (f : ℕ) (p' : List ℕ) (z : List Float) (g : ℕ) → pass n dual solve x p f ≡ kept p' z g
       → Leads x p 1 ((turns n solve n x z p' g) .factorings - f) ((turns n solve n x z p' g) .x) ((turns n solve n x z p' g) .passive)

@@ -1,8 +1,9 @@
 -- One pass, the loop of the rounds, and the whole kernel, over states.
 use mathlib.Core.Path.{_≡_, refl, sym, ap, ap₂, _∙_, subst}
-use mathlib.Core.Bool.{Bool, true, false, cond}
+use mathlib.Core.Bool.{Bool, true, false, cond, true≢false}
 use mathlib.Core.List.{List}
 use Prim.Native.Nat.{ℕ, _+_, _-_, _*_, _≤_, _<_}
+use native.Mathlib.Nat.{not-suc-le-zero}
 use native.Mathlib.Omega.{arith}
 use lib.ListN.{length, replicate}
 use lib.Ieee.{Float}
@@ -12,12 +13,12 @@ use Rattle.workspace.proofs.Readings.{nth-front}
 use Rattle.nnls.specs.Nnls.{kept, ended, tries, Settled, turns, accept, pass, rounds, activeSet, nnls}
 use Rattle.nnls.specs.inner.State.{State, put, solveIn, dualIn, Rounded}
 use Rattle.nnls.specs.inner.Work.{passEndOf, Passed, TurnsTaken}
-use Rattle.nnls.specs.inner.Memory.{MayLook, LookedBack, onward, came-back, renewed}
+use Rattle.nnls.specs.inner.Memory.{Digits, MayLook, onward, ended, LookedBack, goes-on, came-back}
 use Rattle.nnls.specs.declared.memory.Course.{Course}
 use Rattle.nnls.proofs.States.{states}
 use Rattle.nnls.proofs.Solves.{solver}
 use Rattle.nnls.proofs.Cycles.{Leads, leads-once, pass-more, turns-more}
-use Rattle.nnls.proofs.Remembered.{Fixed, fixed-none, fixed-again, Memory, memory-none, more-since, few-since, looked}
+use Rattle.nnls.proofs.Remembered.{Fixed, fixed-none, fixed-again, Trail, all-behind, Outcome, looked}
 use Rattle.nnls.specs.declared.Pass.{Pass}
 use Rattle.nnls.specs.declared.RoundsEnd.{RoundsEnd}
 use Rattle.nnls.specs.declared.RoundsEnd.the-variants as RoundsEnd
@@ -48,13 +49,15 @@ pub record Going (m n k : ℕ) (s₀ s : State) (past f : ℕ) : Type 0 where
       ≡ rounds n (dualIn m n s₀) (solveIn m n s₀) (k - past) (s .x) (s .passive) past f
 
 -- the same with the memory
-pub record Running (m n k : ℕ) (s₀ s : State) (c : Course) : Type 0 where
+pub record Running (m n k : ℕ) (s₀ s : State) (memory : List ℕ) (c : Course) : Type 0 where
   pub going : Going m n k s₀ s (c .past) (c .factorings)
-  pub memory : Memory n (dualIn m n s₀) (solveIn m n s₀) (s .x) (s .passive) c
+  pub full : c .held ≤ 16
+  pub strict : (i : ℕ) → i < c .held → nth memory (5 * i + 2) < c .past
+  pub numbers : 4 ≤ c .past → Digits n (s .passive) (c .low) (c .high)
+  pub trail : Trail n (dualIn m n s₀) (solveIn m n s₀) (s .x) (s .passive) memory (c .held) (c .past) (c .factorings)
 
-pub running-none : (m n k : ℕ) (s : State) → s .x ≡ replicate n +0 → s .passive ≡ replicate n 0
-    → Running m n k s s (record { past = 0; factorings = 0; low = 0; high = 0; since = 0; spent = 0 })
-running-none m n k s ex ep =
+pub running-none : (m n k : ℕ) (s : State) (memory : List ℕ) → s .x ≡ replicate n +0 → s .passive ≡ replicate n 0 → Running m n k s s memory (record { past = 0; factorings = 0; held = 0; low = 0; high = 0; ended = false })
+running-none m n k s memory ex ep =
     let none = fixed-none n (solveIn m n s) (solver m n (s .a) (s .b)) in
     let F₀ : Fixed n (solveIn m n s) (s .x) (replicate n 0) = subst (λ (v : List Float). Fixed n (solveIn m n s) v (replicate n 0)) (sym ex) none in
     record {
@@ -65,8 +68,10 @@ running-none m n k s ex ep =
         few = omega arith;
         rest = ap (λ (l : ℕ). rounds n (dualIn m n s) (solveIn m n s) l (s .x) (s .passive) 0 0) (omega arith);
       };
-      memory = subst (λ (p : List ℕ). Memory n (dualIn m n s) (solveIn m n s) (s .x) p (record { past = 0; factorings = 0; low = 0; high = 0; since = 0; spent = 0 })) (sym ep)
-          (memory-none n (dualIn m n s) (solveIn m n s) (s .x) F₀);
+      full = omega arith;
+      strict = λ i b. absurd (not-suc-le-zero b);
+      numbers = λ b. absurd (not-suc-le-zero b);
+      trail = record { each = λ i b. absurd (not-suc-le-zero b); pairs = λ i j b. absurd (not-suc-le-zero b) };
     }
 
 module _ (m n k : ℕ) (s₀ s : State) (past f : ℕ) (n66 : n ≤ 66) (g : Going m n k s₀ s past f) (t : Pass) (s′ : State)
@@ -167,7 +172,7 @@ module _ (m n k : ℕ) (s₀ s : State) (past f : ℕ) (n66 : n ≤ 66) (g : Goi
 
 -- ---- a look back after a round
 
-module _ (m n k : ℕ) (s₀ s : State) (c : Course) (n66 : n ≤ 66) (R : Running m n k s₀ s c) (t : Pass) (s′ : State)
+module _ (m n k : ℕ) (s₀ s : State) (memory : List ℕ) (c : Course) (n66 : n ≤ 66) (R : Running m n k s₀ s memory c) (t : Pass) (s′ : State)
     (P : Passed (pass n (dualIn m n s) (solveIn m n s) (s .x) (s .passive) (c .factorings)) (c .factorings + n) t s s′) (h : t .kept ≡ true) (l : c .past < k) (f′ : ℕ) (s₂ s₃ : State)
     (T′ : TurnsTaken (turns n (solveIn m n s′) n (s′ .x) (s′ .z) (s′ .passive) (t .factorings)) (t .factorings + n) f′ s′ s₂)
     (e : s₃ ≡ put (s₂ .z) (s₂ .z) (s₂ .dual) (s₂ .passive) (s₂ .rejected) s₂) where
@@ -183,22 +188,38 @@ module _ (m n k : ℕ) (s₀ s : State) (c : Course) (n66 : n ≤ 66) (R : Runni
   once : Leads n (dualIn m n s₀) (solveIn m n s₀) (s .x) (s .passive) 1 (f′ - c .factorings) (s₃ .x) (s₃ .passive)
   once = round-leads m n k s₀ s (c .past) (c .factorings) n66 (R .going) t s′ P h l f′ s₂ s₃ T′ e
 
-  pub look-asked : (w : List ℕ) → 264 ≤ length w → k ≤ 198 → s₃ .passive ≡ nums 0 n w → MayLook n k c f′ w
-  look-asked w lw k198 ew = record {
+  tried : t .factorings ≤ c .factorings + 66
+  tried = let i = P .few in omega (arith, i, n66)
+
+  pub look-asked : (w : List ℕ) → 264 ≤ length w → k ≤ 198 → s₃ .passive ≡ nums 0 n w → 80 ≤ length memory → MayLook n k c (t .factorings) f′ w memory
+  look-asked w lw k198 ew lm = record {
     columns = n66;
     room = lw;
     limit = k198;
     within = l;
-    earlier = R .memory .earlier;
-    more = more-since n (dualIn m n s₀) (solveIn m n s₀) (s .x) (s₃ .x) (s .passive) (s₃ .passive) c f′ (next .fixed) (R .memory) more most once;
+    places = lm;
+    held = R .full;
     few = next .few;
-    few-since = few-since n (dualIn m n s₀) (solveIn m n s₀) (s .x) (s₃ .x) (s .passive) (s₃ .passive) c f′ (next .fixed) (R .memory) more most once;
+    more = more;
+    most = most;
+    tried = tried;
+    behind = all-behind n (dualIn m n s₀) (solveIn m n s₀) (s .x) (s₃ .x) (s .passive) (s₃ .passive) memory (c .held) (c .past) (c .factorings) f′ (next .fixed) (R .trail) (R .full) more most once;
     marks = λ j b. subst (λ (v : ℕ). v ≤ 1) (ap (λ (q : List ℕ). nth q j) ew ∙ nth-front n j w b) (next .fixed .low j b);
   }
 
-  pub look-again : (r : Course) → LookedBack n k (s₃ .passive) c f′ r → Running m n k s₀ s₃ r
-  look-again r L =
-      let K = looked n (dualIn m n s₀) (solveIn m n s₀) (s .x) (s₃ .x) (s .passive) (s₃ .passive) c f′ (next .fixed) (R .memory) more most once k l (next .few) r L in
+  outcome : (memory′ : List ℕ) (r : Course) → LookedBack n k (s₃ .passive) c (t .factorings) f′ memory memory′ r → Outcome n (dualIn m n s₀) (solveIn m n s₀) k (s₃ .x) (s₃ .passive) (c .past + 1) f′ memory′ r
+  outcome memory′ r L =
+      looked n (dualIn m n s₀) (solveIn m n s₀) (s .x) (s₃ .x) (s .passive) (s₃ .passive) memory memory′ c (t .factorings) f′ (R .going .fixed) (next .fixed) (R .numbers) (R .strict) (R .trail) (R .full) (s′ .passive) (s′ .z)
+      (was-kept m n k s₀ s (c .past) (c .factorings) n66 (R .going) t s′ P h) tried more most once k l (next .few) r L
+
+  -- the rounds end here: their limit is reached
+  pub look-ended : (memory′ : List ℕ) (r : Course) → LookedBack n k (s₃ .passive) c (t .factorings) f′ memory memory′ r → r .ended ≡ true
+      → Rounded (rounds n (dualIn m n s₀) (solveIn m n s₀) k (s₀ .x) (s₀ .passive) 0 0) (RoundsEnd.Capped (r .past) (r .factorings)) s₀ s₃
+  look-ended memory′ r L b = record { answer = sym (next .rest ∙ outcome memory′ r L .ends b); after = next .after }
+
+  pub look-again : (memory′ : List ℕ) (r : Course) → LookedBack n k (s₃ .passive) c (t .factorings) f′ memory memory′ r → r .ended ≡ false → Running m n k s₀ s₃ memory′ r
+  look-again memory′ r L b =
+      let K = outcome memory′ r L .goes b in
       let i1 = K .ahead in
       let i2 = K .within in
       let i3 = K .more in
@@ -214,14 +235,17 @@ module _ (m n k : ℕ) (s₀ s : State) (c : Course) (n66 : n ≤ 66) (R : Runni
               ∙ K .around (k - r .past) (c .past + 1) f′
               ∙ ap₂ (λ (i j : ℕ). rounds n (dualIn m n s₀) (solveIn m n s₀) (k - r .past) (s₃ .x) (s₃ .passive) i j) (omega (arith, i1)) (omega (arith, i3));
         };
-        memory = K .memory;
+        full = K .full;
+        strict = K .strict;
+        numbers = K .numbers;
+        trail = K .trail;
       }
 
 -- it comes further
-pub look-further : (n k : ℕ) (p : List ℕ) (c : Course) (f : ℕ) (r : Course) → LookedBack n k p c f r → c .past < r .past
-look-further n k p c f _ onward = omega arith
-look-further n k p c f _ (came-back low high D e₁ e₂ r R) = let e = R .rounds in omega (arith, e)
-look-further n k p c f _ (renewed low high D) = omega arith
+pub look-further : (n k : ℕ) (p : List ℕ) (c : Course) (g f : ℕ) (h h′ : List ℕ) (r : Course) → LookedBack n k p c g f h h′ r → r .ended ≡ false → c .past < r .past
+look-further n k p c g f h h′ _ (goes-on held R low high E) b = omega arith
+look-further n k p c g f h h′ _ (came-back held R i l D low high E _ (onward r Q)) b = let e = Q .rounds in omega (arith, e)
+look-further n k p c g f h h′ _ (came-back held R i l D low high E _ (ended r Q t lt et)) b = absurd (true≢false b)
 
 -- ---- the whole
 

@@ -325,13 +325,14 @@ fn run_rounds(w: &mut [f64], iw: &mut [u32], m: usize, n: usize, k: usize) -> Ro
     ensures { λ r. ⌜ Rounded (Nnls.rounds n (dualIn m n (read m n (now (w .entry)) (now (iw .entry)))) (solveIn m n (read m n (now (w .entry)) (now (iw .entry)))) k (vec NNLS_X n (now (w .entry))) (nums 0 n (now (iw .entry))) 0 0)
         r (read m n (now (w .entry)) (now (iw .entry))) (read m n (now (w .exit)) (now (iw .exit))) ⌝ }
 {
+    let mut memory = [0usize; 80];
     let mut c = Course {
         past: 0,
         factorings: 0,
+        held: 0,
         low: 0,
         high: 0,
-        since: 0,
-        spent: 0,
+        ended: false,
     };
     while c.past < k {
         let pass = one_pass(w, iw, m, n, c.factorings);
@@ -341,7 +342,10 @@ fn run_rounds(w: &mut [f64], iw: &mut [u32], m: usize, n: usize, k: usize) -> Ro
         }
         let f = turn_all(w, iw, m, n, g);
         workspace::copy_down(w, nnls_passive::NNLS_Z, nnls_passive::NNLS_X, n);
-        c = look_back(iw, n, k, c, f);
+        c = look_back(iw, n, k, &mut memory, c, g, f);
+        if c.ended {
+            return RoundsEnd::Capped(c.past, c.factorings);
+        }
     }
     let pass = one_pass(w, iw, m, n, c.factorings);
     let g = pass.factorings;
