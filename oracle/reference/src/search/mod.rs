@@ -1,5 +1,5 @@
 //! The search: its problem, what it asks, how it ends; the Rust's own run as a tape of questions;
-//! and a second reading of docs/RULES.md, "The search", from its words alone.
+//! and a second reading of docs/RULES.md, "The search".
 
 pub mod call;
 mod machine;
