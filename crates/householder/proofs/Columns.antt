@@ -1,4 +1,4 @@
--- What `swap` and `prepare` rest on: columns exchanged, and a reflector made of a column.
+-- What `swap`, `move_down` and `prepare` rest on: columns exchanged, numbers moved, and a reflector made of a column.
 use mathlib.Core.Path.{_≡_, refl, ap, ap₂, _∙_}
 use mathlib.Core.Bool.{cond}
 use mathlib.Core.List.{List}
@@ -12,9 +12,7 @@ use lib.Ieee.{Float, nan}
 use borrow.Author.Tests.{lt-ltb, le-ltb, eq-eqb, ne-eqb}
 use Rattle.numbers.specs.Numbers.{+0, _⊖_, _⊗_, at}
 use Rattle.numbers.proofs.Cases.{lt-or-ge, eq-or-ne}
-use Rattle.workspace.specs.inner.Readings.{Block}
-use Rattle.householder.specs.Qr.{signed}
-use Rattle.householder.specs.inner.Work.{Exchanged, Prepared, diagonalOf}
+use Rattle.householder.specs.inner.Work.{Unmade, Exchanged, Moved, Prepared, diagonalOf}
 
 set-same : (w : List Float) (i : ℕ) (v : Float) → i < length w → at (set w i v) i ≡ v
 set-same w i v h = getD-set-same w i v nan h
@@ -57,68 +55,84 @@ exchanged-more t k p w₀ w ht lk lp h =
       others = λ x f g. away x (f t (omega arith)) (g t (omega arith)) ∙ h .others x (λ i l. f i (omega arith)) (λ i l. g i (omega arith));
     }
 
--- ---- `prepare`: w is blanked before row k of u, column k is copied behind that, three entries are set, and the column is blanked below its diagonal
+-- ---- `move_down`: the numbers, one after the other
 
-module _ (m k : ℕ) (largest : Float) (w w₁ w₂ w₅ : List Float) (s : Float) (m18 : m ≤ 18) (km : k < m) (long : 426 + k * 18 + 18 ≤ length w₂)
-    (b₁ : Block (k * 18) k (λ _. +0) w w₁) (b₂ : Block (k * 18 + k) (m - k) (λ t. at w₁ (426 + k * 18 + k + t)) w₁ w₂)
-    (hs : s ≡ signed (at w₂ (426 + k * 18 + k)) largest)
-    (b₅ : Block (426 + k * 18 + k + 1) (m - (k + 1)) (λ _. +0)
-    (set (set (set w₂ (k * 18 + k) (at w₂ (426 + k * 18 + k) ⊖ s)) (324 + k) (s ⊗ (at w₂ (426 + k * 18 + k) ⊖ s))) (426 + k * 18 + k) s) w₅) where
-  -- the column is copied as it was
-  column-kept : (i : ℕ) → k ≤ i → i < m → at w₂ (426 + k * 18 + i) ≡ at w (426 + k * 18 + i)
-  column-kept i a b = b₂ .after (426 + k * 18 + i) (omega arith) ∙ b₁ .after (426 + k * 18 + i) (omega arith)
+pub moved-none : (p q : ℕ) (w : List Float) → Moved p q 0 w w
+moved-none p q w = record { there = λ t h. absurd (omega arith); left = λ t h. absurd (omega arith); others = λ x f g. refl }
 
-  copied : (i : ℕ) → i < m → at w₂ (k * 18 + i) ≡ cond (ltb i k) +0 (at w (426 + k * 18 + i))
-  copied i hi =
+pub moved-more : (p q t : ℕ) (w₀ w : List Float) (z : Float) → q + t < p → p + t < length w → z ≡ +0 → Moved p q t w₀ w
+    → Moved p q (t + 1) w₀ (set (set w (q + t) (at w (p + t))) (p + t) z)
+moved-more p q t w₀ w z qp lp e h =
+    let v = at w (p + t) in
+    let w₁ = set w (q + t) v in
+    let away : (x : ℕ) → (x ≡ q + t → ⊥) → (x ≡ p + t → ⊥) → at (set w₁ (p + t) z) x ≡ at w x =
+    λ x f g. set-other w₁ (p + t) x z g ∙ set-other w (q + t) x v f in
+    record {
+      there = λ i l.
+          ⊎-elim
+          (λ (y : i < t). away (q + i) (λ a. omega arith) (λ a. omega arith) ∙ h .there i y)
+          (λ (y : t ≤ i).
+          let k : i ≡ t = omega arith in
+          rw k
+          (set-other w₁ (p + t) (q + t) z (λ a. omega arith) ∙ set-same w (q + t) v (omega arith) ∙ h .others (p + t) (λ j b a. omega arith) (λ j b a. omega arith)))
+          (lt-or-ge i t);
+      left = λ i l.
+          ⊎-elim
+          (λ (y : i < t). away (p + i) (λ a. omega arith) (λ a. omega arith) ∙ h .left i y)
+          (λ (y : t ≤ i). let k : i ≡ t = omega arith in rw k (set-same w₁ (p + t) z (rw length-set lp) ∙ e))
+          (lt-or-ge i t);
+      others = λ x f g. away x (f t (omega arith)) (g t (omega arith)) ∙ h .others x (λ i b. f i (omega arith)) (λ i b. g i (omega arith));
+    }
+
+-- ---- `prepare`: what stands below the diagonal of column k is moved into reflector k, which was +0, and three entries are set
+
+module _ (m k : ℕ) (largest : Float) (w w₁ : List Float) (s : Float) (m18 : m ≤ 18) (km : k < m) (long : 426 + k * 18 + 18 ≤ length w₁) (z : Unmade k (k + 1) w)
+    (v : Moved (426 + k * 18 + k + 1) (k * 18 + k + 1) (m - (k + 1)) w w₁) (hs : s ≡ diagonalOf k largest w) where
+  -- what the move leaves as it was
+  stayed : (x : ℕ) → ((i : ℕ) → k < i → i < m → x ≡ k * 18 + i → ⊥) → ((i : ℕ) → k < i → i < m → x ≡ 426 + k * 18 + i → ⊥) → at w₁ x ≡ at w x
+  stayed x f g = v .others x (λ t h e. f (k + 1 + t) (omega arith) (omega arith) (omega arith)) (λ t h e. g (k + 1 + t) (omega arith) (omega arith) (omega arith))
+
+  -- reflector k, but for its head
+  reflector₁ : (i : ℕ) → i < m → (i ≡ k → ⊥) → at w₁ (k * 18 + i) ≡ cond (ltb i k) +0 (at w (426 + k * 18 + i))
+  reflector₁ i hi ne =
       ⊎-elim
-      (λ (a : i < k). rw (lt-ltb i k a) (b₂ .before (k * 18 + i) (omega arith) ∙ b₁ .inside i a))
+      (λ (a : i < k). rw (lt-ltb i k a) (stayed (k * 18 + i) (λ t b c e. omega arith) (λ t b c e. omega arith) ∙ z (k * 18 + i) (omega arith) (omega arith)))
       (λ (a : k ≤ i).
-      rw (le-ltb i k a)
-      (ap (λ (x : ℕ). at w₂ x) (omega arith)
-      ∙ b₂ .inside (i - k) (omega arith)
-      ∙ b₁ .after (426 + k * 18 + k + (i - k)) (omega arith)
-      ∙ ap (λ (x : ℕ). at w x) (omega arith)))
+      let b : k < i = ⊎-elim (λ (b : k < i). b) (λ (b : i ≤ k). absurd (ne (omega arith))) (lt-or-ge k i) in
+      rw (le-ltb i k a) (ap (λ (x : ℕ). at w₁ x) (omega arith) ∙ v .there (i - (k + 1)) (omega arith) ∙ ap (λ (x : ℕ). at w x) (omega arith)))
       (lt-or-ge i k)
 
-  pub prepared-is : Prepared m k largest w w₅
+  pub prepared-is : Prepared m k largest w
+      (set (set (set w₁ (k * 18 + k) (at w (426 + k * 18 + k) ⊖ s)) (324 + k) (s ⊗ (at w (426 + k * 18 + k) ⊖ s))) (426 + k * 18 + k) s)
   prepared-is =
-      let head : at w₂ (426 + k * 18 + k) ≡ at w (426 + k * 18 + k) = column-kept k (omega arith) km in
-      let hs′ : s ≡ diagonalOf k largest w = rw (← head) hs in
-      let u = at w₂ (426 + k * 18 + k) ⊖ s in
+      let u = at w (426 + k * 18 + k) ⊖ s in
       let b = s ⊗ u in
-      let w₃ = set w₂ (k * 18 + k) u in
-      let w₄ = set w₃ (324 + k) b in
-      let l₃ : 426 + k * 18 + 18 ≤ length w₃ = rw length-set long in
-      let l₄ : 426 + k * 18 + 18 ≤ length w₄ = rw length-set l₃ in
-      let hu : u ≡ at w (426 + k * 18 + k) ⊖ diagonalOf k largest w = ap₂ _⊖_ head hs′ in
-      let run : (x : ℕ) → ((t : ℕ) → k < t → t < m → x ≡ 426 + k * 18 + t → ⊥) → at w₅ x ≡ at (set w₄ (426 + k * 18 + k) s) x =
-      λ x f.
-      ⊎-elim (λ (a : x < 426 + k * 18 + k + 1). b₅ .before x a)
-      (λ (a : 426 + k * 18 + k + 1 ≤ x).
-      b₅ .after x
-      (⊎-elim (λ (y : x < 426 + k * 18 + k + 1 + (m - (k + 1))). absurd (f (x - (426 + k * 18)) (omega arith) (omega arith) (omega arith)))
-      (λ (y : 426 + k * 18 + k + 1 + (m - (k + 1)) ≤ x). y) (lt-or-ge x (426 + k * 18 + k + 1 + (m - (k + 1))))))
-      (lt-or-ge x (426 + k * 18 + k + 1)) in
-      let pinned : (x : ℕ) → ((t : ℕ) → k ≤ t → t < m → x ≡ 426 + k * 18 + t → ⊥) → at w₅ x ≡ at w₄ x =
-      λ x f. run x (λ t a. f t (omega arith)) ∙ set-other w₄ (426 + k * 18 + k) x s (f k (omega arith) km) in
+      let w₂ = set w₁ (k * 18 + k) u in
+      let w₃ = set w₂ (324 + k) b in
+      let hu : u ≡ at w (426 + k * 18 + k) ⊖ diagonalOf k largest w = ap (λ (x : Float). at w (426 + k * 18 + k) ⊖ x) hs in
+      let l₂ : 426 + k * 18 + 18 ≤ length w₂ = rw length-set long in
+      let l₃ : 426 + k * 18 + 18 ≤ length w₃ = rw length-set l₂ in
+      let pinned : (x : ℕ) → (x ≡ 426 + k * 18 + k → ⊥) → at (set w₃ (426 + k * 18 + k) s) x ≡ at w₃ x = λ x f. set-other w₃ (426 + k * 18 + k) x s f in
+      let away : (x : ℕ) → (x ≡ k * 18 + k → ⊥) → (x ≡ 324 + k → ⊥) → at w₃ x ≡ at w₁ x =
+      λ x f g. set-other w₂ (324 + k) x b g ∙ set-other w₁ (k * 18 + k) x u f in
       record {
         u = λ i hi.
-            pinned (k * 18 + i) (λ t a h e. omega arith)
-            ∙ set-other w₃ (324 + k) (k * 18 + i) b (λ e. omega arith)
+            pinned (k * 18 + i) (λ e. omega arith)
             ∙ ⊎-elim
-            (λ (z : i ≡ k). rw (z, le-ltb k k (omega arith), eq-eqb k k refl) (set-same w₂ (k * 18 + k) u (omega arith) ∙ hu))
-            (λ (z : i ≡ k → ⊥). rw (ne-eqb i k z) (set-other w₂ (k * 18 + k) (k * 18 + i) u (λ e. z (omega arith)) ∙ copied i hi))
+            (λ (y : i ≡ k).
+            rw (y, le-ltb k k (omega arith), eq-eqb k k refl)
+            (set-other w₂ (324 + k) (k * 18 + k) b (λ e. omega arith) ∙ set-same w₁ (k * 18 + k) u (omega arith) ∙ hu))
+            (λ (y : i ≡ k → ⊥). rw (ne-eqb i k y) (away (k * 18 + i) (λ e. y (omega arith)) (λ e. omega arith) ∙ reflector₁ i hi y))
             (eq-or-ne i k);
-        b = pinned (324 + k) (λ t a h e. omega arith) ∙ set-same w₃ (324 + k) b (omega arith) ∙ ap₂ _⊗_ hs′ hu;
-        diagonal = run (426 + k * 18 + k) (λ t a h e. omega arith) ∙ set-same w₄ (426 + k * 18 + k) s (omega arith) ∙ hs′;
-        below = λ i a h. ap (λ (x : ℕ). at w₅ x) (omega arith) ∙ b₅ .inside (i - (k + 1)) (omega arith);
+        b = pinned (324 + k) (λ e. omega arith) ∙ set-same w₂ (324 + k) b (omega arith) ∙ ap₂ _⊗_ hs hu;
+        diagonal = set-same w₃ (426 + k * 18 + k) s (omega arith) ∙ hs;
+        below = λ i a h.
+            pinned (426 + k * 18 + i) (λ e. omega arith)
+            ∙ away (426 + k * 18 + i) (λ e. omega arith) (λ e. omega arith)
+            ∙ ap (λ (x : ℕ). at w₁ x) (omega arith)
+            ∙ v .left (i - (k + 1)) (omega arith);
         others = λ x f₁ f₂ f₃.
-            pinned x f₃
-            ∙ set-other w₃ (324 + k) x b f₁
-            ∙ set-other w₂ (k * 18 + k) x u (f₂ k km)
-            ∙ ⊎-elim (λ (a : x < k * 18). b₂ .before x (omega arith) ∙ b₁ .before x a)
-            (λ (a : k * 18 ≤ x).
-            ⊎-elim (λ (y : x < k * 18 + m). absurd (f₂ (x - (k * 18)) (omega arith) (omega arith)))
-            (λ (y : k * 18 + m ≤ x). b₂ .after x (omega arith) ∙ b₁ .after x (omega arith)) (lt-or-ge x (k * 18 + m)))
-            (lt-or-ge x (k * 18));
+            pinned x (f₃ k (omega arith) km)
+            ∙ away x (f₂ k km) f₁
+            ∙ stayed x (λ i a. f₂ i) (λ i a. f₃ i (omega arith));
       }

@@ -12,7 +12,7 @@ use Rattle.workspace.specs.inner.Readings.{vec, stack, nums, Block}
 use Rattle.workspace.proofs.Readings.{at-vec, vec-is, vec-same, mat-same, stack-same, row-stack, nth-front, nums-same}
 use Rattle.householder.specs.Qr.{Factors, factor, image, reflect, forth}
 use Rattle.householder.specs.Claims.{Permutation}
-use Rattle.householder.specs.inner.Work.{held, Kept, Placed}
+use Rattle.householder.specs.inner.Work.{held, Kept, Unmade, Placed}
 use Rattle.householder.proofs.Rank.{factor-rank}
 use Rattle.householder.proofs.Steps.{factors-same}
 use Rattle.householder.proofs.Sound.{factor-sound}
@@ -30,6 +30,9 @@ held-same m n k w w′ iw iw′ m18 f r p =
 -- what stands behind the matrix is free
 pub kept-held : (m n k : ℕ) (w w′ : List Float) (iw : List ℕ) → m ≤ 18 → Kept n w w′ → held m n k w′ iw ≡ held m n k w iw
 kept-held m n k w w′ iw m18 h = held-same m n k w w′ iw iw m18 (λ x l. h x (omega arith)) (λ x l u. h x u) (λ t l. refl)
+
+pub kept-unmade : (n k c : ℕ) (w w′ : List Float) → c ≤ n → Kept n w w′ → Unmade k c w → Unmade k c w′
+kept-unmade n k c w w′ cn h z x a b = h x (omega arith) ∙ z x a b
 
 -- a vector under reflector i of the held factors
 pub reflect-held : (m n k i : ℕ) (w : List Float) (iw : List ℕ) (v : List Float) → i < m → i < n

@@ -17,7 +17,7 @@ use Rattle.numbers.proofs.Lists.{tab-replicate}
 use Rattle.workspace.specs.inner.Readings.{vec, mat, stack, nums, Block}
 use Rattle.workspace.proofs.Readings.{at-vec, vec-is, vec-same, vec-set, vec-mat, entry-mat, mat-is, mat-same, mat-stack, stack-is, stack-same, row-stack, nth-front, nums-set-front}
 use Rattle.householder.specs.Qr.{Factors, columnNorm, pivot, swapped, signed, reflector, pinned, stepped, advance, tolerance, stopIf, steps, start, factor}
-use Rattle.householder.specs.inner.Work.{held, Turned, Exchanged, Prepared, diagonalOf}
+use Rattle.householder.specs.inner.Work.{held, Unmade, Turned, Exchanged, Prepared, diagonalOf}
 use Rattle.householder.specs.declared.Candidate.{Candidate}
 
 -- ---- columns exchanged
@@ -40,6 +40,10 @@ module _ (m n k p : ℕ) (w w′ : List Float) (m18 : m ≤ 18) (kn : k < n) (pn
 
   exchanged-rest : (y : ℕ) → y < 426 → at w′ y ≡ at w y
   exchanged-rest y h = x .others y (λ i a e. omega arith) (λ i a e. omega arith)
+
+  -- reflector k is still to be made
+  pub unmade-exchanged : k < m → Unmade k (min m n) w → Unmade k (k + 1) w′
+  unmade-exchanged km z y a b = exchanged-rest y (omega arith) ∙ z y a (omega arith)
 
 -- ---- a reflector made of column k, and the columns behind it under the reflector: w₁ to w₂ to w₃
 
@@ -155,9 +159,9 @@ module _ (m n k : ℕ) (top : Candidate) (w w₁ w₂ w₃ : List Float) (iw iw�
     (m18 : m ≤ 18) (km : k < m) (kn : k < n) (pn : top .index < n) (long : 426 ≤ length w₁) (wide : n ≤ length iw)
     (x : Exchanged m k (top .index) w w₁) (h : Prepared m k (top .norm) w₁ w₂) (t : Turned m k n w₂ w₃)
     (ei : iw′ ≡ set (set iw k (nth iw (top .index))) (top .index) (nth iw k)) where
-  pub step-is : held m n (k + 1) w₃ iw′ ≡ advance m n k top (held m n k w iw)
+  held-next : held m n (k + 1) w₃ iw′ ≡ advance m n k top (held m n k w iw)
   unfolding advance r₁ s₁
-  step-is =
+  held-next =
       let p = top .index in
       let c = min m n in
       let er : mat 426 m n w₁ ≡ swapped m n k p (mat 426 m n w) = exchanged-mat m n k p w w₁ m18 kn pn x in
@@ -168,6 +172,16 @@ module _ (m n k : ℕ) (top : Candidate) (w w₁ w₂ w₃ : List Float) (iw iw�
       (swapped-nums n k p iw iw′ kn pn wide ei)
       (rw (er, eu) at (u₃ m n k (top .norm) w₁ w₂ w₃ m18 km kn h t c (omega arith)))
       (rw (er, eb) at (b₃ m n k (top .norm) w₁ w₂ w₃ m18 km kn h t c (omega arith) (omega arith) long))
+
+  -- the reflectors past k are still to be made
+  unmade-next : Unmade k (min m n) w → Unmade (k + 1) (min m n) w₃
+  unmade-next z y a b =
+      rest₃ m n k (top .norm) w₁ w₂ w₃ m18 km kn h t y (omega arith) (λ e. omega arith) (λ i l e. omega arith)
+      ∙ exchanged-rest m n k (top .index) w w₁ m18 kn pn x y (omega arith)
+      ∙ z y (omega arith) b
+
+  pub step-is : Unmade k (min m n) w → (held m n (k + 1) w₃ iw′ ≡ advance m n k top (held m n k w iw)) × Unmade (k + 1) (min m n) w₃
+  step-is z = (held-next, unmade-next z)
 
 -- ---- before step 0
 
@@ -182,15 +196,17 @@ rows-replicate (suc c) m a =
 vec-blank : (o n : ℕ) (w : List Float) → ((i : ℕ) → i < n → at w (o + i) ≡ +0) → vec o n w ≡ replicate n +0
 vec-blank o n w h = vec-is o n w (λ _. +0) h ∙ tab-replicate n +0
 
-pub start-is : (m n c : ℕ) (w w₁ w₂ : List Float) (iw : List ℕ) → m ≤ 18 → c ≡ min m n → Block 0 (c * 18) (λ _. +0) w w₁ → Block 324 c (λ _. +0) w₁ w₂ → nums 0 n iw ≡ tab n (λ j. j)
-    → held m n 0 w₂ iw ≡ start m n (mat 426 m n w)
-start-is m n c w w₁ w₂ iw m18 ec b₁ b₂ e =
-    let zero-at : (x : ℕ) → x < c * 18 → at w₂ x ≡ +0 = λ x h. b₂ .before x (omega arith) ∙ ap (λ (y : ℕ). at w₁ y) (sym (zero-add x)) ∙ b₁ .inside x h in
-    factors-same 0 _ _ _ _ _ _ _ _
-    (mat-same 426 m n w w₂ (λ i j hi hj. b₂ .after (426 + j * 18 + i) (omega arith) ∙ b₁ .after (426 + j * 18 + i) (omega arith)))
-    e
-    (stack-is 0 (min m n) m w₂ (λ _. replicate m +0) (λ q hq. vec-blank (0 + q * 18) m w₂ (λ i hi. zero-at (0 + q * 18 + i) (omega arith))) ∙ rows-replicate (min m n) m +0)
-    (vec-blank 324 (min m n) w₂ (λ i hi. b₂ .inside i (omega arith)))
+module _ (m n c : ℕ) (w w₁ w₂ : List Float) (m18 : m ≤ 18) (ec : c ≡ min m n) (b₁ : Block 0 (c * 18) (λ _. +0) w w₁) (b₂ : Block 324 c (λ _. +0) w₁ w₂) where
+  pub unmade-start : Unmade 0 (min m n) w₂
+  unmade-start x a h = b₂ .before x (omega arith) ∙ ap (λ (y : ℕ). at w₁ y) (sym (zero-add x)) ∙ b₁ .inside x (omega arith)
+
+  pub start-is : (iw : List ℕ) → nums 0 n iw ≡ tab n (λ j. j) → held m n 0 w₂ iw ≡ start m n (mat 426 m n w)
+  start-is iw e =
+      factors-same 0 _ _ _ _ _ _ _ _
+      (mat-same 426 m n w w₂ (λ i j hi hj. b₂ .after (426 + j * 18 + i) (omega arith) ∙ b₁ .after (426 + j * 18 + i) (omega arith)))
+      e
+      (stack-is 0 (min m n) m w₂ (λ _. replicate m +0) (λ q hq. vec-blank (0 + q * 18) m w₂ (λ i hi. unmade-start (0 + q * 18 + i) (omega arith) (omega arith))) ∙ rows-replicate (min m n) m +0)
+      (vec-blank 324 (min m n) w₂ (λ i hi. b₂ .inside i (omega arith)))
 
 -- ---- the tolerance
 

@@ -13,9 +13,10 @@ ghost use Rattle.numbers.specs.Numbers.{at, nth, tab};
 ghost use Rattle.workspace.specs.inner.Readings.{vec, mat, nums, Block};
 ghost use Rattle.householder.specs.Qr.{pivot, tolerance, signed, advance, factor, solve};
 ghost use Rattle.householder.specs.inner.Search.{product, four};
-ghost use Rattle.householder.specs.inner.Work.{held, Turned, Prepared, AppliedQt, AppliedQ, SolvedR, SolvedRt, Placed};
+ghost use Rattle.householder.specs.inner.Work.{held, Unmade, Turned, Prepared, AppliedQt, AppliedQ, SolvedR, SolvedRt, Placed};
 ghost use Rattle.householder.specs.inner.Places.{QR_MATRIX, QR_SIDE, QR_SOLUTION};
 use crate::search::pivot;
+use crate::vectors::move_down;
 use crate::vectors::reflect;
 use crate::vectors::reflect_by;
 use crate::vectors::swap;
@@ -123,28 +124,26 @@ fn signed_of(head: f64, largest: f64) -> f64
     largest
 }
 
-// Algorithm H1: reflector k from column k, and column k under it.
+// Algorithm H1: reflector k from column k, and column k under it; before row k the reflector is +0 already.
 fn prepare(w: &mut [f64], m: usize, k: usize, largest: f64)
-    requires { ⌜ (m ≤ 18) × (k < m) × (QR_MATRIX + k * 18 + 18 ≤ length (now w)) ⌝ }
+    requires { ⌜ (m ≤ 18) × (k < m) × (QR_MATRIX + k * 18 + 18 ≤ length (now w)) × Unmade k (k + 1) (now w) ⌝ }
     ensures { λ _. ⌜ Prepared m k largest (now (w .entry)) (now (w .exit)) ⌝ }
 {
     let o = k * 18;
     let q = QR_MATRIX + o + k;
-    workspace::blank(w, o, k);
-    workspace::copy_down(w, q, o + k, m - k);
     let head = w[q];
     let s = signed_of(head, largest);
     let u = head - s;
+    move_down(w, q + 1, o + k + 1, m - (k + 1));
     w[o + k] = u;
     w[QR_B + k] = s * u;
     w[q] = s;
-    workspace::blank(w, q + 1, m - (k + 1));
 }
 
 // Step k, on the column of the candidate.
 fn step(w: &mut [f64], iw: &mut [u32], m: usize, n: usize, k: usize, top: Candidate)
-    requires { ⌜ (m ≤ 18) × (k < m) × (k < n) × (top .index < n) × (QR_MATRIX + n * 18 ≤ length (now w)) × (n ≤ length (now iw)) ⌝ }
-    ensures { λ _. ⌜ held m n (k + 1) (now (w .exit)) (now (iw .exit)) ≡ advance m n k top (held m n k (now (w .entry)) (now (iw .entry))) ⌝ }
+    requires { ⌜ (m ≤ 18) × (k < m) × (k < n) × (top .index < n) × (QR_MATRIX + n * 18 ≤ length (now w)) × (n ≤ length (now iw)) × Unmade k (min m n) (now w) ⌝ }
+    ensures { λ _. ⌜ (held m n (k + 1) (now (w .exit)) (now (iw .exit)) ≡ advance m n k top (held m n k (now (w .entry)) (now (iw .entry)))) × Unmade (k + 1) (min m n) (now (w .exit)) ⌝ }
 {
     let p = top.index;
     let largest = top.norm;

@@ -1,11 +1,11 @@
-// What is done to one vector or two: a reflector is applied, and two columns change places.
+// What is done to one vector or two: a reflector is applied, a vector is moved, and two columns change places.
 ghost use mathlib.Core.Path.{_≡_};
 ghost use Prim.Native.Nat.{_+_, _-_, _*_, _<_, _≤_};
 ghost use lib.ListN.{length, set};
 ghost use Rattle.numbers.specs.Numbers.{at, nth, _⊕_, _⊗_};
 ghost use Rattle.workspace.specs.inner.Readings.{Block};
 ghost use Rattle.householder.specs.inner.Search.{product};
-ghost use Rattle.householder.specs.inner.Work.{Reflected, Exchanged};
+ghost use Rattle.householder.specs.inner.Work.{Reflected, Exchanged, Moved};
 ghost use Rattle.householder.specs.inner.Places.{QR_SIDE, QR_MATRIX};
 
 // Adds s times the c numbers from p on to the c numbers from q on, which lie behind them.
@@ -37,6 +37,17 @@ pub fn reflect(w: &mut [f64], m: usize, k: usize, o: usize)
 {
     let d = numbers::dot_within(w, k * 18 + k, o + k, m - k);
     reflect_by(w, m, k, o, d);
+}
+
+// Moves the c numbers from p on to q on, which lies before them, and leaves +0 where they stood.
+pub fn move_down(w: &mut [f64], p: usize, q: usize, c: usize)
+    requires { ⌜ (q + c ≤ p) × (p + c ≤ length (now w)) ⌝ }
+    ensures { λ _. ⌜ Moved p q c (now (w .entry)) (now (w .exit)) ⌝ }
+{
+    for t in 0..c {
+        w[q + t] = w[p + t];
+        w[p + t] = 0.0;
+    }
 }
 
 // Columns k and p exchanged.

@@ -6,15 +6,15 @@ use lib.ListN.{length}
 use Rattle.workspace.specs.inner.Readings.{mat}
 use Rattle.workspace.proofs.Readings.{lit-+0, mat-same}
 use Rattle.householder.specs.Qr.{steps, start, factor, advance}
-use Rattle.householder.specs.inner.Work.{held}
-use Rattle.householder.proofs.Held.{kept-held}
-use Rattle.householder.proofs.Steps.{start-is, pivot-index, factor-start, factor-stop, factor-again, factor-end}
+use Rattle.householder.specs.inner.Work.{held, Unmade}
+use Rattle.householder.proofs.Held.{kept-held, kept-unmade}
+use Rattle.householder.proofs.Steps.{unmade-start, start-is, pivot-index, factor-start, factor-stop, factor-again, factor-end}
 use Rattle.householder.proofs.factor_in.Statement.{statement}
 use Rattle.householder.proofs.factor_in.Tie as tie
 
 abbrev Inv-loop : tie.InvT-loop
 Inv-loop w₀ iw₀ m n c tol₀ k₀ w iw tol k =
-    (k ≤ c) × (c ≡ min m n) × (length w ≡ length w₀) × (length iw ≡ length iw₀) × (factor m n (mat 426 m n w₀) ≡ steps m n (c - k) k tol (held m n k w iw))
+    (k ≤ c) × (c ≡ min m n) × (length w ≡ length w₀) × (length iw ≡ length iw₀) × (factor m n (mat 426 m n w₀) ≡ steps m n (c - k) k tol (held m n k w iw)) × Unmade k (min m n) w
 
 abbrev μ-loop : tie.MeasureT-loop
 μ-loop w₀ iw₀ m n c tol₀ k₀ w iw tol k = c - k
@@ -58,7 +58,8 @@ loop-holds c = let s = c .before .before .before .before .before .before .before
       refl,
       rw e
           (factor-start (a .m) (a .n) (mat 426 (a .m) (a .n) (b₂ .last .0)) _ _ lit-+0
-          (start-is (a .m) (a .n) (c .before .before .before .before .before .before .before .before .before .before .before .before .smaller .result) (a .w .now) (b₁ .last .0) (b₂ .last .0) (i .last .0) (s .pre .0) e (b₁ .ensures) (b₂ .ensures) (i .ensures) ∙ ap (start (a .m) (a .n)) (sym (matrix c)))),
+          (start-is (a .m) (a .n) (c .before .before .before .before .before .before .before .before .before .before .before .before .smaller .result) (a .w .now) (b₁ .last .0) (b₂ .last .0) (s .pre .0) e (b₁ .ensures) (b₂ .ensures) (i .last .0) (i .ensures) ∙ ap (start (a .m) (a .n)) (sym (matrix c)))),
+      unmade-start (a .m) (a .n) (c .before .before .before .before .before .before .before .before .before .before .before .before .smaller .result) (a .w .now) (b₁ .last .0) (b₂ .last .0) (s .pre .0) e (b₁ .ensures) (b₂ .ensures),
     )
 
 pivot-requires : tie.Need-pivot-requires Inv-loop μ-loop
@@ -100,7 +101,7 @@ step-requires c κs = let p = c .before .before .before .before .before .before 
     let s = c .before .before .before .before .before .before .before .before .before .before .before .before .before .before .before .before .before .before .before .before .before .before .before .before .before in
     let a = s .args in
     let kn : l .k < a .n = omega arith in
-    (s .pre .0, omega arith, kn, rw (p .ensures .0) (pivot-index (a .m) (a .n) (l .k) (mat 426 (a .m) (a .n) (l .w)) (a .n - l .k) kn (omega (arith, kn))), omega (arith, p .kept .0, l .inv .2, c .before .before .before .before .before .before .before .before .before .before .before .before .before .before .before .before .blank2 .kept .0, c .before .before .before .before .before .before .before .before .before .before .before .before .before .before .before .before .before .before .before .before .blank .kept .0, s .pre .2), omega (arith, l .inv .3, c .before .before .before .before .before .before .before .before .before .before .before .before .count .kept .0, s .pre .3))
+    (s .pre .0, omega arith, kn, rw (p .ensures .0) (pivot-index (a .m) (a .n) (l .k) (mat 426 (a .m) (a .n) (l .w)) (a .n - l .k) kn (omega (arith, kn))), omega (arith, p .kept .0, l .inv .2, c .before .before .before .before .before .before .before .before .before .before .before .before .before .before .before .before .blank2 .kept .0, c .before .before .before .before .before .before .before .before .before .before .before .before .before .before .before .before .before .before .before .before .blank .kept .0, s .pre .2), omega (arith, l .inv .3, c .before .before .before .before .before .before .before .before .before .before .before .before .count .kept .0, s .pre .3), kept-unmade (a .n) (l .k) (min (a .m) (a .n)) (l .w) (p .last .0) (omega arith) (p .ensures .1) (l .inv .5))
 
 add-k : tie.Need-add-k Inv-loop μ-loop
 add-k c = omega arith
@@ -121,7 +122,8 @@ loop-again c = let t = c .before .before .before .before .before .before .before
       n .kept .1 .0 ∙ l .inv .3,
       factor-again (a .m) (a .n) (c .before .before .before .before .before .before .before .before .before .before .before .before .before .before .before .before .before .before .before .before .before .before .before .before .before .before .before .smaller .result) (l .k) (held (a .m) (a .n) (l .k) (l .w) (l .iw)) (l .tol) (t .result) (p .result)
           (c .before .before .before .before .before .before .before .before .before .before .before .before .before .loop-test .taken) (p .ensures .0) (t .ensures) _ _ (c .before .before .before .before .before .before .before .if1 .left)
-          (n .ensures ∙ ap (advance (a .m) (a .n) (l .k) (p .result)) (searched (c .before .before .before .before .before .before .before .before .before .before .before))) (l .inv .4),
+          (n .ensures .0 ∙ ap (advance (a .m) (a .n) (l .k) (p .result)) (searched (c .before .before .before .before .before .before .before .before .before .before .before))) (l .inv .4),
+      n .ensures .1,
     )
 
 same-length-3 : tie.Need-same-length-3 Inv-loop μ-loop

@@ -1,87 +1,77 @@
--- `prepare`: from what it writes to what reflector and column then are.
-use mathlib.Core.Path.{_≡_, refl, ap, ap₂, _∙_}
-use Prim.Native.Nat.{ℕ, _+_, _*_, _-_, _≤_, _<_}
+-- `prepare`: from what it moves and writes to what reflector and column then are.
 use native.Mathlib.Omega.{arith}
-use lib.ListN.{length, length-set}
+use lib.ListN.{length-set}
 use Rattle.householder.proofs.Columns.{prepared-is}
-use borrow.Author.Needs.{needs}
 use Rattle.householder.proofs.prepare.Statement.{statement}
 use Rattle.householder.proofs.prepare.Tie as tie
 
 mul-o : tie.Need-mul-o
-mul-o c = search needs
+mul-o c = omega arith
 
 add-q : tie.Need-add-q
-add-q c = search needs
+add-q c = omega arith
 
 add-q-2 : tie.Need-add-q-2
-add-q-2 c = search needs
-
-blank-requires : tie.Need-blank-requires
-blank-requires c κs = search needs
-
-add-copy-down : tie.Need-add-copy-down
-add-copy-down c = search needs
-
-sub-copy-down : tie.Need-sub-copy-down
-sub-copy-down c = search needs
-
-copy-down-requires : tie.Need-copy-down-requires
-copy-down-requires c κs = search needs
+add-q-2 c = omega arith
 
 mul-head : tie.Need-mul-head
-mul-head c = search needs
+mul-head c = omega arith
 
 slice-read-head : tie.Need-slice-read-head
-slice-read-head c = search needs
+slice-read-head c = omega arith
 
 signed-of-requires : tie.Need-signed-of-requires
-signed-of-requires c κs = search needs
+signed-of-requires c κs = omega arith
+
+add-move-down : tie.Need-add-move-down
+add-move-down c = omega arith
+
+add-move-down-2 : tie.Need-add-move-down-2
+add-move-down-2 c = omega arith
+
+add-move-down-3 : tie.Need-add-move-down-3
+add-move-down-3 c = omega arith
+
+add-move-down-4 : tie.Need-add-move-down-4
+add-move-down-4 c = omega arith
+
+sub-move-down : tie.Need-sub-move-down
+sub-move-down c = omega arith
+
+move-down-requires : tie.Need-move-down-requires
+move-down-requires c κs = omega arith
 
 add-w : tie.Need-add-w
-add-w c = search needs
+add-w c = omega arith
 
 mul-w : tie.Need-mul-w
-mul-w c = search needs
+mul-w c = omega arith
 
 slice-write-w : tie.Need-slice-write-w
-slice-write-w c = search needs
+slice-write-w c = omega arith
 
 add-w-2 : tie.Need-add-w-2
-add-w-2 c = search needs
+add-w-2 c = omega arith
 
 mul-w-2 : tie.Need-mul-w-2
-mul-w-2 c = search needs
+mul-w-2 c = omega arith
 
 slice-write-w-2 : tie.Need-slice-write-w-2
 slice-write-w-2 c = simp length-set (omega arith)
 
 mul-w-3 : tie.Need-mul-w-3
-mul-w-3 c = search needs
+mul-w-3 c = omega arith
 
 slice-write-w-3 : tie.Need-slice-write-w-3
 slice-write-w-3 c = simp length-set (omega arith)
 
-add-blank : tie.Need-add-blank
-add-blank c = search needs
-
-add-blank-2 : tie.Need-add-blank-2
-add-blank-2 c = search needs
-
-sub-blank : tie.Need-sub-blank
-sub-blank c = search needs
-
-blank-requires-2 : tie.Need-blank-requires-2
-blank-requires-2 c κs = simp length-set (omega arith)
-
 same-length : tie.Need-same-length
-same-length c = c .before .before .blank2 .kept .0 ∙ simp length-set (omega arith)
+same-length c = simp length-set (omega arith)
 
 returns : tie.Need-returns
-returns c = let s = c .before .before .before .before .before .before .before .before .before .before .before .before .before .before .before in
+returns c = let s = c .before .before .before .before .before .before .before in
     let a = s .args in
-    prepared-is (a .m) (a .k) (a .largest) (a .w .now) (c .before .before .before .before .before .before .before .before .before .before .before .before .blank .last .0) (c .before .before .before .before .before .before .before .before .copy-down .last .0) _ (c .before .before .before .before .signed-of .result) (s .pre .0) (s .pre .1) (omega arith)
-    (c .before .before .before .before .before .before .before .before .before .before .before .before .blank .ensures) (c .before .before .before .before .before .before .before .before .copy-down .ensures) (c .before .before .before .before .signed-of .ensures) (c .before .before .blank2 .ensures)
+    prepared-is (a .m) (a .k) (a .largest) (a .w .now) (c .before .before .move-down .last .0) (c .before .before .before .before .signed-of .result) (s .pre .0) (s .pre .1) (omega arith) (s .pre .3) (c .before .before .move-down .ensures) (c .before .before .before .before .signed-of .ensures)
 
 pub prepare-spec : {M : Type 1} → statement M
 prepare-spec =
@@ -90,13 +80,15 @@ prepare-spec =
     mul-o
     add-q
     add-q-2
-    blank-requires
-    add-copy-down
-    sub-copy-down
-    copy-down-requires
     mul-head
     slice-read-head
     signed-of-requires
+    add-move-down
+    add-move-down-2
+    add-move-down-3
+    add-move-down-4
+    sub-move-down
+    move-down-requires
     add-w
     mul-w
     slice-write-w
@@ -105,9 +97,5 @@ prepare-spec =
     slice-write-w-2
     mul-w-3
     slice-write-w-3
-    add-blank
-    add-blank-2
-    sub-blank
-    blank-requires-2
     same-length
     returns)

@@ -20,6 +20,10 @@ held m n k w iw = record { rank = k; r = mat QR_MATRIX m n w; perm = nums 0 n iw
 abbrev pub Kept : (n : ℕ) (w w′ : List Float) → Type 0
 Kept n w w′ = (x : ℕ) → x < QR_MATRIX + n * 18 → at w′ x ≡ at w x
 
+-- the reflectors from k on, of c, are not made yet: they are +0
+abbrev pub Unmade : (k c : ℕ) → List Float → Type 0
+Unmade k c w = (x : ℕ) → k * 18 ≤ x → x < c * 18 → at w x ≡ +0
+
 -- w′ is w with the vector at o under reflector k
 pub record Reflected (m k o : ℕ) (w w′ : List Float) : Type 0 where
   pub value : vec o m w′ ≡ image m k (vec (k * 18) m w) (at w (QR_B + k)) (vec o m w)
@@ -37,6 +41,12 @@ pub record Exchanged (m k p : ℕ) (w w′ : List Float) : Type 0 where
   pub first : (i : ℕ) → i < m → at w′ (QR_MATRIX + k * 18 + i) ≡ at w (QR_MATRIX + p * 18 + i)
   pub second : (i : ℕ) → i < m → at w′ (QR_MATRIX + p * 18 + i) ≡ at w (QR_MATRIX + k * 18 + i)
   pub others : (x : ℕ) → ((i : ℕ) → i < m → x ≡ QR_MATRIX + k * 18 + i → ⊥) → ((i : ℕ) → i < m → x ≡ QR_MATRIX + p * 18 + i → ⊥) → at w′ x ≡ at w x
+
+-- w′ is w with the c numbers from p on moved to q on, and +0 where they stood
+pub record Moved (p q c : ℕ) (w w′ : List Float) : Type 0 where
+  pub there : (t : ℕ) → t < c → at w′ (q + t) ≡ at w (p + t)
+  pub left : (t : ℕ) → t < c → at w′ (p + t) ≡ +0
+  pub others : (x : ℕ) → ((t : ℕ) → t < c → x ≡ q + t → ⊥) → ((t : ℕ) → t < c → x ≡ p + t → ⊥) → at w′ x ≡ at w x
 
 -- the new diagonal entry of column k
 abbrev pub diagonalOf : ℕ → Float → List Float → Float
