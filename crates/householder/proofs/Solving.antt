@@ -5,7 +5,7 @@ use Prim.Native.Nat.{ℕ, suc, _+_, _-_, _*_, _≤_, _<_}
 use native.Mathlib.Nat.{zero-add}
 use native.Mathlib.Numerals.{add-one}
 use native.Mathlib.Omega.{arith}
-use lib.ListN.{length, set, replicate}
+use lib.ListN.{length, length-set, set, replicate}
 use lib.Seq.{getD-set-other}
 use lib.Ieee.{Float, nan}
 use Rattle.numbers.specs.Numbers.{+0, _⊖_, _⊗_, _⊘_, Σ, at, nth, scatter, entry}
@@ -15,7 +15,9 @@ use Rattle.workspace.specs.inner.Readings.{vec, mat, nums, Block}
 use Rattle.workspace.proofs.Readings.{at-vec, vec-same, vec-set, entry-mat, nth-nums}
 use Rattle.workspace.proofs.Writes.{block-vec}
 use Rattle.householder.specs.Qr.{image, forth, back, applyQt, applyQ, upward, solveR, downward, solveRt, solve}
-use Rattle.householder.specs.inner.Work.{held, Reflected, AppliedQt, AppliedQ, SolvedR, SolvedRt, Placed}
+use Rattle.householder.specs.declared.Four.{Four}
+use Rattle.householder.specs.inner.Search.{product, four}
+use Rattle.householder.specs.inner.Work.{held, Reflected, AppliedQt, AppliedQ, SolvedR, SolvedRt, SolvedFour, Placed}
 use Rattle.householder.proofs.Held.{held-same, reflect-held, forth-same}
 
 -- ---- Q': the first i reflectors, from the first to the last
@@ -145,39 +147,148 @@ pub descending-none : (n k o : ℕ) (w : List Float) → SolvingRt n k o 0 w w
 unfolding downward
 descending-none n k o w = record { done = λ m h. refl; before = λ x h. refl; after = λ x h. refl }
 
-module _ (n k o i : ℕ) (w₀ w : List Float) (s : Float) (k18 : k ≤ 18) (kn : k ≤ n) (ik : i < k) (far : 426 + n * 18 ≤ o) (long : o + k ≤ length w) (h : SolvingRt n k o i w₀ w)
-    (es : s ≡ Σ i (λ j. at w (426 + i * 18 + j) ⊗ at w (o + j))) where
-  abbrev z : Float
-  z = (at w (o + i) ⊖ s) ⊘ at w (426 + i * 18 + i)
-
-  module _ (m : ℕ) (km : k ≤ m) where
+-- one row more of the vector at o: u and w agree there, and w′ is u with the new entry, as far as the vector goes
+module _ (n k o i : ℕ) (w₀ w u w′ : List Float) (s d : Float) (ik : i < k) (k18 : k ≤ 18) (kn : k ≤ n) (r : (x : ℕ) → x < 426 + n * 18 → at w x ≡ at w₀ x)
+    (es : s ≡ Σ i (λ j. at w (426 + i * 18 + j) ⊗ at w (o + j))) (ed : d ≡ at w (426 + i * 18 + i)) (long : o + k ≤ length u)
+    (here : (t : ℕ) → t < k → at u (o + t) ≡ at w (o + t)) (there : (t : ℕ) → t < k → at w′ (o + t) ≡ at (set u (o + i) ((at u (o + i) ⊖ s) ⊘ d)) (o + t)) where
+  module _ (m : ℕ) (km : k ≤ m) (done : vec o k w ≡ downward n (mat 426 m n w₀) i (vec o k w₀)) where
     in-rt : (j : ℕ) → j < i + 1 → at w (426 + i * 18 + j) ≡ entry n (mat 426 m n w₀) j i
-    in-rt j hj = h .before (426 + i * 18 + j) (omega arith) ∙ sym (entry-mat 426 m n w₀ j i (omega arith) (omega arith))
+    in-rt j hj = r (426 + i * 18 + j) (omega arith) ∙ sym (entry-mat 426 m n w₀ j i (omega arith) (omega arith))
 
     in-z : (j : ℕ) → j < k → at w (o + j) ≡ at (downward n (mat 426 m n w₀) i (vec o k w₀)) j
-    in-z j hj = sym (at-vec o k w j hj) ∙ ap (λ (l : List Float). at l j) (h .done m km)
+    in-z j hj = sym (at-vec o k w j hj) ∙ ap (λ (l : List Float). at l j) done
 
     head-is : s ≡ Σ i (λ j. entry n (mat 426 m n w₀) j i ⊗ at (downward n (mat 426 m n w₀) i (vec o k w₀)) j)
     head-is = es ∙ Σ-same i _ _ (λ j hj. ap₂ _⊗_ (in-rt j (omega arith)) (in-z j (omega arith)))
 
-    done-is : vec o k (set w (o + i) z) ≡ downward n (mat 426 m n w₀) (i + 1) (vec o k w₀)
+    pub row-down : vec o k w′ ≡ downward n (mat 426 m n w₀) (i + 1) (vec o k w₀)
     unfolding downward
-    done-is =
-        vec-set o k i w z ik long
+    row-down =
+        vec-same o k _ w′ there
+        ∙ vec-set o k i u _ ik long
         ∙ rw add-one
-        (ap₂ (λ (l : List Float) (x : Float). set l i x) (h .done m km) (ap₂ _⊘_ (ap₂ _⊖_ (in-z i ik) head-is) (in-rt i (omega arith))))
+        (ap₂ (λ (l : List Float) (x : Float). set l i x) (vec-same o k w u here ∙ done)
+        (ap₂ _⊘_ (ap₂ _⊖_ (here i ik ∙ in-z i ik) head-is) (ed ∙ in-rt i (omega arith))))
 
-  pub descending-more : SolvingRt n k o (i + 1) w₀ (set w (o + i) ((at w (o + i) ⊖ s) ⊘ at w (426 + i * 18 + i)))
-  descending-more = record {
-    done = λ m km. done-is m km;
-    before = λ x a. getD-set-other w (o + i) x z nan (λ e. omega arith) ∙ h .before x a;
-    after = λ x a. getD-set-other w (o + i) x z nan (λ e. omega arith) ∙ h .after x a;
-  }
+pub descending-more : (n k o i : ℕ) (w₀ w : List Float) (s : Float) → k ≤ 18 → k ≤ n → i < k → 426 + n * 18 ≤ o → o + k ≤ length w → SolvingRt n k o i w₀ w
+    → s ≡ Σ i (λ j. at w (426 + i * 18 + j) ⊗ at w (o + j)) → SolvingRt n k o (i + 1) w₀ (set w (o + i) ((at w (o + i) ⊖ s) ⊘ at w (426 + i * 18 + i)))
+descending-more n k o i w₀ w s k18 kn ik far long h es = record {
+  done = λ m km. row-down n k o i w₀ w w _ s _ ik k18 kn (λ x l. h .before x (omega arith)) es refl long (λ t l. refl) (λ t l. refl) m km (h .done m km);
+  before = λ x a. getD-set-other w (o + i) x _ nan (λ e. omega arith) ∙ h .before x a;
+  after = λ x a. getD-set-other w (o + i) x _ nan (λ e. omega arith) ∙ h .after x a;
+}
 
 pub descending-done : (n k o i : ℕ) (w₀ w : List Float) → i ≡ k → SolvingRt n k o i w₀ w → SolvedRt n k o w₀ w
 unfolding solveRt
 descending-done n k o i w₀ w e h =
     record { value = λ m iw km. h .done m km ∙ ap (λ (t : ℕ). downward n (mat 426 m n w₀) t (vec o k w₀)) e; before = h .before; after = h .after }
+
+-- ---- the same on four vectors side by side
+
+pub record SolvingFour (n k o i : ℕ) (w₀ w : List Float) : Type 0 where
+  pub first : (m : ℕ) → k ≤ m → vec o k w ≡ downward n (mat 426 m n w₀) i (vec o k w₀)
+  pub second : (m : ℕ) → k ≤ m → vec (o + 18) k w ≡ downward n (mat 426 m n w₀) i (vec (o + 18) k w₀)
+  pub third : (m : ℕ) → k ≤ m → vec (o + 36) k w ≡ downward n (mat 426 m n w₀) i (vec (o + 36) k w₀)
+  pub fourth : (m : ℕ) → k ≤ m → vec (o + 54) k w ≡ downward n (mat 426 m n w₀) i (vec (o + 54) k w₀)
+  pub others : (x : ℕ) → ((j t : ℕ) → j < 4 → t < k → x ≡ o + j * 18 + t → ⊥) → at w x ≡ at w₀ x
+
+pub four-none : (n k o : ℕ) (w : List Float) → SolvingFour n k o 0 w w
+unfolding downward
+four-none n k o w = record { first = λ m h. refl; second = λ m h. refl; third = λ m h. refl; fourth = λ m h. refl; others = λ x h. refl }
+
+module _ (n k o i : ℕ) (w₀ w : List Float) (f : Four) (d : Float) (k18 : k ≤ 18) (kn : k ≤ n) (ik : i < k) (far : 426 + n * 18 ≤ o) (long : o + 54 + k ≤ length w)
+    (h : SolvingFour n k o i w₀ w) (ef : f ≡ four i (426 + i * 18) 0 o w) (ed : d ≡ at w (426 + i * 18 + i)) where
+  abbrev z₁ : Float
+  z₁ = (at w (o + i) ⊖ f .a) ⊘ d
+
+  abbrev w₁ : List Float
+  w₁ = set w (o + i) z₁
+
+  abbrev z₂ : Float
+  z₂ = (at w₁ (o + 18 + i) ⊖ f .b) ⊘ d
+
+  abbrev w₂ : List Float
+  w₂ = set w₁ (o + 18 + i) z₂
+
+  abbrev z₃ : Float
+  z₃ = (at w₂ (o + 36 + i) ⊖ f .c) ⊘ d
+
+  abbrev w₃ : List Float
+  w₃ = set w₂ (o + 36 + i) z₃
+
+  abbrev z₄ : Float
+  z₄ = (at w₃ (o + 54 + i) ⊖ f .d) ⊘ d
+
+  abbrev w₄ : List Float
+  w₄ = set w₃ (o + 54 + i) z₄
+
+  -- what each write leaves alone
+  past₁ : (x : ℕ) → (x ≡ o + i → ⊥) → at w₁ x ≡ at w x
+  past₁ x g = getD-set-other w (o + i) x z₁ nan g
+
+  past₂ : (x : ℕ) → (x ≡ o + 18 + i → ⊥) → at w₂ x ≡ at w₁ x
+  past₂ x g = getD-set-other w₁ (o + 18 + i) x z₂ nan g
+
+  past₃ : (x : ℕ) → (x ≡ o + 36 + i → ⊥) → at w₃ x ≡ at w₂ x
+  past₃ x g = getD-set-other w₂ (o + 36 + i) x z₃ nan g
+
+  past₄ : (x : ℕ) → (x ≡ o + 54 + i → ⊥) → at w₄ x ≡ at w₃ x
+  past₄ x g = getD-set-other w₃ (o + 54 + i) x z₄ nan g
+
+  -- R is as it was
+  r-kept : (x : ℕ) → x < 426 + n * 18 → at w x ≡ at w₀ x
+  r-kept x l = h .others x (λ j t hj ht e. omega arith)
+
+  -- a stride of none leaves the row of R where it is
+  same-head : (q c : ℕ) → c ≡ 0 → product i (426 + i * 18 + c) q w ≡ product i (426 + i * 18) q w
+  same-head q c e = ap (λ (x : ℕ). product i x q w) (let y : 426 + i * 18 + c ≡ 426 + i * 18 = omega arith in y)
+
+  length₁ : length w₁ ≡ length w
+  length₁ = length-set w (o + i) z₁
+
+  length₂ : length w₂ ≡ length w
+  length₂ = length-set w₁ (o + 18 + i) z₂ ∙ length₁
+
+  length₃ : length w₃ ≡ length w
+  length₃ = length-set w₂ (o + 36 + i) z₃ ∙ length₂
+
+  pub four-more : SolvingFour n k o (i + 1) w₀ w₄
+  unfolding product
+  four-more = record {
+    first = λ m km.
+        row-down n k o i w₀ w w w₄ (f .a) d ik k18 kn r-kept (ap (λ (g : Four). g .a) ef) ed (omega arith) (λ t l. refl)
+        (λ t l. past₄ (o + t) (λ e. omega arith) ∙ past₃ (o + t) (λ e. omega arith) ∙ past₂ (o + t) (λ e. omega arith)) m km (h .first m km);
+    second = λ m km.
+        row-down n k (o + 18) i w₀ w w₁ w₄ (f .b) d ik k18 kn r-kept (ap (λ (g : Four). g .b) ef ∙ same-head (o + 18) 0 (omega arith)) ed (omega (arith, length₁))
+        (λ t l. past₁ (o + 18 + t) (λ e. omega arith))
+        (λ t l. past₄ (o + 18 + t) (λ e. omega arith) ∙ past₃ (o + 18 + t) (λ e. omega arith)) m km (h .second m km);
+    third = λ m km.
+        row-down n k (o + 36) i w₀ w w₂ w₄ (f .c) d ik k18 kn r-kept (ap (λ (g : Four). g .c) ef ∙ same-head (o + 36) (0 * 2) (omega arith)) ed (omega (arith, length₂))
+        (λ t l. past₂ (o + 36 + t) (λ e. omega arith) ∙ past₁ (o + 36 + t) (λ e. omega arith))
+        (λ t l. past₄ (o + 36 + t) (λ e. omega arith)) m km (h .third m km);
+    fourth = λ m km.
+        row-down n k (o + 54) i w₀ w w₃ w₄ (f .d) d ik k18 kn r-kept (ap (λ (g : Four). g .d) ef ∙ same-head (o + 54) (0 * 3) (omega arith)) ed (omega (arith, length₃))
+        (λ t l. past₃ (o + 54 + t) (λ e. omega arith) ∙ past₂ (o + 54 + t) (λ e. omega arith) ∙ past₁ (o + 54 + t) (λ e. omega arith))
+        (λ t l. refl) m km (h .fourth m km);
+    others = λ x g.
+        past₄ x (λ e. g 3 i (omega arith) ik (omega arith))
+        ∙ past₃ x (λ e. g 2 i (omega arith) ik (omega arith))
+        ∙ past₂ x (λ e. g 1 i (omega arith) ik (omega arith))
+        ∙ past₁ x (λ e. g 0 i (omega arith) ik (omega arith))
+        ∙ h .others x g;
+  }
+
+pub four-done : (n k o i : ℕ) (w₀ w : List Float) → i ≡ k → SolvingFour n k o i w₀ w → SolvedFour n k o w₀ w
+unfolding solveRt
+four-done n k o i w₀ w e h =
+    let down : (m q : ℕ) → downward n (mat 426 m n w₀) i (vec q k w₀) ≡ downward n (mat 426 m n w₀) k (vec q k w₀) = λ m q. ap (λ (t : ℕ). downward n (mat 426 m n w₀) t (vec q k w₀)) e in
+    record {
+      first = λ m iw km. h .first m km ∙ down m o;
+      second = λ m iw km. h .second m km ∙ down m (o + 18);
+      third = λ m iw km. h .third m km ∙ down m (o + 36);
+      fourth = λ m iw km. h .fourth m km ∙ down m (o + 54);
+      others = h .others;
+    }
 
 -- ---- entries into the solution
 

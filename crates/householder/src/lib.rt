@@ -13,7 +13,7 @@ ghost use Rattle.numbers.specs.Numbers.{at, nth, tab};
 ghost use Rattle.workspace.specs.inner.Readings.{vec, mat, nums, Block};
 ghost use Rattle.householder.specs.Qr.{pivot, tolerance, signed, advance, factor, solve};
 ghost use Rattle.householder.specs.inner.Search.{product, four};
-ghost use Rattle.householder.specs.inner.Work.{held, Unmade, Turned, Prepared, AppliedQt, AppliedQ, SolvedR, SolvedRt, Placed};
+ghost use Rattle.householder.specs.inner.Work.{held, Unmade, Turned, Prepared, AppliedQt, AppliedQ, SolvedR, SolvedRt, SolvedFour, Placed};
 ghost use Rattle.householder.specs.inner.Places.{QR_MATRIX, QR_SIDE, QR_SOLUTION};
 use crate::search::pivot;
 use crate::vectors::move_down;
@@ -264,6 +264,22 @@ pub fn solve_rt(w: &mut [f64], n: usize, k: usize, o: usize)
         let p = QR_MATRIX + i * 18;
         let head = numbers::dot_within(w, p, o, i);
         w[o + i] = (w[o + i] - head) / w[p + i];
+    }
+}
+
+// The same on four vectors from o on, 18 places apart, side by side: none waits for another.
+pub fn solve_rt_four(w: &mut [f64], n: usize, k: usize, o: usize)
+    requires { ⌜ (k ≤ 18) × (k ≤ n) × (QR_MATRIX + n * 18 ≤ o) × (o + 54 + k ≤ length (now w)) ⌝ }
+    ensures { λ _. ⌜ SolvedFour n k o (now (w .entry)) (now (w .exit)) ⌝ }
+{
+    for i in 0..k {
+        let p = QR_MATRIX + i * 18;
+        let head = products_four(w, p, 0, o, i);
+        let d = w[p + i];
+        w[o + i] = (w[o + i] - head.a) / d;
+        w[o + 18 + i] = (w[o + 18 + i] - head.b) / d;
+        w[o + 36 + i] = (w[o + 36 + i] - head.c) / d;
+        w[o + 54 + i] = (w[o + 54 + i] - head.d) / d;
     }
 }
 

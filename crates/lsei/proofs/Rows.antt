@@ -14,9 +14,9 @@ use Rattle.numbers.proofs.Sums.{Σ-same}
 use Rattle.workspace.specs.inner.Readings.{vec, stack, nums, Block}
 use Rattle.workspace.proofs.Readings.{at-vec, vec-is, vec-same, nth-nums, row-stack, stack-is, stack-same}
 use Rattle.householder.specs.Qr.{Factors, applyQt, solveRt}
-use Rattle.householder.specs.inner.Work.{held, AppliedQt, SolvedRt}
+use Rattle.householder.specs.inner.Work.{held, AppliedQt, SolvedRt, SolvedFour}
 use Rattle.lsei.specs.Lsei.{reducedRows, reducedSides}
-use Rattle.lsei.specs.inner.Work.{sides, ReducedRow, Reduced}
+use Rattle.lsei.specs.inner.Work.{sides, PermutedRow, Permuted, SolvedRows, Shifted, Reduced}
 use Rattle.householder.proofs.Held.{held-same}
 
 -- ---- entries that a permutation names, gathered
@@ -31,98 +31,151 @@ gathered n o iw w w′ p perm h =
     ∙ sym (at-vec o n w (nth iw k) (perm k l))
     ∙ ap (λ (j : ℕ). at (vec o n w) j) (sym (nth-nums 0 n iw k l ∙ ap (λ (x : ℕ). nth iw x) (let z : 0 + k ≡ k = omega arith in z))))
 
--- ---- one row
+-- ---- rows permuted
 
-module _ (n i : ℕ) (iw : List ℕ) (w w₁ w₂ w₃ : List Float) (d : Float) (n17 : n ≤ 17) (perm : (t : ℕ) → t < n → nth iw t < n)
-    (P : Block 360 n (λ t. at w (750 + i * 18 + nth iw t)) w w₁) (C : Block (750 + i * 18) n (λ t. at w₁ (360 + t)) w₁ w₂)
-    (S : SolvedRt n n (750 + i * 18) w₂ w₃) (D : d ≡ Σ n (λ k. at w₃ (750 + i * 18 + k) ⊗ at w₃ (732 + k))) (l : 750 + i * 18 + n < length w₃) where
-  abbrev w₄ : List Float
-  w₄ = set w₃ (750 + i * 18 + n) (at w₃ (750 + i * 18 + n) ⊖ d)
+pub permuted-row : (n i : ℕ) (iw : List ℕ) (w w₁ w₂ : List Float) → n ≤ 17 → Block 360 n (λ t. at w (750 + i * 18 + nth iw t)) w w₁ → Block (750 + i * 18) n (λ t. at w₁ (360 + t)) w₁ w₂
+    → PermutedRow n i iw w w₂
+permuted-row n i iw w w₁ w₂ n17 P C = record {
+  row = λ t h. C .inside t h ∙ P .inside t h;
+  low = λ x h. C .before x (omega arith) ∙ P .before x h;
+  middle = λ x h g. C .before x g ∙ P .after x (omega arith);
+  after = λ x h. C .after x h ∙ P .after x (omega arith);
+}
 
-  low₂ : (x : ℕ) → x < 360 → at w₂ x ≡ at w x
-  low₂ x h = C .before x (omega arith) ∙ P .before x h
-
-  middle₂ : (x : ℕ) → 426 ≤ x → x < 750 + i * 18 → at w₂ x ≡ at w x
-  middle₂ x h g = C .before x g ∙ P .after x (omega arith)
-
-  after₂ : (x : ℕ) → 750 + i * 18 + n ≤ x → at w₂ x ≡ at w x
-  after₂ x h = C .after x h ∙ P .after x (omega arith)
-
-  rest₄ : (x : ℕ) → (x ≡ 750 + i * 18 + n → ⊥) → at w₄ x ≡ at w₃ x
-  rest₄ x h = getD-set-other w₃ (750 + i * 18 + n) x (at w₃ (750 + i * 18 + n) ⊖ d) nan h
-
-  pub reduced-row : ReducedRow n i iw w w₄
-  reduced-row = record {
-    row = λ m hm m18.
-        vec-same (750 + i * 18) n w₃ w₄ (λ k h. rest₄ (750 + i * 18 + k) (λ e. omega arith))
-        ∙ S .value m iw hm
-        ∙ ap₂ (solveRt n) (held-same m n n w w₂ iw iw m18 (λ x h. low₂ x (omega arith)) (λ x h g. middle₂ x h (omega arith)) (λ t h. refl))
-        (gathered n (750 + i * 18) iw w w₂ (750 + i * 18) perm (λ t h. C .inside t h ∙ P .inside t h));
-    side =
-        getD-set-same w₃ (750 + i * 18 + n) (at w₃ (750 + i * 18 + n) ⊖ d) nan l
-        ∙ ap₂ _⊖_ (S .after (750 + i * 18 + n) (omega arith) ∙ after₂ (750 + i * 18 + n) (omega arith))
-        (D
-        ∙ Σ-same n _ _
-        (λ k h. ap₂ _⊗_ (sym (rest₄ (750 + i * 18 + k) (λ e. omega arith))) (S .before (732 + k) (omega arith) ∙ middle₂ (732 + k) (omega arith) (omega arith))));
-    low = λ x h. rest₄ x (λ e. omega arith) ∙ S .before x (omega arith) ∙ low₂ x h;
-    middle = λ x h g. rest₄ x (λ e. omega arith) ∙ S .before x (omega arith) ∙ middle₂ x h g;
-    after = λ x h. rest₄ x (λ e. omega arith) ∙ S .after x (omega arith) ∙ after₂ x (omega arith);
-  }
-
--- ---- the first t rows
-
-pub record RowsTo (n me t : ℕ) (iw : List ℕ) (w w′ : List Float) : Type 0 where
-  pub row : (i : ℕ) → i < t → vec (750 + i * 18) n w′ ≡ solveRt n (held me n n w iw) (gather n (nums 0 n iw) (vec (750 + i * 18) n w))
-  pub side : (i : ℕ) → i < t → at w′ (750 + i * 18 + n) ≡ at w (750 + i * 18 + n) ⊖ Σ n (λ k. at w′ (750 + i * 18 + k) ⊗ at w (732 + k))
-  pub low : (x : ℕ) → x < 360 → at w′ x ≡ at w x
-  pub middle : (x : ℕ) → 426 ≤ x → x < 750 → at w′ x ≡ at w x
-  pub after : (x : ℕ) → 750 + t * 18 ≤ x → at w′ x ≡ at w x
-
-pub rows-none : (n me : ℕ) (iw : List ℕ) (w : List Float) → RowsTo n me 0 iw w w
-rows-none n me iw w = record {
-  row = λ i h. absurd (omega arith);
-  side = λ i h. absurd (omega arith);
+pub permuted-none : (n : ℕ) (iw : List ℕ) (w : List Float) → Permuted n 0 iw w w
+permuted-none n iw w = record {
+  rows = λ i t h. absurd (omega arith);
+  sides = λ i. refl;
   low = λ x h. refl;
   middle = λ x h g. refl;
   after = λ x h. refl;
 }
 
-pub rows-more : (n me t : ℕ) (iw : List ℕ) (w w′ w″ : List Float) → n ≤ 17 → n ≤ me → me ≤ 18 → ReducedRow n t iw w′ w″ → RowsTo n me t iw w w′ → RowsTo n me (t + 1) iw w w″
-rows-more n me t iw w w′ w″ n17 nme m18 R r = record {
-  row = λ i h.
-      ⊎-elim (λ (q : i < t). vec-same (750 + i * 18) n w′ w″ (λ k l. R .middle (750 + i * 18 + k) (omega arith) (omega arith)) ∙ r .row i q)
-      (λ (q : t ≤ i).
-      let e : i ≡ t = omega arith in
-      rw e
-      (R .row me nme m18
-      ∙ ap₂ (solveRt n) (held-same me n n w w′ iw iw m18 (λ x h. r .low x (omega arith)) (λ x h g. r .middle x h (omega arith)) (λ t h. refl))
-      (ap (gather n (nums 0 n iw)) (vec-same (750 + t * 18) n w w′ (λ k l. r .after (750 + t * 18 + k) (omega arith))))))
+pub permuted-more : (n t : ℕ) (iw : List ℕ) (w₀ w w′ : List Float) → n ≤ 17 → PermutedRow n t iw w w′ → Permuted n t iw w₀ w → Permuted n (t + 1) iw w₀ w′
+permuted-more n t iw w₀ w w′ n17 R r = record {
+  rows = λ i s h l.
+      ⊎-elim (λ (q : i < t). R .middle (750 + i * 18 + s) (omega arith) (omega arith) ∙ r .rows i s q l)
+      (λ (q : t ≤ i). let e : i ≡ t = omega arith in rw e (R .row s l ∙ r .after (750 + t * 18 + nth iw s) (omega arith)))
       (lt-or-ge i t);
-  side = λ i h.
-      ⊎-elim
-      (λ (q : i < t).
-      R .middle (750 + i * 18 + n) (omega arith) (omega arith)
-      ∙ r .side i q
-      ∙ ap (λ (v : Float). at w (750 + i * 18 + n) ⊖ v)
-      (Σ-same n _ _ (λ k l. ap (λ (v : Float). v ⊗ at w (732 + k)) (sym (R .middle (750 + i * 18 + k) (omega arith) (omega arith))))))
-      (λ (q : t ≤ i).
-      let e : i ≡ t = omega arith in
-      rw e
-      (R .side
-      ∙ ap₂ _⊖_ (r .after (750 + t * 18 + n) (omega arith))
-      (Σ-same n _ _ (λ k l. ap (λ (v : Float). at w″ (750 + t * 18 + k) ⊗ v) (r .middle (732 + k) (omega arith) (omega arith))))))
-      (lt-or-ge i t);
+  sides = λ i.
+      ⊎-elim (λ (q : i < t). R .middle (750 + i * 18 + n) (omega arith) (omega arith) ∙ r .sides i)
+      (λ (q : t ≤ i). R .after (750 + i * 18 + n) (omega arith) ∙ r .sides i) (lt-or-ge i t);
   low = λ x h. R .low x h ∙ r .low x h;
   middle = λ x h g. R .middle x h (omega arith) ∙ r .middle x h g;
   after = λ x h. R .after x (omega arith) ∙ r .after x (omega arith);
 }
 
+-- ---- rows under R'^-1
+
+pub solved-none : (n : ℕ) (w : List Float) → SolvedRows n 0 w w
+solved-none n w = record { rows = λ i m iw h. absurd (omega arith); sides = λ i. refl; before = λ x h. refl; after = λ x h. refl }
+
+pub solved-at : (n c c′ : ℕ) (w w′ : List Float) → c ≡ c′ → SolvedRows n c w w′ → SolvedRows n c′ w w′
+solved-at n c c′ w w′ e r = rw e at r
+
+-- t rows are solved in w, and w′ has more
+module _ (n t : ℕ) (w₀ w w′ : List Float) (n17 : n ≤ 17) (r : SolvedRows n t w₀ w) where
+  -- the row at q, which is past those of w, solved with the factors that w has
+  next : (q m : ℕ) (iw : List ℕ) → n ≤ m → m ≤ 18 → 750 + t * 18 ≤ q → vec q n w′ ≡ solveRt n (held m n n w iw) (vec q n w) → vec q n w′ ≡ solveRt n (held m n n w₀ iw) (vec q n w₀)
+  next q m iw nm m18 l e =
+      e
+      ∙ ap₂ (solveRt n) (held-same m n n w₀ w iw iw m18 (λ x h. r .before x (omega arith)) (λ x h g. r .before x (omega arith)) (λ s h. refl))
+      (vec-same q n w₀ w (λ k h. r .after (q + k) (omega arith)))
+
+  pub solved-one : SolvedRt n n (750 + t * 18) w w′ → SolvedRows n (t + 1) w₀ w′
+  solved-one S = record {
+    rows = λ i m iw h nm m18.
+        ⊎-elim (λ (q : i < t). vec-same (750 + i * 18) n w w′ (λ k l. S .before (750 + i * 18 + k) (omega arith)) ∙ r .rows i m iw q nm m18)
+        (λ (q : t ≤ i). let e : i ≡ t = omega arith in rw e (next (750 + t * 18) m iw nm m18 (omega arith) (S .value m iw nm)))
+        (lt-or-ge i t);
+    sides = λ i.
+        ⊎-elim (λ (q : i < t). S .before (750 + i * 18 + n) (omega arith) ∙ r .sides i) (λ (q : t ≤ i). S .after (750 + i * 18 + n) (omega arith) ∙ r .sides i)
+        (lt-or-ge i t);
+    before = λ x h. S .before x (omega arith) ∙ r .before x h;
+    after = λ x h. S .after x (omega arith) ∙ r .after x (omega arith);
+  }
+
+  module _ (S : SolvedFour n n (750 + t * 18) w w′) where
+    kept : (x : ℕ) → x < 750 + t * 18 → at w′ x ≡ at w x
+    kept x h = S .others x (λ j s hj hs e. omega arith)
+
+    among : (i m : ℕ) (iw : List ℕ) → t ≤ i → i < t + 4 → n ≤ m → m ≤ 18 → vec (750 + i * 18) n w′ ≡ solveRt n (held m n n w₀ iw) (vec (750 + i * 18) n w₀)
+    among i m iw l h nm m18 =
+        ⊎-elim (λ (q : i < t + 1). let e : 750 + i * 18 ≡ 750 + t * 18 = omega arith in rw e (next (750 + t * 18) m iw nm m18 (omega arith) (S .first m iw nm)))
+        (λ (q : t + 1 ≤ i).
+        ⊎-elim (λ (p : i < t + 2). let e : 750 + i * 18 ≡ 750 + t * 18 + 18 = omega arith in rw e (next (750 + t * 18 + 18) m iw nm m18 (omega arith) (S .second m iw nm)))
+        (λ (p : t + 2 ≤ i).
+        ⊎-elim (λ (o : i < t + 3). let e : 750 + i * 18 ≡ 750 + t * 18 + 36 = omega arith in rw e (next (750 + t * 18 + 36) m iw nm m18 (omega arith) (S .third m iw nm)))
+        (λ (o : t + 3 ≤ i). let e : 750 + i * 18 ≡ 750 + t * 18 + 54 = omega arith in rw e (next (750 + t * 18 + 54) m iw nm m18 (omega arith) (S .fourth m iw nm)))
+        (lt-or-ge i (t + 3)))
+        (lt-or-ge i (t + 2)))
+        (lt-or-ge i (t + 1))
+
+    pub solved-four : SolvedRows n (t + 4) w₀ w′
+    solved-four = record {
+      rows = λ i m iw h nm m18.
+          ⊎-elim (λ (q : i < t). vec-same (750 + i * 18) n w w′ (λ k l. kept (750 + i * 18 + k) (omega arith)) ∙ r .rows i m iw q nm m18)
+          (λ (q : t ≤ i). among i m iw q h nm m18) (lt-or-ge i t);
+      sides = λ i. S .others (750 + i * 18 + n) (λ j s hj hs e. omega arith) ∙ r .sides i;
+      before = λ x h. kept x (omega arith) ∙ r .before x h;
+      after = λ x h. S .others x (λ j s hj hs e. omega arith) ∙ r .after x (omega arith);
+    }
+
+-- ---- sides
+
+pub shifted-none : (n : ℕ) (w : List Float) → Shifted n 0 w w
+shifted-none n w = record { sides = λ i h. absurd (omega arith); others = λ x h. refl }
+
+pub shifted-more : (n t : ℕ) (w₀ w : List Float) (d : Float) → n ≤ 17 → 750 + t * 18 + n < length w → d ≡ Σ n (λ k. at w (750 + t * 18 + k) ⊗ at w (732 + k)) → Shifted n t w₀ w
+    → Shifted n (t + 1) w₀ (set w (750 + t * 18 + n) (at w (750 + t * 18 + n) ⊖ d))
+shifted-more n t w₀ w d n17 l D r = record {
+  sides = λ i h.
+      ⊎-elim (λ (q : i < t). getD-set-other w (750 + t * 18 + n) (750 + i * 18 + n) _ nan (λ e. omega arith) ∙ r .sides i q)
+      (λ (q : t ≤ i).
+      let e : i ≡ t = omega arith in
+      rw e
+      (getD-set-same w (750 + t * 18 + n) _ nan l
+      ∙ ap₂ _⊖_ (r .others (750 + t * 18 + n) (λ j g z. omega arith))
+      (D ∙ Σ-same n _ _ (λ k g. ap₂ _⊗_ (r .others (750 + t * 18 + k) (λ j y z. omega arith)) (r .others (732 + k) (λ j y z. omega arith))))))
+      (lt-or-ge i t);
+  others = λ x g. getD-set-other w (750 + t * 18 + n) x _ nan (g t (omega arith)) ∙ r .others x (λ j h. g j (omega arith));
+}
+
+-- ---- all three, for every row
+
+-- the rows and sides that are reduced
+record RowsTo (n me t : ℕ) (iw : List ℕ) (w w′ : List Float) : Type 0 where
+  row : (i : ℕ) → i < t → vec (750 + i * 18) n w′ ≡ solveRt n (held me n n w iw) (gather n (nums 0 n iw) (vec (750 + i * 18) n w))
+  side : (i : ℕ) → i < t → at w′ (750 + i * 18 + n) ≡ at w (750 + i * 18 + n) ⊖ Σ n (λ k. at w′ (750 + i * 18 + k) ⊗ at w (732 + k))
+  low : (x : ℕ) → x < 360 → at w′ x ≡ at w x
+  middle : (x : ℕ) → 426 ≤ x → x < 750 → at w′ x ≡ at w x
+
+rows-all : (n me c : ℕ) (iw : List ℕ) (w w₁ w₂ w₃ : List Float) → n ≤ 17 → n ≤ me → me ≤ 18 → ((t : ℕ) → t < n → nth iw t < n) → Permuted n c iw w w₁ → SolvedRows n c w₁ w₂ → Shifted n c w₂ w₃
+    → RowsTo n me c iw w w₃
+rows-all n me c iw w w₁ w₂ w₃ n17 nme m18 perm P S L =
+    let below : (x : ℕ) → x < 750 → at w₃ x ≡ at w₁ x = λ x h. L .others x (λ i l e. omega arith) ∙ S .before x h in
+    let in-row : (i k : ℕ) → k < n → at w₃ (750 + i * 18 + k) ≡ at w₂ (750 + i * 18 + k) = λ i k h. L .others (750 + i * 18 + k) (λ j l e. omega arith) in
+    record {
+      row = λ i h.
+          vec-same (750 + i * 18) n w₂ w₃ (λ k l. in-row i k l)
+          ∙ S .rows i me iw h nme m18
+          ∙ ap₂ (solveRt n) (held-same me n n w w₁ iw iw m18 (λ x l. P .low x (omega arith)) (λ x l g. P .middle x l (omega arith)) (λ s l. refl))
+          (gathered n (750 + i * 18) iw w w₁ (750 + i * 18) perm (λ s l. P .rows i s h l));
+      side = λ i h.
+          L .sides i h
+          ∙ ap₂ _⊖_ (S .sides i ∙ P .sides i)
+          (Σ-same n _ _ (λ k l. ap₂ _⊗_ (sym (in-row i k l)) (S .before (732 + k) (omega arith) ∙ P .middle (732 + k) (omega arith) (omega arith))));
+      low = λ x h. below x (omega arith) ∙ P .low x h;
+      middle = λ x h g. below x g ∙ P .middle x h g;
+    }
+
 -- ---- all of them, behind Q'f
 
-pub all-reduced : (n me mg : ℕ) (iw : List ℕ) (w w₁ w₂ : List Float) → n ≤ 17 → n ≤ me → me ≤ 18 → AppliedQt me n 732 w w₁ → RowsTo n me mg iw w₁ w₂
-    → Reduced n me mg iw w w₂
+pub all-reduced : (n me mg : ℕ) (iw : List ℕ) (w w₁ p s w₂ : List Float) → n ≤ 17 → n ≤ me → me ≤ 18 → ((t : ℕ) → t < n → nth iw t < n) → AppliedQt me n 732 w w₁ → Permuted n mg iw w₁ p
+    → SolvedRows n mg p s → Shifted n mg s w₂ → Reduced n me mg iw w w₂
 unfolding reducedRows reducedSides sides dot
-all-reduced n me mg iw w w₁ w₂ n17 nme m18 Q r =
+all-reduced n me mg iw w w₁ p s w₂ n17 nme m18 perm Q P S L =
+    let r = rows-all n me mg iw w₁ p s w₂ n17 nme m18 perm P S L in
     let same : held me n n w₁ iw ≡ held me n n w iw =
     held-same me n n w w₁ iw iw m18 (λ x h. Q .before x (omega arith)) (λ x h g. Q .before x (omega arith)) (λ t h. refl) in
     record {

@@ -2,14 +2,14 @@
 // min ||E x - f|| with G x >= h, each in one part of each workspace.
 ghost use mathlib.Core.Path.{_≡_};
 ghost use mathlib.Core.Bool.{cond};
-ghost use Prim.Native.Nat.{ℕ, _+_, _*_, _<_, _≤_};
+ghost use Prim.Native.Nat.{ℕ, _+_, _*_, _/_, _<_, _≤_};
 ghost use lib.Dec.{ltb};
 ghost use lib.ListN.{length};
 ghost use Rattle.numbers.specs.Numbers.{+0, one, at, nth, Σ, _⊕_, _⊖_, _⊗_, _⊘_};
 ghost use Rattle.workspace.specs.inner.Readings.{vec, mat, stack, Block};
 ghost use Rattle.workspace.specs.Tables.{outcomeOf};
 ghost use Rattle.lsei.specs.Lsei.{Solution, dualSide, dualResidual, primal, ldp, lsi};
-ghost use Rattle.lsei.specs.inner.Work.{endingAnswer, endedSolution, sides, distanceIn, squaresIn, FactoredFront, ReducedRow, Reduced, Restored};
+ghost use Rattle.lsei.specs.inner.Work.{endingAnswer, endedSolution, sides, distanceIn, squaresIn, FactoredFront, PermutedRow, Permuted, SolvedRows, Shifted, Reduced, Restored};
 ghost use Rattle.householder.specs.inner.Places.{QR_MATRIX, QR_SIDE};
 ghost use Rattle.lsei.specs.inner.Places.{LDP_RESIDUAL, LDP_ROOM, LDP_SIDE, LDP_U, LDP_WORDS, LSI_E, LSI_F, LSI_G, LSI_LDP_X, LSI_ROOM, LSI_WORDS};
 use workspace::Outcome;
@@ -186,17 +186,58 @@ pub fn factor_front(w: &mut [f64], iw: &mut [u32], m: usize, n: usize, b: usize)
     householder::factor_in(&mut w[..b], &mut iw[..18], m, n)
 }
 
-// Row i of the inequalities, permuted and under R'^-1, and its side less its product with Q'f.
-fn reduce_row(w: &mut [f64], iw: &[u32], n: usize, i: usize)
+// Row i of the inequalities, permuted.
+fn permute_row(w: &mut [f64], iw: &[u32], n: usize, i: usize)
     requires { ⌜ (n ≤ 17) × (i < 66) × (LSI_ROOM ≤ length (now w)) × (n ≤ length (now iw)) × ((t : ℕ) → t < n → nth (now iw) t < n) ⌝ }
-    ensures { λ _. ⌜ ReducedRow n i (now (iw .entry)) (now (w .entry)) (now (w .exit)) ⌝ }
+    ensures { λ _. ⌜ PermutedRow n i (now (iw .entry)) (now (w .entry)) (now (w .exit)) ⌝ }
 {
     let o = LSI_G + i * 18;
     householder::pick(w, iw, o, n);
     workspace::copy_up(w, householder::QR_SOLUTION, o, n);
-    householder::solve_rt(w, n, n, o);
-    let t = numbers::dot_within(w, o, LSI_F, n);
-    w[o + n] = w[o + n] - t;
+}
+
+// Each row of the inequalities, permuted.
+fn permute(w: &mut [f64], iw: &[u32], n: usize, mg: usize)
+    requires { ⌜ (n ≤ 17) × (mg ≤ 66) × (LSI_ROOM ≤ length (now w)) × (n ≤ length (now iw)) × ((t : ℕ) → t < n → nth (now iw) t < n) ⌝ }
+    ensures { λ _. ⌜ Permuted n mg (now (iw .entry)) (now (w .entry)) (now (w .exit)) ⌝ }
+{
+    for i in 0..mg {
+        permute_row(w, iw, n, i);
+    }
+}
+
+// The rows under R'^-1, by fours: up to three rows are left.
+fn solve_fours(w: &mut [f64], n: usize, mg: usize)
+    requires { ⌜ (n ≤ 17) × (mg ≤ 66) × (LSI_ROOM ≤ length (now w)) ⌝ }
+    ensures { λ _. ⌜ SolvedRows n (mg / 4 * 4) (now (w .entry)) (now (w .exit)) ⌝ }
+{
+    let c = mg / 4;
+    for q in 0..c {
+        householder::solve_rt_four(w, n, n, LSI_G + q * 4 * 18);
+    }
+}
+
+// Each row under R'^-1.
+fn solve_rows(w: &mut [f64], n: usize, mg: usize)
+    requires { ⌜ (n ≤ 17) × (mg ≤ 66) × (LSI_ROOM ≤ length (now w)) ⌝ }
+    ensures { λ _. ⌜ SolvedRows n mg (now (w .entry)) (now (w .exit)) ⌝ }
+{
+    solve_fours(w, n, mg);
+    for i in mg / 4 * 4..mg {
+        householder::solve_rt(w, n, n, LSI_G + i * 18);
+    }
+}
+
+// Each side less its row's product with Q'f.
+fn shift_sides(w: &mut [f64], n: usize, mg: usize)
+    requires { ⌜ (n ≤ 17) × (mg ≤ 66) × (LSI_ROOM ≤ length (now w)) ⌝ }
+    ensures { λ _. ⌜ Shifted n mg (now (w .entry)) (now (w .exit)) ⌝ }
+{
+    for i in 0..mg {
+        let o = LSI_G + i * 18;
+        let t = numbers::dot_within(w, o, LSI_F, n);
+        w[o + n] = w[o + n] - t;
+    }
 }
 
 // Q'f in the place of f, and the inequalities in u = R P'x - f_1.
@@ -205,9 +246,9 @@ fn reduce(w: &mut [f64], iw: &[u32], n: usize, me: usize, mg: usize)
     ensures { λ _. ⌜ Reduced n me mg (now (iw .entry)) (now (w .entry)) (now (w .exit)) ⌝ }
 {
     householder::apply_qt(w, me, n, LSI_F);
-    for i in 0..mg {
-        reduce_row(w, iw, n, i);
-    }
+    permute(w, iw, n, mg);
+    solve_rows(w, n, mg);
+    shift_sides(w, n, mg);
 }
 
 // LDP's x with Q'f added to it, as a right-hand side.

@@ -88,6 +88,14 @@ pub record SolvedRt (n k o : ℕ) (w w′ : List Float) : Type 0 where
   pub before : (x : ℕ) → x < o → at w′ x ≡ at w x
   pub after : (x : ℕ) → o + k ≤ x → at w′ x ≡ at w x
 
+-- w′ is w with each of the four vectors from o on, 18 places apart and of k numbers, solved for R'z = y
+pub record SolvedFour (n k o : ℕ) (w w′ : List Float) : Type 0 where
+  pub first : (m : ℕ) (iw : List ℕ) → k ≤ m → vec o k w′ ≡ solveRt n (held m n k w iw) (vec o k w)
+  pub second : (m : ℕ) (iw : List ℕ) → k ≤ m → vec (o + 18) k w′ ≡ solveRt n (held m n k w iw) (vec (o + 18) k w)
+  pub third : (m : ℕ) (iw : List ℕ) → k ≤ m → vec (o + 36) k w′ ≡ solveRt n (held m n k w iw) (vec (o + 36) k w)
+  pub fourth : (m : ℕ) (iw : List ℕ) → k ≤ m → vec (o + 54) k w′ ≡ solveRt n (held m n k w iw) (vec (o + 54) k w)
+  pub others : (x : ℕ) → ((j t : ℕ) → j < 4 → t < k → x ≡ o + j * 18 + t → ⊥) → at w′ x ≡ at w x
+
 -- w′ is w with the first k of the m entries of the right-hand side put into the n places of the solution, where p says
 pub record Placed (n k : ℕ) (p : List ℕ) (w w′ : List Float) : Type 0 where
   pub value : (m : ℕ) → k ≤ m → m ≤ 18 → vec QR_SOLUTION n w′ ≡ scatter k p (vec QR_SIDE m w) (vec QR_SOLUTION n w)

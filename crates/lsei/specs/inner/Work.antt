@@ -3,7 +3,7 @@ use mathlib.Core.Path.{_≡_}
 use mathlib.Core.List.{List}
 use Prim.Native.Nat.{ℕ, _+_, _*_, _<_, _≤_}
 use lib.Ieee.{Float}
-use Rattle.numbers.specs.Numbers.{at, tab, gather, Σ, _⊖_, _⊗_}
+use Rattle.numbers.specs.Numbers.{at, nth, tab, gather, Σ, _⊖_, _⊗_}
 use Rattle.workspace.specs.Tables.{Answer, done, rankDeficient, dependent, infeasible, iterationCap}
 use Rattle.workspace.specs.inner.Readings.{vec, mat, stack, nums}
 use Rattle.householder.specs.Qr.{Factors, factor, applyQt, solveRt}
@@ -48,13 +48,32 @@ pub record FactoredFront (m n b k : ℕ) (w w′ : List Float) (iw′ : List ℕ
   pub factors : held m n k w′ iw′ ≡ factor m n (mat QR_MATRIX m n w)
   pub after : (x : ℕ) → b ≤ x → at w′ x ≡ at w x
 
--- row i permuted and under R'^-1, for an R of m rows, and its side less its product with Q'f
-pub record ReducedRow (n i : ℕ) (iw : List ℕ) (w w′ : List Float) : Type 0 where
-  pub row : (m : ℕ) → n ≤ m → m ≤ 18 → vec (LSI_G + i * 18) n w′ ≡ solveRt n (held m n n w iw) (gather n (nums 0 n iw) (vec (LSI_G + i * 18) n w))
-  pub side : at w′ (LSI_G + i * 18 + n) ≡ at w (LSI_G + i * 18 + n) ⊖ Σ n (λ k. at w′ (LSI_G + i * 18 + k) ⊗ at w (LSI_F + k))
+-- row i permuted, by way of the solution's place
+pub record PermutedRow (n i : ℕ) (iw : List ℕ) (w w′ : List Float) : Type 0 where
+  pub row : (t : ℕ) → t < n → at w′ (LSI_G + i * 18 + t) ≡ at w (LSI_G + i * 18 + nth iw t)
   pub low : (x : ℕ) → x < QR_SOLUTION → at w′ x ≡ at w x
   pub middle : (x : ℕ) → QR_MATRIX ≤ x → x < LSI_G + i * 18 → at w′ x ≡ at w x
-  pub after : (x : ℕ) → LSI_G + i * 18 + 18 ≤ x → at w′ x ≡ at w x
+  pub after : (x : ℕ) → LSI_G + i * 18 + n ≤ x → at w′ x ≡ at w x
+
+-- the first c rows permuted
+pub record Permuted (n c : ℕ) (iw : List ℕ) (w w′ : List Float) : Type 0 where
+  pub rows : (i t : ℕ) → i < c → t < n → at w′ (LSI_G + i * 18 + t) ≡ at w (LSI_G + i * 18 + nth iw t)
+  pub sides : (i : ℕ) → at w′ (LSI_G + i * 18 + n) ≡ at w (LSI_G + i * 18 + n)
+  pub low : (x : ℕ) → x < QR_SOLUTION → at w′ x ≡ at w x
+  pub middle : (x : ℕ) → QR_MATRIX ≤ x → x < LSI_G → at w′ x ≡ at w x
+  pub after : (x : ℕ) → LSI_G + c * 18 ≤ x → at w′ x ≡ at w x
+
+-- the first c rows under R'^-1, for an R of m rows
+pub record SolvedRows (n c : ℕ) (w w′ : List Float) : Type 0 where
+  pub rows : (i m : ℕ) (iw : List ℕ) → i < c → n ≤ m → m ≤ 18 → vec (LSI_G + i * 18) n w′ ≡ solveRt n (held m n n w iw) (vec (LSI_G + i * 18) n w)
+  pub sides : (i : ℕ) → at w′ (LSI_G + i * 18 + n) ≡ at w (LSI_G + i * 18 + n)
+  pub before : (x : ℕ) → x < LSI_G → at w′ x ≡ at w x
+  pub after : (x : ℕ) → LSI_G + c * 18 ≤ x → at w′ x ≡ at w x
+
+-- the first c sides, each less its row's product with Q'f
+pub record Shifted (n c : ℕ) (w w′ : List Float) : Type 0 where
+  pub sides : (i : ℕ) → i < c → at w′ (LSI_G + i * 18 + n) ≡ at w (LSI_G + i * 18 + n) ⊖ Σ n (λ k. at w (LSI_G + i * 18 + k) ⊗ at w (LSI_F + k))
+  pub others : (x : ℕ) → ((i : ℕ) → i < c → x ≡ LSI_G + i * 18 + n → ⊥) → at w′ x ≡ at w x
 
 -- Q'f in the place of f, and all rows and sides reduced; the factors of E stay
 pub record Reduced (n me mg : ℕ) (iw : List ℕ) (w w′ : List Float) : Type 0 where
