@@ -14,6 +14,7 @@ ghost use Rattle.search.specs.Layout.{areWords};
 ghost use Rattle.search.specs.Promise.{areOrdered};
 ghost use Rattle.search_next.specs.inner.Next.{wantedAt};
 ghost use Rattle.search_call.specs.inner.Work.{questionIn, isTold};
+use search_turn::wide;
 
 // The most objective values that a run may cost.
 pub const MOST_VALUES: u32 = 10000;
@@ -21,13 +22,6 @@ pub const MOST_VALUES: u32 = 10000;
 pub const LAST_SCHEME: u32 = 2;
 // The trials after the first one of a line.
 pub const BACKTRACKS: u32 = 10;
-
-// A word as a size.
-fn wide(x: u32) -> usize
-    ensures { λ r. ⌜ r ≡ x ⌝ }
-{
-    x as usize
-}
 
 // ---- beginning
 

@@ -17,11 +17,11 @@ use crate::differences::slopes_next;
 use crate::ends::end_begun;
 use crate::ends::end_goal;
 use crate::ends::end_with;
-use crate::ends::wide;
 use crate::trials::arrive_next;
 use crate::trials::judge_next;
 use search_turn::are_finite;
 use search_turn::move_of;
+use search_turn::wide;
 
 // The values at the start are told: they are looked at, and slopes are due.
 fn start_next(values: &[f64], f: &mut [f64], u: &mut [u32], n: usize, m: usize)
