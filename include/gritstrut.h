@@ -24,7 +24,9 @@
  *   16, 18, 20, 19.
  *
  *     number                                 outputs      workspaces
- *     0  GRITSTRUT_DONE                      all written  first 8192 and 512 entries zero
+ *     0  GRITSTRUT_DONE                      all written  first 8192 and 512 entries zero, but
+ *                                                         of a search that does not use them
+ *                                                         untouched
  *     1  GRITSTRUT_SIZE: a size (or k)       untouched    untouched
  *        that is not allowed
  *     2  GRITSTRUT_LENGTH: a length that     untouched    untouched
@@ -57,7 +59,7 @@
  *        step that is not strict)
  *     16 GRITSTRUT_CROSSED: a lower bound    untouched    untouched
  *        above its upper one (of a search)
- *     17 GRITSTRUT_NONFINITE: a number that  the machine  first 8192 and 512 entries zero
+ *     17 GRITSTRUT_NONFINITE: a number that  the machine  as with a search's 0
  *        is not finite has ended a search    written
  *     18 GRITSTRUT_UNASKED: a search is told untouched    untouched
  *        an answer where no question stands
@@ -438,7 +440,8 @@ enum {
  * slopes are told; 1, they are worked out by forward differences, or 2, by central ones, of single
  * values that are asked for. Out: machine and words, whole: what they held before does not matter. After 1 to 4
  * comes 10 for ftol, then 15 with the lowest variable in place, then 16. With 17 the start is not
- * finite: the machine is written, and its run is over. With 0 look at words[0]. */
+ * finite: the machine is written, and its run is over. With 0 look at words[0]. The workspaces are
+ * never touched. */
 uint32_t gritstrut_search_begin(size_t n, size_t m, const uint8_t *kinds, size_t kinds_len,
                                 const double *lower, size_t lower_len,
                                 const double *upper, size_t upper_len,
@@ -452,7 +455,9 @@ uint32_t gritstrut_search_begin(size_t n, size_t m, const uint8_t *kinds, size_t
  * many numbers as the question wants. In and out: machine and words. 2 is also for an answer of
  * another length; 18 where no question stands, because the run has ended or words are no machine,
  * as also where a word that another hand wrote is out of its range. With 17 a number is not finite:
- * the machine is written, and its run is over. With 0 look at words[0]. */
+ * the machine is written, and its run is over. With 0 look at words[0]. The workspaces are zeroed
+ * where the answer is slopes, the last of the single values for them (words[5] and words[6] are 0)
+ * or the values at the last trial of a line (words[2] is 0), and untouched where it is another. */
 uint32_t gritstrut_search_tell(const double *told, size_t told_len,
                                double *machine, size_t machine_len,
                                uint32_t *words, size_t words_len,

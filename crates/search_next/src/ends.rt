@@ -12,13 +12,6 @@ ghost use Rattle.search.specs.inner.Work.{Ready};
 ghost use Rattle.search_next.specs.inner.Next.{sevenWords, goalWords, Ends};
 use search_move::accept;
 
-// A word as a size.
-pub fn wide(x: u32) -> usize
-    ensures { λ r. ⌜ r ≡ x ⌝ }
-{
-    x as usize
-}
-
 // The seven words of a state.
 pub fn set_words(
     u: &mut [u32],

@@ -7,7 +7,6 @@ use native.Mathlib.Omega.{arith}
 use lib.Dec.{eqb}
 use lib.ListN.{length, take, drop}
 use lib.Ieee.{Float, nan}
-use borrow.Rule.Slice.PartMut.{putMid}
 use Rattle.numbers.specs.Numbers.{at, nth}
 use Rattle.workspace.specs.Tables.{Answer, done, refused}
 use Rattle.workspace.specs.declared.Outcome.{Outcome}
@@ -22,7 +21,7 @@ use Rattle.search.specs.Turn.{reset}
 use Rattle.search.specs.Layout.{bit, setupIn, iterateIn, laid}
 use Rattle.search.specs.inner.Work.{Ready, freshWords}
 use Rattle.search.proofs.Laying.{length-laid, laid-in, laid-below, laid-above, vec-below, vec-here, nums-above}
-use Rattle.search.proofs.Lent.{part-length, part-vec, part-laid}
+use Rattle.search.proofs.Lent.{part-length, part-vec}
 use Rattle.search.proofs.Layouts.{bounds, bit-few}
 use Rattle.search_open.specs.inner.Work.{Factors}
 
@@ -53,12 +52,6 @@ module _ (n : ℕ) (f : List Float) (few : n ≤ 16) (z : length f ≡ 1024) whe
 
   pub b-vec : cholesky n (take (720 + n * n - 720) (drop 720 f)) ≡ cholesky n (vec 720 (n * n) f)
   b-vec = ap (cholesky n) (part-vec 720 (n * n) (720 + n * n - 720) f (omega arith) b-fits)
-
-  pub b-reset : (v : List Float) → v ≡ identity n → putMid 720 (720 + n * n - 720) f v ≡ laid 720 (identity n) f
-  b-reset v e =
-      let l : length v ≡ n * n = ap length e ∙ length-identity n in
-      let b = b-fits in
-      part-laid 720 (720 + n * n - 720) f v (omega arith) (omega arith) ∙ ap (λ (t : List Float). laid 720 t f) e
 
 -- ---- what is read then
 

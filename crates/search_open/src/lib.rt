@@ -36,8 +36,7 @@ fn reset_turn(f: &mut [f64], u: &mut [u32], l: &mut [f64], n: usize)
     ensures { λ _. ⌜ (now (f .exit) ≡ laid 720 (identity n) (now (f .entry))) × (now (u .exit) ≡ laid 3 (1 ∷ []) (now (u .entry))) × (now (l .exit) ≡ identity n) ⌝ }
 {
     hessian::identity_into(n, l);
-    let e = 720 + n * n;
-    hessian::identity_into(n, &mut f[720..e]);
+    search_move::identity_in(f, n);
     u[3] = 1;
 }
 
@@ -68,7 +67,7 @@ fn kind_of(k: u32) -> u8
 }
 
 // The kinds as bytes.
-fn kinds_into(u: &[u32], kinds: &mut [u8], m: usize)
+fn kinds_of(u: &[u32], kinds: &mut [u8], m: usize)
     requires { ⌜ (length (now u) ≡ 32) × (length (now kinds) ≡ m) × (m ≤ 16) × (areKinds (nums 16 m (now u)) ≡ true) ⌝ }
     ensures { λ _. ⌜ now (kinds .exit) ≡ nums 16 m (now (u .entry)) ⌝ }
 {
@@ -162,7 +161,7 @@ fn step_turn(
     let widths = &mut b[..m];
     let lower = &mut c[..n];
     let upper = &mut e[..n];
-    kinds_into(u, kinds, m);
+    kinds_of(u, kinds, m);
     workspace::blank(widths, 0, m);
     gaps_into(f, 16, lower, n);
     gaps_into(f, 32, upper, n);

@@ -23,6 +23,13 @@ impl Search {
     pub const MOVE: f64 = 1.4901161193847656e-8;
 }
 
+// A word as a size.
+pub fn wide(x: u32) -> usize
+    ensures { λ r. ⌜ r ≡ x ⌝ }
+{
+    x as usize
+}
+
 // |x|, of both zeros +0.
 pub fn magnitude_of(x: f64) -> f64
     ensures { λ r. ⌜ r ≡ magnitude x ⌝ }

@@ -53,9 +53,9 @@ pub(crate) fn memory(front: &[f64], before: u64, len: usize) -> Vec<u64> {
     words
 }
 
-/// A workspace: cleared in front after the arithmetic, and as it was before elsewhere.
-pub(crate) fn room(which: usize, number: u32, before: u64) -> Vec<u64> {
-    let cleared = if Sound::clears(number) { WORKSPACES[which] } else { 0 };
+/// A workspace: cleared in front where the call clears it, and as it was before elsewhere.
+pub(crate) fn room(which: usize, clears: bool, before: u64) -> Vec<u64> {
+    let cleared = if clears { WORKSPACES[which] } else { 0 };
     let mut words = vec![before; ROOMS[which]];
     words[..cleared].fill(0);
     words
@@ -142,8 +142,9 @@ pub fn digest(stored: &Stored, owed: &Answer) -> u64 {
         mix_own(&mut digest, stored, owed);
         digest.mix_all(memory(first(stored, owed), fill.output, OUTPUT));
         digest.mix_all(memory(written(owed, 1), fill.output, OUTPUT));
-        digest.mix_all(room(0, owed.number, pattern(f64::from_bits(fill.room))));
-        digest.mix_all(room(1, owed.number, u64::from(fill.mark)));
+        let clears = Sound::clears(owed.number);
+        digest.mix_all(room(0, clears, pattern(f64::from_bits(fill.room))));
+        digest.mix_all(room(1, clears, u64::from(fill.mark)));
     } else {
         digest.mix(owed.value.map_or(NAN, pattern));
     }

@@ -284,7 +284,7 @@ pub fn compare_on(
         found.push(format!("number: owed {}, found {number}", owed.number));
     }
     compare_inputs(&buffers, call.op.is_update() && owed.number == 0, &mut found);
-    compare_workspaces(&buffers.w, &buffers.iw, owed.number, &mut found);
+    compare_workspaces(&buffers.w, &buffers.iw, clears(owed.number), &mut found);
     compare_outputs(&buffers, call.op, owed, &mut found);
     compare_single(&buffers, owed, &mut found);
     compare_tally(&buffers, *tally, owed, &mut found);
@@ -334,18 +334,18 @@ fn compare_inputs(buffers: &Buffers, updated: bool, found: &mut Vec<String>) {
     }
 }
 
-/// Entries of a workspace that are cleared by a call of the number that is owed.
-fn cleared(number: u32, entries: usize) -> usize {
-    if matches!(number, 0 | 5..=8 | 11 | 17) { entries } else { 0 }
+/// Whether a call of the number that is owed clears the workspaces.
+fn clears(number: u32) -> bool {
+    matches!(number, 0 | 5..=8 | 11)
 }
 
 pub(crate) fn compare_workspaces(
     w: &Held<f64>,
     iw: &Held<u32>,
-    number: u32,
+    cleared: bool,
     found: &mut Vec<String>,
 ) {
-    let (reals, indices) = (cleared(number, WORKSPACES[0]), cleared(number, WORKSPACES[1]));
+    let [reals, indices] = WORKSPACES.map(|entries| if cleared { entries } else { 0 });
     let kept = [w.changed(reals), iw.changed(indices)];
     let w = w.body().iter().take(reals).position(|value| value.to_bits() != 0);
     let iw = iw.body().iter().take(indices).position(|&value| value != 0);

@@ -42,8 +42,8 @@ array-borrow-prefix-e c = omega arith
 slice-aggregate-upper : tie.Need-slice-aggregate-upper
 slice-aggregate-upper c = let s = c .before .before .before .before .before .before .before .before .before .before .before .before .before in sym (sixteen-front (s .args .n) _ (s .pre .0 .few) (c .before .before .before .before .sixteen3 .ensures))
 
-kinds-into-requires : tie.Need-kinds-into-requires
-kinds-into-requires c κs = let s = c .before .before .before .before .before .before .before .before .before .before .before .before .before .before in let r = s .pre .0 in (r .words, sixteen-front (s .args .m) _ (r .constraints) (c .before .before .before .before .before .before .before .before .sixteen-bytes .ensures), r .constraints, r .kinds)
+kinds-of-requires : tie.Need-kinds-of-requires
+kinds-of-requires c κs = let s = c .before .before .before .before .before .before .before .before .before .before .before .before .before .before in let r = s .pre .0 in (r .words, sixteen-front (s .args .m) _ (r .constraints) (c .before .before .before .before .before .before .before .before .sixteen-bytes .ensures), r .constraints, r .kinds)
 
 blank-requires : tie.Need-blank-requires
 blank-requires c κs = let s = c .before .before .before .before .before .before .before .before .before .before .before .before .before .before .before .before .before .before in omega (arith, sixteen-front (s .args .m) (c .before .before .before .before .before .before .before .before .before .before .before .sixteen .result) (s .pre .0 .constraints) (c .before .before .before .before .before .before .before .before .before .before .before .sixteen .ensures))
@@ -64,7 +64,7 @@ solve-at-requires c κs =
       record {
         variables = r .few;
         constraints = r .constraints;
-        kind = c .before .before .before .before .before .before .before .before .before .before .before .before .before .before .before .before .before .before .before .before .kinds-into .kept .1 .0 ∙ sixteen-front (a .m) _ (r .constraints) (c .before .before .before .before .before .before .before .before .before .before .before .before .before .before .before .before .before .before .before .before .before .before .before .before .before .before .before .before .before .sixteen-bytes .ensures);
+        kind = c .before .before .before .before .before .before .before .before .before .before .before .before .before .before .before .before .before .before .before .before .kinds-of .kept .1 .0 ∙ sixteen-front (a .m) _ (r .constraints) (c .before .before .before .before .before .before .before .before .before .before .before .before .before .before .before .before .before .before .before .before .before .before .before .before .before .before .before .before .before .sixteen-bytes .ensures);
         value = length-vec 129 (a .m) (a .f .now);
         width = c .before .before .before .before .before .before .before .before .before .before .before .before .before .before .before .before .blank .kept .0 ∙ sixteen-front (a .m) _ (r .constraints) (c .before .before .before .before .before .before .before .before .before .before .before .before .before .before .before .before .before .before .before .before .before .before .before .before .before .before .before .before .sixteen .ensures);
         entries = length-vec _ _ (a .f .now);
@@ -89,7 +89,7 @@ returns c =
     let w = c .before .before .before .before .before .before .before .before .before .before .before .before .before .before .before .before .before .before .before .before .before .before .before .before .before .blank in
     let e = c .before .before .before .before .before .before .before .before .solve-at in
     ends-as (a .n) (a .m) (e .result) _ _ _
-    (model-in (a .n) (a .m) (a .f .now) (a .u .now) r (a .l .now) _ _ _ _ (c .before .before .before .before .before .before .before .before .before .before .before .before .before .before .before .before .before .before .before .before .before .before .before .before .before .before .before .before .before .kinds-into .ensures)
+    (model-in (a .n) (a .m) (a .f .now) (a .u .now) r (a .l .now) _ _ _ _ (c .before .before .before .before .before .before .before .before .before .before .before .before .before .before .before .before .before .before .before .before .before .before .before .before .before .before .before .before .before .kinds-of .ensures)
     (zeros-in (a .m) _ (w .last .0) (w .kept .0 ∙ sixteen-front (a .m) _ (r .constraints) (c .before .before .before .before .before .before .before .before .before .before .before .before .before .before .before .before .before .before .before .before .before .before .before .before .before .before .before .before .before .before .before .before .before .before .before .before .before .sixteen .ensures)) (w .ensures)) (c .before .before .before .before .before .before .before .before .before .before .before .before .before .before .before .before .before .before .before .before .before .gaps-into .ensures) (c .before .before .before .before .before .before .before .before .before .before .before .before .before .before .before .before .before .gaps-into2 .ensures))
     (e .ensures)
 
@@ -109,7 +109,7 @@ step-turn-spec =
     slice-aggregate-lower
     array-borrow-prefix-e
     slice-aggregate-upper
-    kinds-into-requires
+    kinds-of-requires
     blank-requires
     gaps-into-requires
     gaps-into-requires-2

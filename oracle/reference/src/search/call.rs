@@ -21,12 +21,14 @@ pub struct Begin {
     pub scheme: u32,
 }
 
-/// What a call owes: its number, the variable with 15, and the slices where it writes them.
+/// What a call owes: its number, the variable with 15, the slices where it writes them, and whether
+/// it clears the workspaces.
 #[derive(Debug, Clone, Default)]
 pub struct Outcome {
     pub number: u32,
     pub variable: Option<u32>,
     pub page: Option<Page>,
+    pub clears: bool,
 }
 
 impl Begin {
@@ -124,11 +126,11 @@ pub fn begin(call: &Begin, lent: &Lent, slip: Slip) -> Outcome {
     let failed = order(slip).into_iter().find(|&test| !call.passes(test, lent, slip));
     if let Some(number) = failed {
         let variable = call.unbounded(slip).filter(|_| number == 15);
-        return Outcome { number, variable, page: None };
+        return Outcome { number, variable, ..Outcome::default() };
     }
     let reading = Reading { setup: call.setup(), slip };
     let state = reading.start(&call.x, call.budget);
-    settled(&reading, &state, Page::blank(&reading.setup))
+    settled(&reading, &state, Page::blank(&reading.setup), slip == Slip::BeginClears)
 }
 
 /// What `tell` owes, on the slices as they are.
@@ -150,15 +152,18 @@ pub fn tell(told: &[f64], floats: &[f64], words: &[u32], work: [usize; 2], slip:
     match (standing, wants) {
         _ if !lent.has_room() => refused(3),
         _ if !long => refused(2),
-        (Some((reading, state)), Some(_)) => settled(&reading, &reading.told(state, told), page),
+        (Some((reading, state)), Some(_)) => {
+            let clears = reading.may_open(&state);
+            settled(&reading, &reading.told(state, told), page, clears)
+        }
         _ => refused(18),
     }
 }
 
 /// A state written, and its number.
-fn settled(reading: &Reading, state: &State, mut page: Page) -> Outcome {
+fn settled(reading: &Reading, state: &State, mut page: Page, clears: bool) -> Outcome {
     page.write(reading, state);
     let nonfinite = matches!(state, State::Ended(Ending::Nonfinite, _));
     let number = if nonfinite && reading.slip != Slip::NonfiniteDone { 17 } else { 0 };
-    Outcome { number, variable: None, page: Some(page) }
+    Outcome { number, variable: None, page: Some(page), clears }
 }

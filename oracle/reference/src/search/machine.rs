@@ -267,6 +267,27 @@ impl Reading {
         State::Ended(ending, report)
     }
 
+    /// Whether the answer that a state waits for may open a turn: the slopes, the last difference of
+    /// them, the last trial of a line.
+    pub fn may_open(&self, state: &State) -> bool {
+        let all = (1 + self.setup.m) * self.setup.n;
+        match state {
+            State::Ended(..) => false,
+            State::Starting(..) => self.slip == Slip::StartClears,
+            State::Trying(.., again) => match self.slip {
+                Slip::LastTrialKeeps => false,
+                Slip::TrialClears => true,
+                _ => *again == 0,
+            },
+            State::Sloping(..) => self.slip != Slip::SlopesKeep,
+            State::Moving(_, arrival) => match self.slip {
+                Slip::DifferenceClears => true,
+                Slip::LastDifferenceKeeps => false,
+                _ => arrival.known.len() + 1 == all,
+            },
+        }
+    }
+
     /// What a state asks; one that has ended asks nothing.
     pub fn question(&self, state: &State) -> Option<Question> {
         Some(match state {

@@ -33,6 +33,13 @@ slips! {
     TrialReported "a trial that is not finite reported";
     NotEmptied "an ended machine not emptied";
     PenaltiesNotEmptied "an ended machine with its penalties";
+    BeginClears "workspaces cleared by a beginning";
+    StartClears "workspaces cleared by the values at the start";
+    TrialClears "workspaces cleared by a trial that is not the last";
+    LastTrialKeeps "workspaces kept by the last trial";
+    SlopesKeep "workspaces kept by slopes";
+    DifferenceClears "workspaces cleared by a difference that is not the last";
+    LastDifferenceKeeps "workspaces kept by the last difference";
     NonfiniteDone "0 for 17";
     BandTaken "kind 2 taken";
     BudgetPastMost "a budget of 10,001 taken";

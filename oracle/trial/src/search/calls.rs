@@ -44,6 +44,8 @@ impl Read {
         if let Some(page) = outcome.page {
             pad.floats.copy_from_slice(&page.floats);
             pad.words.copy_from_slice(&page.words);
+        }
+        if outcome.clears {
             pad.w[..WORKSPACES[0]].fill(0.0);
             pad.iw[..WORKSPACES[1]].fill(0);
         }
@@ -175,7 +177,7 @@ impl Buffers {
             found.push(format!("variable: owed {:?}, found {variable}", owed.variable));
         }
         compare_rest("variable", &self.variable, owed.variable.is_some(), &mut found);
-        compare_workspaces(&self.w, &self.iw, owed.number, &mut found);
+        compare_workspaces(&self.w, &self.iw, owed.clears, &mut found);
         found
     }
 

@@ -127,8 +127,8 @@ impl Stored {
         }
         digest.mix_all(self.floats(&owed));
         digest.mix_all(memory(&[], fill.output, OUTPUT));
-        digest.mix_all(room(0, owed.number, pattern(f64::from_bits(fill.room))));
-        digest.mix_all(room(1, owed.number, u64::from(fill.mark)));
+        digest.mix_all(room(0, owed.clears, pattern(f64::from_bits(fill.room))));
+        digest.mix_all(room(1, owed.clears, u64::from(fill.mark)));
         digest.mix_all(values(self.bytes()));
         format!("{} {} {:016x}\n", self.code(), owed.number, digest.number())
     }

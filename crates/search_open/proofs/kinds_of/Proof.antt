@@ -1,4 +1,4 @@
--- `kinds_into`: after j turns j kinds are written.
+-- `kinds_of`: after j turns j kinds are written.
 use native.Mathlib.Omega.{arith}
 use mathlib.Core.Path.{_≡_, refl, _∙_}
 use Prim.Native.Nat.{_+_, _-_, _≤_}
@@ -7,8 +7,8 @@ use Rattle.numbers.specs.Numbers.{nth}
 use Rattle.workspace.specs.inner.Readings.{Written}
 use Rattle.workspace.proofs.Writes.{written-none, written-front}
 use Rattle.search_open.proofs.Steps.{kind-in, kinds-in}
-use Rattle.search_open.proofs.kinds_into.Statement.{statement}
-use Rattle.search_open.proofs.kinds_into.Tie as tie
+use Rattle.search_open.proofs.kinds_of.Statement.{statement}
+use Rattle.search_open.proofs.kinds_of.Tie as tie
 
 abbrev Inv-loop : tie.InvT-loop
 Inv-loop u kinds₀ m j₀ kinds j = (j ≤ m) × (length kinds ≡ length kinds₀) × Written 0 0 j (λ k. nth u (16 + k)) kinds₀ kinds
@@ -55,8 +55,8 @@ returns c =
     let e : l .j ≡ a .m = omega arith in
     kinds-in (a .m) (a .u .now) (a .kinds .now) (l .kinds) (l .inv .1 ∙ c .before .before .before .before .pre .1) (rw e at (l .inv .2))
 
-pub kinds-into-spec : {M : Type 1} → statement M
-kinds-into-spec =
+pub kinds-of-spec : {M : Type 1} → statement M
+kinds-of-spec =
     tie.close
     (tie.spec
     Inv-loop
