@@ -77,11 +77,11 @@
  *   where it is 5, 11, 12 or 13 (and 15, of gritstrut_write_problem and gritstrut_search_begin), a
  *   step's report where it is 0, 5, 6, 7 or 15, and its tally where it is 0, 5, 6 or 7. Else they
  *   are untouched.
- * - A place with 12 and 13 is a meter, with 15 a variable. With 5 and 11 it says where rank was lost: the index, from 0,
- *   of the column of the factored matrix that
- *   stands next after those that could be taken. With 11 the columns are the equalities: if one was
- *   entered twice, and the others are independent and in like units, the place is one of the two
- *   (docs/DIFFERENCES.md, "What a place names", says how far that can be relied on).
+ * - A place with 12 and 13 is a meter, with 15 a variable. With 5 and 11 it says where rank was
+ *   lost: the index, from 0, of the column of the factored matrix that stands next after those that
+ *   could be taken. With 11 the columns are the equalities: if one was entered twice, and the
+ *   others are independent and in like units, the place is one of the two (docs/DIFFERENCES.md,
+ *   "What a place names", says how far that can be relied on).
  * - Units: the rank is told at any scale, but an answer is right only where the largest entry of
  *   each matrix that is factored is between 1e-137 and 1e153 in magnitude. Outside it may be done,
  *   finite and of the wrong sign (docs/DIFFERENCES.md, "A norm for rank only").
