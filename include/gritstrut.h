@@ -456,7 +456,7 @@ uint32_t gritstrut_search_begin(size_t n, size_t m, const uint8_t *kinds, size_t
  * another length; 18 where no question stands, because the run has ended or words are no machine,
  * as also where a word that another hand wrote is out of its range. With 17 a number is not finite:
  * the machine is written, and its run is over. With 0 look at words[0]. The workspaces are zeroed
- * where the answer is slopes, the last of the single values for them (words[5] and words[6] are 0)
+ * where the answer is slopes, a single value of the last difference (words[5] and words[6] are 0)
  * or the values at the last trial of a line (words[2] is 0), and untouched where it is another. */
 uint32_t gritstrut_search_tell(const double *told, size_t told_len,
                                double *machine, size_t machine_len,
