@@ -12,7 +12,7 @@ ghost use Rattle.search.specs.Setup.{isBudget, isScheme, areKinds};
 ghost use Rattle.search.specs.Turn.{backtracks};
 ghost use Rattle.search.specs.Layout.{areWords};
 ghost use Rattle.search.specs.Promise.{areOrdered};
-ghost use Rattle.search_next.specs.inner.Next.{wantedAt, opensAt};
+ghost use Rattle.search_next.specs.inner.Next.{wantedAt};
 ghost use Rattle.search_call.specs.inner.Work.{questionIn, isTold};
 use search_turn::wide;
 
@@ -205,24 +205,4 @@ pub fn is_told(u: &[u32], phase: u32, told: usize) -> bool
         return true;
     }
     told == wanted_of(phase, wide(u[8]), wide(u[9]))
-}
-
-// An answer to the question that stands may open a turn.
-pub fn may_open(u: &[u32]) -> bool
-    requires { ⌜ length (now u) ≡ 32 ⌝ }
-    ensures { λ r. ⌜ r ≡ opensAt (nth (now (u .entry)) 0) (nth (now (u .entry)) 2) (nth (now (u .entry)) 5 + nth (now (u .entry)) 6) ⌝ }
-{
-    if u[0] < 2 {
-        return false;
-    }
-    if u[0] == 2 {
-        return u[2] == 0;
-    }
-    if u[0] == 3 {
-        return true;
-    }
-    if u[5] > 0 {
-        return false;
-    }
-    u[6] == 0
 }
