@@ -7,9 +7,8 @@ use mathlib.Core.List.{List, [], _∷_, map}
 use mathlib.Core.Option.{Option, none, some}
 use lib.Dec.{T, eqb, eqb-refl}
 use lib.ListN.{length, take}
-use lib.Ieee.{Float, le}
-use Rattle.numbers.specs.Numbers.{+0}
-use Rattle.workspace.specs.Tables.{Answer, done, refused, number, outcomeNumber, call, test, floats, words, isDimension, isConstraints, isRoom, has}
+use lib.Ieee.{Float}
+use Rattle.workspace.specs.Tables.{Answer, done, refused, number, outcomeNumber, call, test, floats, words, isDimension, isConstraints, isRoom, isTolerance, has}
 use Rattle.workspace.specs.declared.Outcome.{Outcome}
 use Rattle.workspace.specs.declared.Outcome.the-variants.{Refused}
 use Rattle.nnls.proofs.Signs.{T→true}
@@ -162,6 +161,6 @@ module _ (p : Setup) (i : ℕ) (h : i < p .n) where
 pub bounds-first : BoundsFirst
 bounds-first p scheme x b f u w iw e i h =
     tested p i h (isDimension (p .n) && isConstraints (p .m) && isBudget b && isScheme scheme)
-    (has (p .kinds) (p .m) && has (p .lower) (p .n) && has (p .upper) (p .n) && has x (p .n) && has f 1024 && has u 32) (isRoom w iw) (areKinds (p .kinds)) (le +0 (p .ftol))
+    (has (p .kinds) (p .m) && has (p .lower) (p .n) && has (p .upper) (p .n) && has x (p .n) && has f 1024 && has u 32) (isRoom w iw) (areKinds (p .kinds)) (isTolerance (p .ftol))
     (test (areOrdered (p .n) (p .lower) (p .upper)) Crossed (done (begin p x b))) _
     (lowest-variable Machine (p .lower) (p .upper) (p .n) (test (areOrdered (p .n) (p .lower) (p .upper)) Crossed (done (begin p x b)))) e

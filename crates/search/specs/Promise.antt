@@ -4,12 +4,12 @@ use mathlib.Core.Path.{_≡_}
 use mathlib.Core.Bool.{Bool, true, false, _&&_, not}
 use mathlib.Core.List.{List}
 use mathlib.Core.Option.{Option, none, some}
-use lib.Ieee.{Float, lt, le}
-use Rattle.numbers.specs.Numbers.{+0, at}
+use lib.Ieee.{Float, lt}
+use Rattle.numbers.specs.Numbers.{at}
 use Rattle.workspace.specs.declared.Refusal.the-variants.{Length, Room, Tolerance, Crossed, Nonfinite, Unasked}
 use Rattle.workspace.specs.declared.Outcome.{Outcome}
 use Rattle.workspace.specs.declared.Outcome.the-variants.{Done, Refused}
-use Rattle.workspace.specs.Tables.{Answer, done, refused, call, test, output, floats, words, isDimension, isConstraints, isRoom, has}
+use Rattle.workspace.specs.Tables.{Answer, done, refused, call, test, output, floats, words, isDimension, isConstraints, isRoom, isTolerance, has}
 use Rattle.step_call.specs.Strict.{bounds}
 use Rattle.search.specs.Setup.{Setup, isBudget, isScheme, areKinds, Question, values, slopes, single, Ending, converged, infeasible, exhausted, nonfinite}
 use Rattle.search.specs.Written.{Standing, over, waits}
@@ -34,7 +34,7 @@ beginCall p scheme x b f u w iw =
     call (isDimension (p .n) && isConstraints (p .m) && isBudget b && isScheme scheme)
     (has (p .kinds) (p .m) && has (p .lower) (p .n) && has (p .upper) (p .n) && has x (p .n) && has f 1024 && has u 32)
     (isRoom w iw) (areKinds (p .kinds))
-    (test (le +0 (p .ftol)) Tolerance (bounds (p .lower) (p .upper) (p .n) 0 (test (areOrdered (p .n) (p .lower) (p .upper)) Crossed (done (begin p x b)))))
+    (test (isTolerance (p .ftol)) Tolerance (bounds (p .lower) (p .upper) (p .n) 0 (test (areOrdered (p .n) (p .lower) (p .upper)) Crossed (done (begin p x b)))))
 
 -- ---- telling
 

@@ -22,7 +22,6 @@ use crate::tests::are_ordered;
 use crate::tests::are_sizes;
 use crate::tests::are_slices;
 use crate::tests::is_told;
-use crate::tests::is_tolerance;
 use crate::tests::question_of;
 use workspace::Outcome;
 use workspace::Refusal;
@@ -131,7 +130,7 @@ impl Search {
         if !are_kinds(kinds) {
             return Outcome::Refused(Refusal::Kind);
         }
-        if !is_tolerance(ftol) {
+        if !workspace::is_tolerance(ftol) {
             return Outcome::Refused(Refusal::Tolerance);
         }
         match step_call::strict::test_bounds(lower, upper, n) {

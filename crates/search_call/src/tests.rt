@@ -4,8 +4,7 @@ ghost use mathlib.Core.Bool.{_&&_, cond};
 ghost use Prim.Native.Nat.{suc, _+_, _*_, _≤_};
 ghost use lib.Dec.{leb, eqb};
 ghost use lib.ListN.{length};
-ghost use lib.Ieee.{le};
-ghost use Rattle.numbers.specs.Numbers.{+0, nth};
+ghost use Rattle.numbers.specs.Numbers.{nth};
 ghost use Rattle.workspace.specs.Tables.{isDimension, isConstraints};
 ghost use Rattle.workspace.specs.inner.Readings.{nums};
 ghost use Rattle.search.specs.Setup.{isBudget, isScheme, areKinds};
@@ -77,13 +76,6 @@ pub fn are_kinds(kinds: &[u8]) -> bool
         }
     }
     true
-}
-
-// A tolerance is not NaN and not below zero.
-pub fn is_tolerance(x: f64) -> bool
-    ensures { λ r. ⌜ r ≡ le +0 x ⌝ }
-{
-    0.0 <= x
 }
 
 // No lower bound is above its upper one.
