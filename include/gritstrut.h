@@ -14,8 +14,9 @@
  *   for its type and valid for the length passed with it (a length of 0 goes with any pointer that
  *   is not null and is aligned); a slice that is written overlaps no other slice of the call; and
  *   the pointers of single results (rank, rounds, factorings, place, relaxation, tally,
- *   kept_bytes, meters, written) are distinct and overlap nothing. The processor rounds to nearest and keeps
- *   subnormal numbers, as a C program begins (some that are linked with -ffast-math do not).
+ *   kept_bytes, meters, written) are distinct and overlap nothing. The processor rounds to
+ *   nearest and keeps subnormal numbers, as a C program begins (some that are linked with
+ *   -ffast-math do not).
  *   Everything else is taken: any size and length, and any bit pattern as a double, NaN and
  *   infinities too.
  * - w is a workspace of at least GRITSTRUT_FLOATS doubles (64 KiB) and iw one of at least
@@ -24,9 +25,7 @@
  *   16, 18, 20, 19.
  *
  *     number                                 outputs      workspaces
- *     0  GRITSTRUT_DONE                      all written  first 8192 and 512 entries zero, but
- *                                                         of a search that does not use them
- *                                                         untouched
+ *     0  GRITSTRUT_DONE                      all written  first 8192 and 512 entries zero
  *     1  GRITSTRUT_SIZE: a size (or k)       untouched    untouched
  *        that is not allowed
  *     2  GRITSTRUT_LENGTH: a length that     untouched    untouched
@@ -59,7 +58,7 @@
  *        step that is not strict)
  *     16 GRITSTRUT_CROSSED: a lower bound    untouched    untouched
  *        above its upper one (of a search)
- *     17 GRITSTRUT_NONFINITE: a number that  the machine  as with a search's 0
+ *     17 GRITSTRUT_NONFINITE: a number that  the machine  first 8192 and 512 entries zero
  *        is not finite has ended a search    written
  *     18 GRITSTRUT_UNASKED: a search is told untouched    untouched
  *        an answer where no question stands
@@ -266,7 +265,7 @@ enum {
     GRITSTRUT_RELAXED_NUMBER, /* 0 where the relaxed one was solved or not tried, else 5, 6 or 7 */
     GRITSTRUT_RELAXED_PLACE,  /* with 5 the variable, n being the relaxation; else NOWHERE */
     GRITSTRUT_ROUNDS,         /* rounds of NNLS in both stages, one refused by 7 not counted */
-    GRITSTRUT_FACTORINGS,     /* QR factorings in both stages, those of no columns too: at most 25,879 */
+    GRITSTRUT_FACTORINGS,     /* QR factorings in both stages, of no columns too: at most 25,879 */
     GRITSTRUT_REPORT          /* how many entries a report has */
 };
 
@@ -323,9 +322,9 @@ uint32_t gritstrut_step(size_t n, size_t m, const double *factor, size_t factor_
 /* The strict step: the step, but that a bound that is NaN, a lower bound of +infinity and an upper
  * bound of -infinity are refused by 15, directly after 14, and not taken as open; lower -infinity
  * and upper +infinity are open. With 15 report has GRITSTRUT_BOUND in its exact number and the
- * lowest such variable in its exact place, 0 and GRITSTRUT_NOWHERE for the relaxed stage, and counts
- * of 0; nothing else is written, and the tally stays. With every other number all is as the step
- * has it. The record program runs this one. */
+ * lowest such variable in its exact place, 0 and GRITSTRUT_NOWHERE for the relaxed stage, and
+ * counts of 0; nothing else is written, and the tally stays. With every other number all is as the
+ * step has it. The record program runs this one. */
 uint32_t gritstrut_strict_step(size_t n, size_t m, const double *factor, size_t factor_len,
                                const double *gradient, size_t gradient_len,
                                const uint8_t *kinds, size_t kinds_len,
@@ -342,9 +341,9 @@ uint32_t gritstrut_strict_step(size_t n, size_t m, const double *factor, size_t 
 
 /* The entries of a verdict. */
 enum {
-    GRITSTRUT_TEST,   /* 0: yes; else the first failed test: 1 stationarity, 2 an equality's residual,
-                       * 3 a violation, 4 a multiplier below zero, 5 a product of multiplier and
-                       * margin */
+    GRITSTRUT_TEST,   /* 0: yes; else the first failed test: 1 stationarity, 2 an equality's
+                       * residual, 3 a violation, 4 a multiplier below zero, 5 a product of
+                       * multiplier and margin */
     GRITSTRUT_PART,   /* what the index counts, as below; 0 with yes */
     GRITSTRUT_INDEX,  /* the row on which it failed first; 0 with yes */
     GRITSTRUT_VERDICT /* how many entries a verdict has */
@@ -358,7 +357,7 @@ enum {
 };
 
 /* Whether a step is plausible, wherever it comes from: five tests, and the first that fails, with
- * its row. In: the problem as gritstrut_step takes it, but that only the lower triangle of factor is
+ * its row. In: the problem as gritstrut_step takes it, but only the lower triangle of factor is
  * read; the step d (n); multipliers (m), and those of the lower and the upper sides (n each, not
  * read where a side is open); and the tolerance, which admits its own value. Out: verdict
  * (GRITSTRUT_VERDICT entries). docs/RULES.md, "The check", has the tests.
@@ -383,13 +382,13 @@ uint32_t gritstrut_check(size_t n, size_t m, const double *factor, size_t factor
 #define GRITSTRUT_FILE 7568
 
 /* Writes a problem as the record program's input, so that the step can be run again elsewhere from
- * the same bits. In: the problem as gritstrut_step takes it, its numbers as their bits (uint64_t; of
+ * the same bits. In: the problem as gritstrut_step takes it, its numbers as bits (uint64_t; of
  * an array of doubles (const uint64_t *)factor), so that a NaN's payload is part of the problem and
  * of the file. The widths of constraints that are no bands are not: they are not read. Out: the
  * file in the first *written bytes of out, the rest of it untouched; out of GRITSTRUT_FILE bytes is
  * always long enough. place: the variable with 15. The records stand in the order D, L, G, E or I
  * with its W directly after it, A, B, T, each by row then column; an entry whose bits are those of
- * a missing one (1 on the factor's diagonal, +0, -infinity as lower and +infinity as upper bound) is
+ * a missing one (1 on the factor's diagonal, +0, -infinity as lower, +infinity as upper bound) is
  * left out, a constraint's value and a band's width never. The workspaces are not needed for it,
  * but lent and left as with the step. */
 uint32_t gritstrut_write_problem(size_t n, size_t m, const uint64_t *factor, size_t factor_len,
@@ -438,10 +437,9 @@ enum {
  * equality, 1 a floor: there are no bands), lower and upper (n each; -infinity and +infinity are
  * open), the start x (n), ftol, the budget, from 0 to GRITSTRUT_SEARCH_BUDGET, and the scheme: 0,
  * slopes are told; 1, they are worked out by forward differences, or 2, by central ones, of single
- * values that are asked for. Out: machine and words, whole: what they held before does not matter. After 1 to 4
- * comes 10 for ftol, then 15 with the lowest variable in place, then 16. With 17 the start is not
- * finite: the machine is written, and its run is over. With 0 look at words[0]. The workspaces are
- * never touched. */
+ * values that are asked for. Out: machine and words, whole: what they held before does not matter.
+ * After 1 to 4 comes 10 for ftol, then 15 with the lowest variable in place, then 16. With 17 the
+ * start is not finite: the machine is written, and its run is over. With 0 look at words[0]. */
 uint32_t gritstrut_search_begin(size_t n, size_t m, const uint8_t *kinds, size_t kinds_len,
                                 const double *lower, size_t lower_len,
                                 const double *upper, size_t upper_len,
@@ -455,9 +453,7 @@ uint32_t gritstrut_search_begin(size_t n, size_t m, const uint8_t *kinds, size_t
  * many numbers as the question wants. In and out: machine and words. 2 is also for an answer of
  * another length; 18 where no question stands, because the run has ended or words are no machine,
  * as also where a word that another hand wrote is out of its range. With 17 a number is not finite:
- * the machine is written, and its run is over. With 0 look at words[0]. The workspaces are zeroed
- * where the answer is slopes, a single value of the last difference (words[5] and words[6] are 0)
- * or the values at the last trial of a line (words[2] is 0), and untouched where it is another. */
+ * the machine is written, and its run is over. With 0 look at words[0]. */
 uint32_t gritstrut_search_tell(const double *told, size_t told_len,
                                double *machine, size_t machine_len,
                                uint32_t *words, size_t words_len,

@@ -10,12 +10,12 @@ use lib.Ieee.{Float}
 use borrow.Author.Tests.{eq-eqb}
 use Rattle.workspace.specs.declared.Refusal.{Refusal}
 use Rattle.workspace.specs.declared.Refusal.the-variants.{Length, Width, Tolerance}
-use Rattle.workspace.specs.Tables.{Answer, done, refused, number, numberOf, output, call, test, isDimension, isConstraints, isRoom}
+use Rattle.workspace.specs.Tables.{Answer, done, refused, number, numberOf, output, call, test, isDimension, isConstraints, isRoom, isTolerance}
 use Rattle.step_rows.specs.Problem.{Problem}
 use Rattle.step_call.specs.Promise.{areKinds, areWidths}
 use Rattle.step_check.specs.Check.{Pasted, verdict, testTold, partTold, indexTold}
 use Rattle.step_check.specs.declared.Verdict.{Verdict}
-use Rattle.step_check_call.specs.Promise.{isTolerance, arePasted, checkCall, outcomeOf, Checks}
+use Rattle.step_check_call.specs.Promise.{arePasted, checkCall, outcomeOf, Checks}
 use Rattle.step_check_call.specs.declared.Outcome.{Outcome}
 use Rattle.step_check_call.specs.declared.Outcome.the-variants.{Done, Refused}
 use Rattle.gritstrut.specs.Checking.{verdictEntries, checkVerdictCall, numberTold, entriesLeft, VerdictTold, CheckLeaves, OneCheck}

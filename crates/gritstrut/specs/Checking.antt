@@ -5,12 +5,12 @@ use mathlib.Core.List.{List, [], _∷_}
 use Prim.Native.Nat.{ℕ}
 use lib.Ieee.{Float}
 use Rattle.workspace.specs.declared.Refusal.the-variants.{Width, Tolerance}
-use Rattle.workspace.specs.Tables.{Answer, done, number, numberOf, output, call, test, isDimension, isConstraints, isRoom, has}
+use Rattle.workspace.specs.Tables.{Answer, done, number, numberOf, output, call, test, isDimension, isConstraints, isRoom, isTolerance, has}
 use Rattle.step_rows.specs.Problem.{Problem}
 use Rattle.step_call.specs.Promise.{areKinds, areWidths}
 use Rattle.step_check.specs.Check.{Pasted, verdict, testTold, partTold, indexTold}
 use Rattle.step_check.specs.declared.Verdict.{Verdict}
-use Rattle.step_check_call.specs.Promise.{isTolerance, arePasted, outcomeOf, Checks}
+use Rattle.step_check_call.specs.Promise.{arePasted, outcomeOf, Checks}
 use Rattle.step_check_call.specs.declared.Outcome.{Outcome}
 use Rattle.step_check_call.specs.declared.Outcome.the-variants.{Done, Refused}
 

@@ -1,7 +1,7 @@
 // The C functions of the search.
 ghost use mathlib.Core.Bool.{false};
-ghost use Rattle.search.specs.Layout.{setupIn, machineIn};
-ghost use Rattle.search.specs.Promise.{setupOf, beginCall, tellCall, mayOpenIn};
+ghost use Rattle.search.specs.Layout.{setupIn};
+ghost use Rattle.search.specs.Promise.{setupOf, beginCall, tellCall};
 ghost use Rattle.gritstrut.specs.Searching.{RunLeaves, BeginLeaves};
 use search_call::Search;
 
@@ -52,7 +52,7 @@ pub extern "C" fn gritstrut_search_tell(
     w: &mut [f64],
     iw: &mut [u32],
 ) -> u32
-    ensures { λ k. ⌜ RunLeaves false (mayOpenIn (machineIn (now (machine .entry)) (now (words .entry)))) (setupIn (now (machine .entry)) (now (words .entry))) (tellCall (now (told .entry)) (now (machine .entry)) (now (words .entry)) (now (w .entry)) (now (iw .entry))) k (now (machine .entry)) (now (machine .exit)) (now (words .entry)) (now (words .exit)) (now (w .entry)) (now (w .exit)) (now (iw .entry)) (now (iw .exit)) ⌝ }
+    ensures { λ k. ⌜ RunLeaves false (setupIn (now (machine .entry)) (now (words .entry))) (tellCall (now (told .entry)) (now (machine .entry)) (now (words .entry)) (now (w .entry)) (now (iw .entry))) k (now (machine .entry)) (now (machine .exit)) (now (words .entry)) (now (words .exit)) (now (w .entry)) (now (w .exit)) (now (iw .entry)) (now (iw .exit)) ⌝ }
 {
     let answer = Search::tell(told, machine, words, w, iw);
     answer.number()

@@ -7,9 +7,8 @@ use mathlib.Core.List.{List, [], _∷_, map}
 use mathlib.Core.Option.{Option, none, some}
 use lib.Dec.{T, eqb, eqb-refl}
 use lib.ListN.{length, take}
-use lib.Ieee.{Float, le}
-use Rattle.numbers.specs.Numbers.{+0}
-use Rattle.workspace.specs.Tables.{Answer, done, refused, number, outcomeNumber, call, test, floats, words, isDimension, isConstraints, isRoom, has}
+use lib.Ieee.{Float}
+use Rattle.workspace.specs.Tables.{Answer, done, refused, number, outcomeNumber, call, test, floats, words, isDimension, isConstraints, isRoom, isTolerance, has}
 use Rattle.workspace.specs.declared.Outcome.{Outcome}
 use Rattle.workspace.specs.declared.Outcome.the-variants.{Refused}
 use Rattle.nnls.proofs.Signs.{T→true}
@@ -21,7 +20,7 @@ use Rattle.search.specs.Setup.{Setup, isBudget, isScheme, areKinds, Ques
 use Rattle.search.specs.Written.{Script, ends, asks, Standing, over, waits, written, stands, follow, play}
 use Rattle.search.specs.Machine.{Machine, ended, begin, tell, tellAll, standing}
 use Rattle.search.specs.Layout.{setupIn, machineIn, setupFloats, setupWords, machineFloats, machineWords, Fits, Posed, Holds}
-use Rattle.search.specs.Promise.{areOrdered, heard, tellIn, tellCall, isWanted, isWaiting, floatsOf, wordsOf, wanted, callOutcome, mayOpenIn, Runs}
+use Rattle.search.specs.Promise.{areOrdered, heard, tellIn, tellCall, isWanted, isWaiting, floatsOf, wordsOf, wanted, callOutcome, Runs}
 use Rattle.search.specs.Calls.{hears, hearsAll, Slices, toldOnce, toldAll, OverCalls, Stands, CallsAnswered, isSilent, NoQuestion, OneAnswer, BoundsFirst}
 use Rattle.search.proofs.Machines.{script, told-alike, stands-alike, begins-alike}
 use Rattle.search.proofs.Answers.{answered}
@@ -119,28 +118,24 @@ silent-in : (p : Setup) (o : Option Machine) (v : List Float) → isSilent p o �
 silent-in p none v h = refl
 silent-in p (some M) v h = silent-at p v (tell p M v) (standing p M) h
 
-pub either-way : {A : Type 0} (b : Bool) (x : A) → cond b x x ≡ x
-either-way true x = refl
-either-way false x = refl
-
 -- what a refusal by 18 leaves
-unasked : (used : Bool) (p : Setup) (c : Answer Machine) (o : Outcome) (f f' : List Float) (u u' : List ℕ) (w w' : List Float) (iw iw' : List ℕ) → c ≡ refused Unasked
-    → Runs false used p c o f f' u u' w w' iw iw' → (o ≡ Refused Unasked) × (outcomeNumber o ≡ 18) × (f' ≡ f) × (u' ≡ u) × (w' ≡ w) × (iw' ≡ iw)
-unasked used p c o f f' u u' w w' iw iw' e r = (
+unasked : (p : Setup) (c : Answer Machine) (o : Outcome) (f f' : List Float) (u u' : List ℕ) (w w' : List Float) (iw iw' : List ℕ) → c ≡ refused Unasked
+    → Runs false p c o f f' u u' w w' iw iw' → (o ≡ Refused Unasked) × (outcomeNumber o ≡ 18) × (f' ≡ f) × (u' ≡ u) × (w' ≡ w) × (iw' ≡ iw)
+unasked p c o f f' u u' w w' iw iw' e r = (
   r .the-outcome ∙ ap callOutcome e,
   ap outcomeNumber (r .the-outcome ∙ ap callOutcome e),
   r .the-machine ∙ ap (λ (t : Answer Machine). floatsOf false p t f) e,
   r .the-state ∙ ap (λ (t : Answer Machine). wordsOf false p t u) e,
-  r .the-floats ∙ ap (λ (t : Answer Machine). cond used (floats t w) w) e ∙ either-way used w,
-  r .the-words ∙ ap (λ (t : Answer Machine). cond used (words t iw) iw) e ∙ either-way used iw,
+  r .the-floats ∙ ap (λ (t : Answer Machine). floats t w) e,
+  r .the-words ∙ ap (λ (t : Answer Machine). words t iw) e,
 )
 
 pub no-question : NoQuestion
 no-question v f f' u u' w w' iw iw' o lf lu room silent r =
-    unasked (mayOpenIn (machineIn f u)) (setupIn f u) (tellCall v f u w iw) o f f' u u' w w' iw iw' (rw (lf, lu, room) (silent-in (setupIn f u) (machineIn f u) v silent)) r
+    unasked (setupIn f u) (tellCall v f u w iw) o f f' u u' w w' iw iw' (rw (lf, lu, room) (silent-in (setupIn f u) (machineIn f u) v silent)) r
 
 pub one-answer : OneAnswer
-one-answer first used p c r r' f f' f'' u u' u'' w w' w'' iw iw' iw'' a b = (
+one-answer first p c r r' f f' f'' u u' u'' w w' w'' iw iw' iw'' a b = (
   a .the-outcome ∙ sym (b .the-outcome),
   a .the-machine ∙ sym (b .the-machine),
   a .the-state ∙ sym (b .the-state),
@@ -166,6 +161,6 @@ module _ (p : Setup) (i : ℕ) (h : i < p .n) where
 pub bounds-first : BoundsFirst
 bounds-first p scheme x b f u w iw e i h =
     tested p i h (isDimension (p .n) && isConstraints (p .m) && isBudget b && isScheme scheme)
-    (has (p .kinds) (p .m) && has (p .lower) (p .n) && has (p .upper) (p .n) && has x (p .n) && has f 1024 && has u 32) (isRoom w iw) (areKinds (p .kinds)) (le +0 (p .ftol))
+    (has (p .kinds) (p .m) && has (p .lower) (p .n) && has (p .upper) (p .n) && has x (p .n) && has f 1024 && has u 32) (isRoom w iw) (areKinds (p .kinds)) (isTolerance (p .ftol))
     (test (areOrdered (p .n) (p .lower) (p .upper)) Crossed (done (begin p x b))) _
     (lowest-variable Machine (p .lower) (p .upper) (p .n) (test (areOrdered (p .n) (p .lower) (p .upper)) Crossed (done (begin p x b)))) e

@@ -15,7 +15,7 @@ use Rattle.search.specs.Setup.{Setup, Question}
 use Rattle.search.specs.Written.{Standing, over, waits, written, play}
 use Rattle.search.specs.Machine.{Machine, begin, tell, standing}
 use Rattle.search.specs.Layout.{Posed, Holds, setupIn, machineIn, setupFloats, setupWords, machineFloats, machineWords}
-use Rattle.search.specs.Promise.{beginCall, wanted, isWanted, isWaiting, tellIn, tellCall, floatsOf, wordsOf, mayOpenIn, Runs}
+use Rattle.search.specs.Promise.{beginCall, wanted, isWanted, isWaiting, tellIn, tellCall, floatsOf, wordsOf, Runs}
 
 -- what a machine becomes by a call: it hears an answer of the right length to a question that stands
 abbrev pub hears : Setup → Machine → (v : List Float) → Machine
@@ -73,13 +73,13 @@ isSilent p (some m) = not (isWaiting (standing p m))
 -- An answer to no question, whatever it is, is refused by 18 and changes nothing.
 abbrev pub NoQuestion : Type 0
 NoQuestion = (v f f' : List Float) (u u' : List ℕ) (w w' : List Float) (iw iw' : List ℕ) (r : Outcome) → length f ≡ 1024 → length u ≡ 32 → isRoom w iw ≡ true
-    → isSilent (setupIn f u) (machineIn f u) ≡ true → Runs false (mayOpenIn (machineIn f u)) (setupIn f u) (tellCall v f u w iw) r f f' u u' w w' iw iw'
+    → isSilent (setupIn f u) (machineIn f u) ≡ true → Runs false (setupIn f u) (tellCall v f u w iw) r f f' u u' w w' iw iw'
     → (r ≡ Refused Unasked) × (outcomeNumber r ≡ 18) × (f' ≡ f) × (u' ≡ u) × (w' ≡ w) × (iw' ≡ iw)
 
 -- Whatever the answer c, the outcome and all that is left are fixed by what was there before.
 abbrev pub OneAnswer : Type 0
-OneAnswer = (first used : Bool) (p : Setup) (c : Answer Machine) (r r' : Outcome) (f f' f'' : List Float) (u u' u'' : List ℕ) (w w' w'' : List Float) (iw iw' iw'' : List ℕ)
-    → Runs first used p c r f f' u u' w w' iw iw' → Runs first used p c r' f f'' u u'' w w'' iw iw'' → (r ≡ r') × (f' ≡ f'') × (u' ≡ u'') × (w' ≡ w'') × (iw' ≡ iw'')
+OneAnswer = (first : Bool) (p : Setup) (c : Answer Machine) (r r' : Outcome) (f f' f'' : List Float) (u u' u'' : List ℕ) (w w' w'' : List Float) (iw iw' iw'' : List ℕ)
+    → Runs first p c r f f' u u' w w' iw iw' → Runs first p c r' f f'' u u'' w w'' iw iw'' → (r ≡ r') × (f' ≡ f'') × (u' ≡ u'') × (w' ≡ w'') × (iw' ≡ iw'')
 
 -- A beginning is refused by 16 only where every bound means something: 15 comes before it.
 abbrev pub BoundsFirst : Type 0

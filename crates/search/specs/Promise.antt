@@ -1,16 +1,15 @@
 -- What calls of the search answer and leave. Definitions only.
-use Prim.Native.Nat.{ℕ, zero, suc, _+_, _*_}
+use Prim.Native.Nat.{ℕ, zero, suc, _*_}
 use mathlib.Core.Path.{_≡_}
-use mathlib.Core.Bool.{Bool, true, false, cond, _&&_, not}
+use mathlib.Core.Bool.{Bool, true, false, _&&_, not}
 use mathlib.Core.List.{List}
 use mathlib.Core.Option.{Option, none, some}
-use lib.Dec.{eqb}
-use lib.Ieee.{Float, lt, le}
-use Rattle.numbers.specs.Numbers.{+0, at}
+use lib.Ieee.{Float, lt}
+use Rattle.numbers.specs.Numbers.{at}
 use Rattle.workspace.specs.declared.Refusal.the-variants.{Length, Room, Tolerance, Crossed, Nonfinite, Unasked}
 use Rattle.workspace.specs.declared.Outcome.{Outcome}
 use Rattle.workspace.specs.declared.Outcome.the-variants.{Done, Refused}
-use Rattle.workspace.specs.Tables.{Answer, done, refused, call, test, output, floats, words, isDimension, isConstraints, isRoom, has}
+use Rattle.workspace.specs.Tables.{Answer, done, refused, call, test, output, floats, words, isDimension, isConstraints, isRoom, isTolerance, has}
 use Rattle.step_call.specs.Strict.{bounds}
 use Rattle.search.specs.Setup.{Setup, isBudget, isScheme, areKinds, Question, values, slopes, single, Ending, converged, infeasible, exhausted, nonfinite}
 use Rattle.search.specs.Written.{Standing, over, waits}
@@ -35,7 +34,7 @@ beginCall p scheme x b f u w iw =
     call (isDimension (p .n) && isConstraints (p .m) && isBudget b && isScheme scheme)
     (has (p .kinds) (p .m) && has (p .lower) (p .n) && has (p .upper) (p .n) && has x (p .n) && has f 1024 && has u 32)
     (isRoom w iw) (areKinds (p .kinds))
-    (test (le +0 (p .ftol)) Tolerance (bounds (p .lower) (p .upper) (p .n) 0 (test (areOrdered (p .n) (p .lower) (p .upper)) Crossed (done (begin p x b)))))
+    (test (isTolerance (p .ftol)) Tolerance (bounds (p .lower) (p .upper) (p .n) 0 (test (areOrdered (p .n) (p .lower) (p .upper)) Crossed (done (begin p x b)))))
 
 -- ---- telling
 
@@ -102,23 +101,10 @@ floatsOf first p c f = output c (λ m. machineFloats p m (floatsFrom first p f))
 abbrev pub wordsOf : (first : Bool) → Setup → Answer Machine → List ℕ → List ℕ
 wordsOf first p c u = output c (λ m. machineWords m (wordsFrom first p u)) u
 
--- Whether an answer to what stands may open a turn, whose step is solved in the workspaces: it is the slopes, or the last difference of them, or the last trial of a line.
-abbrev pub mayOpen : Machine → Bool
-mayOpen (ended e r) = false
-mayOpen (starting b x) = false
-mayOpen (trying b s line α again) = eqb again 0
-mayOpen (sloping b goal q) = true
-mayOpen (raised b goal q rows cols g) = eqb (rows + cols) 0
-mayOpen (lowered b goal q rows cols g v) = eqb (rows + cols) 0
-
-abbrev pub mayOpenIn : Option Machine → Bool
-mayOpenIn none = false
-mayOpenIn (some m) = mayOpen m
-
--- From the answer c of such a call: the outcome r, and what the machine's slices and the workspaces hold before and, primed, afterwards. The workspaces are `used` where a turn may open, and are as they were where not.
-pub record Runs (first used : Bool) (p : Setup) (c : Answer Machine) (r : Outcome) (f f' : List Float) (u u' : List ℕ) (w w' : List Float) (iw iw' : List ℕ) : Type 0 where
+-- From the answer c of such a call: the outcome r, and what the machine's slices and the workspaces hold before and, primed, afterwards.
+pub record Runs (first : Bool) (p : Setup) (c : Answer Machine) (r : Outcome) (f f' : List Float) (u u' : List ℕ) (w w' : List Float) (iw iw' : List ℕ) : Type 0 where
   pub the-outcome : r ≡ callOutcome c
   pub the-machine : f' ≡ floatsOf first p c f
   pub the-state : u' ≡ wordsOf first p c u
-  pub the-floats : w' ≡ cond used (floats c w) w
-  pub the-words : iw' ≡ cond used (words c iw) iw
+  pub the-floats : w' ≡ floats c w
+  pub the-words : iw' ≡ words c iw

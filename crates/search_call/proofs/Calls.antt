@@ -3,68 +3,69 @@ use mathlib.Core.Path.{_≡_, refl, sym, ap, _∙_}
 use mathlib.Core.Bool.{Bool, true, false, cond, not, _&&_, true≢false}
 use mathlib.Core.List.{List, [], _∷_}
 use mathlib.Core.Option.{Option, none, some}
-use Prim.Native.Nat.{ℕ, zero, suc, _+_, _*_, _≤_, _<_}
+use Prim.Native.Nat.{ℕ, zero, suc, _*_, _≤_, _<_}
 use native.Mathlib.Omega.{arith}
 use lib.Dec.{leb, eqb}
 use lib.ListN.{length}
 use lib.Ieee.{Float}
 use borrow.Author.Tests.{leb-true, leb-false, eqb-true, ne-eqb}
-use Rattle.numbers.specs.Numbers.{+0, nth}
-use Rattle.workspace.specs.Tables.{Answer, done, refused, isLate, call, test, isDimension, isConstraints, isRoom, has, cleared}
+use Rattle.numbers.specs.Numbers.{nth}
+use Rattle.workspace.specs.Tables.{Answer, done, refused, isLate, call, test, isDimension, isConstraints, isRoom, has}
 use Rattle.workspace.specs.declared.Refusal.{Refusal}
 use Rattle.workspace.specs.declared.Refusal.the-variants.{Size, Length, Room, Kind, Tolerance, Crossed, Unasked}
 use Rattle.workspace.specs.declared.Outcome.{Outcome}
 use Rattle.workspace.specs.declared.Outcome.the-variants.{Refused}
+use Rattle.workspace.specs.inner.Readings.{Cleared}
 use Rattle.workspace.proofs.Tests.{and-true, dimension-le, dimension-ge, constraints-le, has-length}
 use Rattle.search.specs.Setup.{Setup, isBudget, isScheme, areKinds, Report, Ending, converged, infeasible, exhausted, nonfinite}
 use Rattle.search.specs.Written.{Standing, over, waits}
 use Rattle.search.specs.Machine.{Machine, ended, starting, trying, sloping, raised, lowered, begin, tell, standing}
 use Rattle.search.specs.Layout.{laid, fronted, setupIn, stateIn, areWords, machineIn, machineWords, Posed}
-use Rattle.search.specs.Promise.{setupOf, isWanted, isWaiting, tellIn, tellCall, stateOutcome, mayOpenIn, Runs}
+use Rattle.search.specs.Promise.{setupOf, isWanted, isWaiting, tellIn, tellCall, stateOutcome, Runs}
 use Rattle.search.specs.Calls.{isSilent}
-use Rattle.search.proofs.Calls.{either-way}
-use Rattle.search_next.specs.inner.Next.{wantedAt, Heard, Told, opensAt}
-use Rattle.search_call.specs.inner.Work.{Begins, Started, questionIn, isTold, outcomeIn, Left}
+use Rattle.search_next.specs.inner.Next.{wantedAt, Heard, Told}
+use Rattle.search_call.specs.inner.Work.{Begins, Started, questionIn, isTold, outcomeIn}
 use Rattle.search_call.proofs.Questions.{Asked, asked-of}
 
 -- a refusal before the arithmetic leaves all as it was
-refused-by : (first used : Bool) (p : Setup) (c : Answer Machine) (q : Refusal) (f w : List Float) (u iw : List ℕ) → isLate q ≡ false → c ≡ refused q → Runs first used p c (Refused q) f f u u w w iw iw
-refused-by first used p c q f w u iw l e =
-    rw e (record { the-outcome = refl; the-machine = refl; the-state = refl; the-floats = rw l (sym (either-way used w)); the-words = rw l (sym (either-way used iw)) })
+refused-by : (first : Bool) (p : Setup) (c : Answer Machine) (q : Refusal) (f w : List Float) (u iw : List ℕ) → isLate q ≡ false → c ≡ refused q → Runs first p c (Refused q) f f u u w w iw iw
+refused-by first p c q f w u iw l e =
+    rw e (record { the-outcome = refl; the-machine = refl; the-state = refl; the-floats = rw l refl; the-words = rw l refl })
 
 -- ---- beginning
 
 module _ (p : Setup) (f w : List Float) (u iw : List ℕ) where
-  pub crossed-refused : (o : Bool) (a : Answer Machine) → o ≡ false → Runs true false p (test o Crossed a) (Refused Crossed) f f u u w w iw iw
-  crossed-refused o a h = refused-by true false p (test o Crossed a) Crossed f w u iw refl (rw h refl)
+  pub crossed-refused : (o : Bool) (a : Answer Machine) → o ≡ false → Runs true p (test o Crossed a) (Refused Crossed) f f u u w w iw iw
+  crossed-refused o a h = refused-by true p (test o Crossed a) Crossed f w u iw refl (rw h refl)
 
   module _ (a : Answer Machine) (s l r k : Bool) where
-    pub size-refused : s ≡ false → Runs true false p (call s l r k a) (Refused Size) f f u u w w iw iw
-    size-refused h = refused-by true false p (call s l r k a) Size f w u iw refl (rw h refl)
+    pub size-refused : s ≡ false → Runs true p (call s l r k a) (Refused Size) f f u u w w iw iw
+    size-refused h = refused-by true p (call s l r k a) Size f w u iw refl (rw h refl)
 
-    pub length-refused : s ≡ true → l ≡ false → Runs true false p (call s l r k a) (Refused Length) f f u u w w iw iw
-    length-refused h i = refused-by true false p (call s l r k a) Length f w u iw refl (rw (h, i) refl)
+    pub length-refused : s ≡ true → l ≡ false → Runs true p (call s l r k a) (Refused Length) f f u u w w iw iw
+    length-refused h i = refused-by true p (call s l r k a) Length f w u iw refl (rw (h, i) refl)
 
-    pub room-refused : s ≡ true → l ≡ true → r ≡ false → Runs true false p (call s l r k a) (Refused Room) f f u u w w iw iw
-    room-refused h i j = refused-by true false p (call s l r k a) Room f w u iw refl (rw (h, i, j) refl)
+    pub room-refused : s ≡ true → l ≡ true → r ≡ false → Runs true p (call s l r k a) (Refused Room) f f u u w w iw iw
+    room-refused h i j = refused-by true p (call s l r k a) Room f w u iw refl (rw (h, i, j) refl)
 
-    pub kind-refused : s ≡ true → l ≡ true → r ≡ true → k ≡ false → Runs true false p (call s l r k a) (Refused Kind) f f u u w w iw iw
-    kind-refused h i j q = refused-by true false p (call s l r k a) Kind f w u iw refl (rw (h, i, j, q) refl)
+    pub kind-refused : s ≡ true → l ≡ true → r ≡ true → k ≡ false → Runs true p (call s l r k a) (Refused Kind) f f u u w w iw iw
+    kind-refused h i j q = refused-by true p (call s l r k a) Kind f w u iw refl (rw (h, i, j, q) refl)
 
     module _ (t : Bool) (hs : s ≡ true) (hl : l ≡ true) (hr : r ≡ true) (hk : k ≡ true) where
-      pub tolerance-refused : t ≡ false → Runs true false p (call s l r k (test t Tolerance a)) (Refused Tolerance) f f u u w w iw iw
-      tolerance-refused h = refused-by true false p (call s l r k (test t Tolerance a)) Tolerance f w u iw refl (rw (hs, hl, hr, hk, h) refl)
+      pub tolerance-refused : t ≡ false → Runs true p (call s l r k (test t Tolerance a)) (Refused Tolerance) f f u u w w iw iw
+      tolerance-refused h = refused-by true p (call s l r k (test t Tolerance a)) Tolerance f w u iw refl (rw (hs, hl, hr, hk, h) refl)
 
-      pub bound-refused : (q : Refusal) → t ≡ true → (a ≡ refused q) × (isLate q ≡ false) → Runs true false p (call s l r k (test t Tolerance a)) (Refused q) f f u u w w iw iw
-      bound-refused q h e = refused-by true false p (call s l r k (test t Tolerance a)) q f w u iw (e .1) (rw (hs, hl, hr, hk, h) (e .0))
+      pub bound-refused : (q : Refusal) → t ≡ true → (a ≡ refused q) × (isLate q ≡ false) → Runs true p (call s l r k (test t Tolerance a)) (Refused q) f f u u w w iw iw
+      bound-refused q h e = refused-by true p (call s l r k (test t Tolerance a)) q f w u iw (e .1) (rw (hs, hl, hr, hk, h) (e .0))
 
-      pub call-answered : (b : Answer Machine) (o : Outcome) (f' w' : List Float) (u' iw' : List ℕ) → t ≡ true → a ≡ b → Runs true false p b o f f' u u' w w' iw iw'
-          → Runs true false p (call s l r k (test t Tolerance a)) o f f' u u' w w' iw iw'
+      pub call-answered : (b : Answer Machine) (o : Outcome) (f' w' : List Float) (u' iw' : List ℕ) → t ≡ true → a ≡ b → Runs true p b o f f' u u' w w' iw iw'
+          → Runs true p (call s l r k (test t Tolerance a)) o f f' u u' w w' iw iw'
       call-answered b o f' w' u' iw' h e g = rw (hs, hl, hr, hk, h, e) g
 
-pub begun : (p : Setup) (x : List Float) (b : ℕ) (o : Bool) (r : Outcome) (f f' w : List Float) (u u' iw : List ℕ) → o ≡ true → Started p x b r f' u'
-    → Runs true false p (test o Crossed (done (begin p x b))) r f f' u u' w w iw iw
-begun p x b o r f f' w u u' iw h s = rw h (record { the-outcome = s .outcome; the-machine = s .floats; the-state = s .words; the-floats = refl; the-words = refl })
+pub begun : (p : Setup) (x : List Float) (b : ℕ) (o : Bool) (r : Outcome) (f f' w w' : List Float) (u u' iw iw' : List ℕ) → o ≡ true → Started p x b r f' u' → Cleared w w' iw iw'
+    → Runs true p (test o Crossed (done (begin p x b))) r f f' u u' w w' iw iw'
+begun p x b o r f f' w w' u u' iw iw' h s c =
+    rw h (record { the-outcome = s .outcome; the-machine = s .floats; the-state = s .words; the-floats = c .floats; the-words = c .words })
 
 -- the six lengths in two tests
 pub lengths-bad : (a b c : Bool) → a ≡ false → (a && b && c) ≡ false
@@ -170,21 +171,6 @@ machine-waits : (f : List Float) (u : List ℕ) (k : ℕ) → Asked k u → Wait
 unfolding machineIn
 machine-waits f u k q = rw (q .good, q .phase) (state-waits f f u u (nth u 0) (q .some) (q .few))
 
--- and whether a turn may open
-state-opens : (f : List Float) (u : List ℕ) (k n m : ℕ) → 1 ≤ k → k ≤ 5 → mayOpenIn (stateIn k n m f u) ≡ opensAt k (nth u 2) (nth u 5 + nth u 6)
-unfolding stateIn
-state-opens f u zero n m h l = absurd (omega arith)
-state-opens f u (suc zero) n m h l = refl
-state-opens f u (suc (suc zero)) n m h l = refl
-state-opens f u (suc (suc (suc zero))) n m h l = refl
-state-opens f u (suc (suc (suc (suc zero)))) n m h l = refl
-state-opens f u (suc (suc (suc (suc (suc zero))))) n m h l = refl
-state-opens f u (suc (suc (suc (suc (suc (suc k)))))) n m h l = absurd (omega arith)
-
-machine-opens : (f : List Float) (u : List ℕ) (k : ℕ) → Asked k u → mayOpenIn (machineIn f u) ≡ opensAt (nth u 0) (nth u 2) (nth u 5 + nth u 6)
-unfolding machineIn
-machine-opens f u k q = rw (q .good) (state-opens f u (nth u 0) (nth u 8) (nth u 9) (q .some) (q .few))
-
 waits-tell : (p : Setup) (o : Option Machine) (w : ℕ) (v : List Float) (l r : Bool) (g : Waits p o w)
     → tellIn p o l v r ≡ test (l && eqb (length v) w) Length (test r Room (done (tell p (g .machine) v)))
 waits-tell p o w v l r g =
@@ -223,8 +209,8 @@ short-tell p none v l r h = rw h refl
 short-tell p (some M) v l r h = rw h refl
 
 module _ (v f w : List Float) (u iw : List ℕ) where
-  pub slices-refused : (has f 1024 && has u 32) ≡ false → Runs false (mayOpenIn (machineIn f u)) (setupIn f u) (tellCall v f u w iw) (Refused Length) f f u u w w iw iw
-  slices-refused h = refused-by false (mayOpenIn (machineIn f u)) (setupIn f u) (tellCall v f u w iw) Length f w u iw refl (short-tell (setupIn f u) (machineIn f u) v (has f 1024 && has u 32) (isRoom w iw) h)
+  pub slices-refused : (has f 1024 && has u 32) ≡ false → Runs false (setupIn f u) (tellCall v f u w iw) (Refused Length) f f u u w w iw iw
+  slices-refused h = refused-by false (setupIn f u) (tellCall v f u w iw) Length f w u iw refl (short-tell (setupIn f u) (machineIn f u) v (has f 1024 && has u 32) (isRoom w iw) h)
 
   module _ (h : (has f 1024 && has u 32) ≡ true) where
     -- the question of a phase other than 0
@@ -242,17 +228,17 @@ module _ (v f w : List Float) (u iw : List ℕ) where
     asked-suc : (k : ℕ) → suc k ≡ questionIn u → Asked (suc k) u
     asked-suc k e = asked-of u (suc k) e (λ z. absurd (let y : ⊥ = omega arith in y))
 
-    pub told-refused : (k : ℕ) → k ≡ questionIn u → isTold k (nth u 8) (nth u 9) (length v) ≡ false → Runs false (mayOpenIn (machineIn f u)) (setupIn f u) (tellCall v f u w iw) (Refused Length) f f u u w w iw iw
+    pub told-refused : (k : ℕ) → k ≡ questionIn u → isTold k (nth u 8) (nth u 9) (length v) ≡ false → Runs false (setupIn f u) (tellCall v f u w iw) (Refused Length) f f u u w w iw iw
     told-refused zero e t = absurd (true≢false t)
-    told-refused (suc k) e t = let b = sym (told-suc k (nth u 8) (nth u 9) (length v)) ∙ t in refused-by false (mayOpenIn (machineIn f u)) (setupIn f u) (tellCall v f u w iw) Length f w u iw refl (asked-tell k (asked-suc k e) ∙ rw b refl)
+    told-refused (suc k) e t = let b = sym (told-suc k (nth u 8) (nth u 9) (length v)) ∙ t in refused-by false (setupIn f u) (tellCall v f u w iw) Length f w u iw refl (asked-tell k (asked-suc k e) ∙ rw b refl)
 
     pub told-room : (k : ℕ) → k ≡ questionIn u → isTold k (nth u 8) (nth u 9) (length v) ≡ true → isRoom w iw ≡ false
-        → Runs false (mayOpenIn (machineIn f u)) (setupIn f u) (tellCall v f u w iw) (Refused Room) f f u u w w iw iw
-    told-room zero e t r = refused-by false (mayOpenIn (machineIn f u)) (setupIn f u) (tellCall v f u w iw) Room f w u iw refl (quiet-tell (sym e) ∙ rw r refl)
-    told-room (suc k) e t r = let b = sym (told-suc k (nth u 8) (nth u 9) (length v)) ∙ t in refused-by false (mayOpenIn (machineIn f u)) (setupIn f u) (tellCall v f u w iw) Room f w u iw refl (asked-tell k (asked-suc k e) ∙ rw (b, r) refl)
+        → Runs false (setupIn f u) (tellCall v f u w iw) (Refused Room) f f u u w w iw iw
+    told-room zero e t r = refused-by false (setupIn f u) (tellCall v f u w iw) Room f w u iw refl (quiet-tell (sym e) ∙ rw r refl)
+    told-room (suc k) e t r = let b = sym (told-suc k (nth u 8) (nth u 9) (length v)) ∙ t in refused-by false (setupIn f u) (tellCall v f u w iw) Room f w u iw refl (asked-tell k (asked-suc k e) ∙ rw (b, r) refl)
 
-    pub told-unasked : (k : ℕ) → k ≡ questionIn u → isRoom w iw ≡ true → k ≡ 0 → Runs false (mayOpenIn (machineIn f u)) (setupIn f u) (tellCall v f u w iw) (Refused Unasked) f f u u w w iw iw
-    told-unasked k e r z = refused-by false (mayOpenIn (machineIn f u)) (setupIn f u) (tellCall v f u w iw) Unasked f w u iw refl (quiet-tell (sym e ∙ z) ∙ rw r refl)
+    pub told-unasked : (k : ℕ) → k ≡ questionIn u → isRoom w iw ≡ true → k ≡ 0 → Runs false (setupIn f u) (tellCall v f u w iw) (Refused Unasked) f f u u w w iw iw
+    told-unasked k e r z = refused-by false (setupIn f u) (tellCall v f u w iw) Unasked f w u iw refl (quiet-tell (sym e ∙ z) ∙ rw r refl)
 
     pub heard-of : (k : ℕ) → k ≡ questionIn u → isTold k (nth u 8) (nth u 9) (length v) ≡ true → (k ≡ 0 → ⊥) → Heard v f u
     heard-of zero e t z = absurd (z refl)
@@ -270,7 +256,7 @@ module _ (v f w : List Float) (u iw : List ℕ) where
         }
 
     pub heard-runs : (k : ℕ) (r : Outcome) (f' w' : List Float) (u' iw' : List ℕ) → k ≡ questionIn u → isTold k (nth u 8) (nth u 9) (length v) ≡ true → isRoom w iw ≡ true → (k ≡ 0 → ⊥)
-        → Told v f f' u u' × Left (opensAt (nth u 0) (nth u 2) (nth u 5 + nth u 6)) w w' iw iw' × (r ≡ outcomeIn (nth u' 0)) → Runs false (mayOpenIn (machineIn f u)) (setupIn f u) (tellCall v f u w iw) r f f' u u' w w' iw iw'
+        → Told v f f' u u' × Cleared w w' iw iw' × (r ≡ outcomeIn (nth u' 0)) → Runs false (setupIn f u) (tellCall v f u w iw) r f f' u u' w w' iw iw'
     heard-runs zero r f' w' u' iw' e t o z g = absurd (z refl)
     heard-runs (suc k) r f' w' u' iw' e t o z g =
         let q = asked-suc k e in
@@ -280,12 +266,11 @@ module _ (v f w : List Float) (u iw : List ℕ) where
         let d = g .0 (M .machine) (M .is) in
         let c : tellCall v f u w iw ≡ done N = asked-tell k q ∙ rw (b, o) refl in
         let s = and-true (has f 1024) (has u 32) h in
-        let y = machine-opens f u (suc k) q in
         rw c
         (record {
           the-outcome = g .2 ∙ ap (λ (x : List ℕ). outcomeIn (nth x 0)) (d .words) ∙ state-outcome N u (has-length u 32 (s .1));
           the-machine = d .floats;
           the-state = d .words;
-          the-floats = g .1 .floats ∙ ap (λ (b : Bool). cond b (cleared +0 8192 w) w) (sym y);
-          the-words = g .1 .words ∙ ap (λ (b : Bool). cond b (cleared 0 512 iw) iw) (sym y);
+          the-floats = g .1 .floats;
+          the-words = g .1 .words;
         })

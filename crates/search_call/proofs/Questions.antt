@@ -4,8 +4,8 @@ use mathlib.Core.Bool.{Bool, true, false, cond, _&&_, true≢false}
 use mathlib.Core.List.{List}
 use Prim.Native.Nat.{ℕ, zero, suc, _+_, _*_, _≤_, _<_}
 use native.Mathlib.Omega.{arith}
-use lib.Dec.{leb, eqb}
-use borrow.Author.Tests.{leb-true, ne-eqb}
+use lib.Dec.{leb}
+use borrow.Author.Tests.{leb-true}
 use Rattle.numbers.specs.Numbers.{nth}
 use Rattle.workspace.specs.Tables.{isDimension, isConstraints}
 use Rattle.workspace.proofs.Tests.{and-true, dimension-le, dimension-ge, constraints-le}
@@ -13,7 +13,7 @@ use Rattle.workspace.specs.inner.Readings.{nums}
 use Rattle.search.specs.Setup.{isBudget, isScheme, areKinds}
 use Rattle.search.specs.Turn.{backtracks}
 use Rattle.search.specs.Layout.{areWords}
-use Rattle.search_next.specs.inner.Next.{wantedAt, opensAt}
+use Rattle.search_next.specs.inner.Next.{wantedAt}
 use Rattle.search_call.specs.inner.Work.{questionIn}
 
 -- the sizes among good words
@@ -89,30 +89,3 @@ module _ (u : List ℕ) (n m : ℕ) (hn : n ≡ nth u 8) (hm : m ≡ nth u 9) wh
       let b = and-true (isDimension n && isConstraints m && isScheme (nth u 10)) (isBudget (nth u 1)) a .0 in
       let c = and-true (isDimension n && isConstraints m) (isScheme (nth u 10)) b .0 in
       constraints-le m (and-true (isDimension n) (isConstraints m) c .1)
-
--- ---- whether a turn may open
-
-pub opens-first : (k t d : ℕ) → k < 2 → false ≡ opensAt k t d
-opens-first zero t d h = refl
-opens-first (suc zero) t d h = refl
-opens-first (suc (suc k)) t d h = absurd (omega arith)
-
-pub trial-opens : (k t d : ℕ) → k ≡ 2 → eqb t 0 ≡ opensAt k t d
-trial-opens k t d e = ap (λ (x : ℕ). opensAt x t d) (sym e)
-
-pub slopes-open : (k t d : ℕ) → k ≡ 3 → true ≡ opensAt k t d
-slopes-open k t d e = ap (λ (x : ℕ). opensAt x t d) (sym e)
-
-single-opens : (k t d : ℕ) → 2 ≤ k → (k ≡ 2 → ⊥) → (k ≡ 3 → ⊥) → eqb d 0 ≡ opensAt k t d
-single-opens zero t d h a b = absurd (omega arith)
-single-opens (suc zero) t d h a b = absurd (omega arith)
-single-opens (suc (suc zero)) t d h a b = absurd (a refl)
-single-opens (suc (suc (suc zero))) t d h a b = absurd (b refl)
-single-opens (suc (suc (suc (suc k)))) t d h a b = refl
-
--- functions are still to come, or none, and then the coordinates count
-pub rows-shut : (k t r c : ℕ) → 2 ≤ k → (k ≡ 2 → ⊥) → (k ≡ 3 → ⊥) → 0 < r → false ≡ opensAt k t (r + c)
-rows-shut k t r c h a b l = sym (ne-eqb (r + c) 0 (λ e. absurd (let y : ⊥ = omega arith in y))) ∙ single-opens k t (r + c) h a b
-
-pub rows-done : (k t r c : ℕ) → 2 ≤ k → (k ≡ 2 → ⊥) → (k ≡ 3 → ⊥) → r ≡ 0 → eqb c 0 ≡ opensAt k t (r + c)
-rows-done k t r c h a b e = (let y : c ≡ r + c = omega arith in ap (λ (x : ℕ). eqb x 0) y) ∙ single-opens k t (r + c) h a b

@@ -1,21 +1,20 @@
-// The public operations of the search: tests, then the machine in its two slices, and the workspaces cleared where they were used.
+// The public operations of the search: tests, then the machine in its two slices, and the workspaces cleared.
 mod begin;
 mod tests;
 
 ghost use mathlib.Core.Path.{_≡_};
 ghost use mathlib.Core.Bool.{true, false};
-ghost use mathlib.Core.List.{List};
-ghost use Prim.Native.Nat.{ℕ, _+_, _≤_};
+ghost use Prim.Native.Nat.{_≤_};
 ghost use lib.ListN.{length};
-ghost use lib.Ieee.{Float};
 ghost use Rattle.numbers.specs.Numbers.{nth};
 ghost use Rattle.workspace.specs.declared.Refusal.the-variants.{Crossed};
 ghost use Rattle.workspace.specs.Tables.{done, test};
+ghost use Rattle.workspace.specs.inner.Readings.{Cleared};
 ghost use Rattle.search.specs.Machine as Machine;
-ghost use Rattle.search.specs.Layout.{setupIn, machineIn};
-ghost use Rattle.search.specs.Promise.{setupOf, areOrdered, beginCall, tellCall, mayOpenIn, Runs};
-ghost use Rattle.search_next.specs.inner.Next.{Heard, Told, opensAt};
-ghost use Rattle.search_call.specs.inner.Work.{Begins, Left, outcomeIn};
+ghost use Rattle.search.specs.Layout.{setupIn};
+ghost use Rattle.search.specs.Promise.{setupOf, areOrdered, beginCall, tellCall, Runs};
+ghost use Rattle.search_next.specs.inner.Next.{Heard, Told};
+ghost use Rattle.search_call.specs.inner.Work.{Begins, outcomeIn};
 use crate::begin::begin_posed;
 use crate::tests::are_kinds;
 use crate::tests::are_lengths;
@@ -23,8 +22,6 @@ use crate::tests::are_ordered;
 use crate::tests::are_sizes;
 use crate::tests::are_slices;
 use crate::tests::is_told;
-use crate::tests::is_tolerance;
-use crate::tests::may_open;
 use crate::tests::question_of;
 use workspace::Outcome;
 use workspace::Refusal;
@@ -55,14 +52,16 @@ fn begin_bounded(
     scheme: u32,
     machine: &mut [f64],
     words: &mut [u32],
+    w: &mut [f64],
+    iw: &mut [u32],
 ) -> Outcome
-    requires { ⌜ Begins (setupOf n m (now kinds) (now lower) (now upper) ftol scheme) (now x) (now machine) (now words) × (scheme ≤ 2) ⌝ }
-    ensures { λ r. ⌜ ((w : List Float) (iw : List ℕ) → Runs true false (setupOf n m (now (kinds .entry)) (now (lower .entry)) (now (upper .entry)) ftol scheme) (test (areOrdered n (now (lower .entry)) (now (upper .entry))) Crossed (done (Machine.begin (setupOf n m (now (kinds .entry)) (now (lower .entry)) (now (upper .entry)) ftol scheme) (now (x .entry)) budget))) r (now (machine .entry)) (now (machine .exit)) (now (words .entry)) (now (words .exit)) w w iw iw) ⌝ }
+    requires { ⌜ Begins (setupOf n m (now kinds) (now lower) (now upper) ftol scheme) (now x) (now machine) (now words) × (scheme ≤ 2) × (8192 ≤ length (now w)) × (512 ≤ length (now iw)) ⌝ }
+    ensures { λ r. ⌜ Runs true (setupOf n m (now (kinds .entry)) (now (lower .entry)) (now (upper .entry)) ftol scheme) (test (areOrdered n (now (lower .entry)) (now (upper .entry))) Crossed (done (Machine.begin (setupOf n m (now (kinds .entry)) (now (lower .entry)) (now (upper .entry)) ftol scheme) (now (x .entry)) budget))) r (now (machine .entry)) (now (machine .exit)) (now (words .entry)) (now (words .exit)) (now (w .entry)) (now (w .exit)) (now (iw .entry)) (now (iw .exit)) ⌝ }
 {
     if !are_ordered(lower, upper, n) {
         return Outcome::Refused(Refusal::Crossed);
     }
-    begin_posed(
+    let r = begin_posed(
         n,
         m,
         kinds,
@@ -74,7 +73,9 @@ fn begin_bounded(
         scheme,
         machine,
         words,
-    )
+    );
+    workspace::clear(w, iw);
+    r
 }
 
 // The answer, where a question stands and it is as long as it is to be.
@@ -86,16 +87,12 @@ fn hear_all(
     iw: &mut [u32],
 ) -> Outcome
     requires { ⌜ Heard (now told) (now machine) (now words) × (8192 ≤ length (now w)) × (512 ≤ length (now iw)) ⌝ }
-    ensures { λ r. ⌜ Told (now (told .entry)) (now (machine .entry)) (now (machine .exit)) (now (words .entry)) (now (words .exit)) × Left (opensAt (nth (now (words .entry)) 0) (nth (now (words .entry)) 2) (nth (now (words .entry)) 5 + nth (now (words .entry)) 6)) (now (w .entry)) (now (w .exit)) (now (iw .entry)) (now (iw .exit)) × (r ≡ outcomeIn (nth (now (words .exit)) 0)) ⌝ }
+    ensures { λ r. ⌜ Told (now (told .entry)) (now (machine .entry)) (now (machine .exit)) (now (words .entry)) (now (words .exit)) × Cleared (now (w .entry)) (now (w .exit)) (now (iw .entry)) (now (iw .exit)) × (r ≡ outcomeIn (nth (now (words .exit)) 0)) ⌝ }
 {
-    let used = may_open(words);
     let v = &mut w[..8192];
     let l = &mut iw[..512];
     search_next::hear(told, machine, words, v, l);
-    if used {
-        workspace::clear(w, iw);
-        return outcome_of(words[0]);
-    }
+    workspace::clear(w, iw);
     outcome_of(words[0])
 }
 
@@ -116,7 +113,7 @@ impl Search {
         w: &mut [f64],
         iw: &mut [u32],
     ) -> Outcome
-        ensures { λ r. ⌜ Runs true false (setupOf n m (now (kinds .entry)) (now (lower .entry)) (now (upper .entry)) ftol scheme) (beginCall (setupOf n m (now (kinds .entry)) (now (lower .entry)) (now (upper .entry)) ftol scheme) scheme (now (x .entry)) budget (now (machine .entry)) (now (words .entry)) (now (w .entry)) (now (iw .entry))) r (now (machine .entry)) (now (machine .exit)) (now (words .entry)) (now (words .exit)) (now (w .entry)) (now (w .exit)) (now (iw .entry)) (now (iw .exit)) ⌝ }
+        ensures { λ r. ⌜ Runs true (setupOf n m (now (kinds .entry)) (now (lower .entry)) (now (upper .entry)) ftol scheme) (beginCall (setupOf n m (now (kinds .entry)) (now (lower .entry)) (now (upper .entry)) ftol scheme) scheme (now (x .entry)) budget (now (machine .entry)) (now (words .entry)) (now (w .entry)) (now (iw .entry))) r (now (machine .entry)) (now (machine .exit)) (now (words .entry)) (now (words .exit)) (now (w .entry)) (now (w .exit)) (now (iw .entry)) (now (iw .exit)) ⌝ }
     {
         if !are_sizes(n, m, budget, scheme) {
             return Outcome::Refused(Refusal::Size);
@@ -133,7 +130,7 @@ impl Search {
         if !are_kinds(kinds) {
             return Outcome::Refused(Refusal::Kind);
         }
-        if !is_tolerance(ftol) {
+        if !workspace::is_tolerance(ftol) {
             return Outcome::Refused(Refusal::Tolerance);
         }
         match step_call::strict::test_bounds(lower, upper, n) {
@@ -150,6 +147,8 @@ impl Search {
                 scheme,
                 machine,
                 words,
+                w,
+                iw,
             ),
         }
     }
@@ -162,7 +161,7 @@ impl Search {
         w: &mut [f64],
         iw: &mut [u32],
     ) -> Outcome
-        ensures { λ r. ⌜ Runs false (mayOpenIn (machineIn (now (machine .entry)) (now (words .entry)))) (setupIn (now (machine .entry)) (now (words .entry))) (tellCall (now (told .entry)) (now (machine .entry)) (now (words .entry)) (now (w .entry)) (now (iw .entry))) r (now (machine .entry)) (now (machine .exit)) (now (words .entry)) (now (words .exit)) (now (w .entry)) (now (w .exit)) (now (iw .entry)) (now (iw .exit)) ⌝ }
+        ensures { λ r. ⌜ Runs false (setupIn (now (machine .entry)) (now (words .entry))) (tellCall (now (told .entry)) (now (machine .entry)) (now (words .entry)) (now (w .entry)) (now (iw .entry))) r (now (machine .entry)) (now (machine .exit)) (now (words .entry)) (now (words .exit)) (now (w .entry)) (now (w .exit)) (now (iw .entry)) (now (iw .exit)) ⌝ }
     {
         if !are_slices(machine.len(), words.len()) {
             return Outcome::Refused(Refusal::Length);

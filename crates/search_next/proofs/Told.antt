@@ -1,7 +1,7 @@
 -- A call: the state in the slices, and what it becomes.
 use Prim.Native.Nat.{ℕ, zero, suc, _-_, _*_, _≤_, _<_}
 use mathlib.Core.Path.{_≡_, refl, sym, ap, ap₂, _∙_, subst}
-use mathlib.Core.Bool.{Bool, true, false, cond, _&&_, true≢false}
+use mathlib.Core.Bool.{Bool, true, false, cond, _&&_}
 use mathlib.Core.List.{List}
 use mathlib.Core.Option.{Option, none, some}
 use native.Mathlib.Omega.{arith}
@@ -18,7 +18,7 @@ use Rattle.search.specs.Written.{reportFor}
 use Rattle.search.specs.Machine.{Machine, ended, starting, trying, sloping, raised, lowered, tell}
 use Rattle.search.specs.Layout.{setupIn, newIn, iterateIn, lineIn, goalIn, known, stateIn, areWords, machineIn}
 use Rattle.search.specs.inner.Work.{Ready, Turned}
-use Rattle.search_next.specs.inner.Next.{begunIn, judgedIn, arrivedIn, raisedIn, secondIn, singleIn, resumedIn, brokenIn, wantedAt, Heard, Told, opensAt}
+use Rattle.search_next.specs.inner.Next.{begunIn, judgedIn, arrivedIn, raisedIn, secondIn, singleIn, resumedIn, brokenIn, wantedAt, Heard, Told}
 
 -- ---- the words are good
 
@@ -196,22 +196,3 @@ module _ (n m : ℕ) (v f f′ : List Float) (u u′ : List ℕ) where
 
   pub resume-single : (nth u 0 ≡ 2 → ⊥) → (nth u 0 ≡ 3 → ⊥) → Turned (setupIn f u) (singleIn n m f u (at v 0)) f f′ u u′ → Turned (setupIn f u) (resumedIn n m f u v) f f′ u u′
   resume-single a b t = rw (ne-eqb (nth u 0) 2 a, ne-eqb (nth u 0) 3 b) t
-
--- ---- where no turn can open
-
-some-left : (k : ℕ) → eqb k 0 ≡ false → 0 < k
-some-left zero h = absurd (true≢false h)
-some-left (suc k) h = omega arith
-
-pub trials-left : (k t d : ℕ) → k ≡ 2 → opensAt k t d ≡ false → 0 < t
-trials-left k t d e h = some-left t (sym (ap (λ (x : ℕ). opensAt x t d) e) ∙ h)
-
-pub slopes-never-shut : (k t d : ℕ) → k ≡ 3 → opensAt k t d ≡ false → ⊥
-slopes-never-shut k t d e h = true≢false (sym (ap (λ (x : ℕ). opensAt x t d) e) ∙ h)
-
-pub differences-left : (k t d : ℕ) → 4 ≤ k → opensAt k t d ≡ false → 0 < d
-differences-left zero t d l h = absurd (omega arith)
-differences-left (suc zero) t d l h = absurd (omega arith)
-differences-left (suc (suc zero)) t d l h = absurd (omega arith)
-differences-left (suc (suc (suc zero))) t d l h = absurd (omega arith)
-differences-left (suc (suc (suc (suc k)))) t d l h = some-left d h

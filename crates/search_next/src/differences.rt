@@ -8,7 +8,7 @@ ghost use Rattle.workspace.specs.inner.Readings.{vec};
 ghost use Rattle.search.specs.Layout.{setupIn, known, laid};
 ghost use Rattle.search.specs.Turn.{quotient};
 ghost use Rattle.search.specs.inner.Work.{Ready, Turned};
-ghost use Rattle.search_next.specs.inner.Next.{movedTo, askedIn, addedIn, rowIn, rowStands, slopedIn, movedIn, phaseOf, priceOf, Same};
+ghost use Rattle.search_next.specs.inner.Next.{movedTo, askedIn, addedIn, rowIn, rowStands, slopedIn, movedIn, phaseOf, priceOf};
 use crate::ends::end_goal;
 use crate::ends::set_goal_words;
 use crate::trials::arrive_next;
@@ -169,7 +169,7 @@ pub fn add_slope(
     slope: f64,
 )
     requires { ⌜ Ready n m (now f) (now u) × (8192 ≤ length (now w)) × (512 ≤ length (now iw)) × (rows ≤ m) × (cols < n) ⌝ }
-    ensures { λ _. ⌜ Turned (setupIn (now (f .entry)) (now (u .entry))) (addedIn n m (now (f .entry)) (now (u .entry)) rows cols slope) (now (f .entry)) (now (f .exit)) (now (u .entry)) (now (u .exit)) × (0 < rows + cols → Same (now (w .entry)) (now (w .exit)) (now (iw .entry)) (now (iw .exit))) ⌝ }
+    ensures { λ _. ⌜ Turned (setupIn (now (f .entry)) (now (u .entry))) (addedIn n m (now (f .entry)) (now (u .entry)) rows cols slope) (now (f .entry)) (now (f .exit)) (now (u .entry)) (now (u .exit)) ⌝ }
 {
     if cols > 0 {
         keep_slope(f, n, m, rows, cols, slope);

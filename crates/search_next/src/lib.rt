@@ -4,13 +4,12 @@ mod ends;
 mod trials;
 
 ghost use mathlib.Core.Path.{_≡_};
-ghost use mathlib.Core.Bool.{false};
 ghost use Prim.Native.Nat.{suc, _+_, _*_, _≤_, _<_};
 ghost use lib.ListN.{length};
 ghost use Rattle.numbers.specs.Numbers.{at, nth};
 ghost use Rattle.search.specs.Layout.{setupIn};
 ghost use Rattle.search.specs.inner.Work.{Ready, Turned};
-ghost use Rattle.search_next.specs.inner.Next.{begunIn, arrivedIn, raisedIn, secondIn, singleIn, resumedIn, brokenIn, Heard, Told, Same, opensAt};
+ghost use Rattle.search_next.specs.inner.Next.{begunIn, arrivedIn, raisedIn, secondIn, singleIn, resumedIn, brokenIn, Heard, Told};
 use crate::differences::add_slope;
 use crate::differences::ask_moved;
 use crate::differences::slope_between;
@@ -51,7 +50,7 @@ fn lower_next(
     cols: usize,
 )
     requires { ⌜ Ready n m (now f) (now u) × (8192 ≤ length (now w)) × (512 ≤ length (now iw)) × (rows ≤ m) × (cols < n) ⌝ }
-    ensures { λ _. ⌜ Turned (setupIn (now (f .entry)) (now (u .entry))) (raisedIn n m (now (f .entry)) (now (u .entry)) rows cols value) (now (f .entry)) (now (f .exit)) (now (u .entry)) (now (u .exit)) × (0 < rows + cols → Same (now (w .entry)) (now (w .exit)) (now (iw .entry)) (now (iw .exit))) ⌝ }
+    ensures { λ _. ⌜ Turned (setupIn (now (f .entry)) (now (u .entry))) (raisedIn n m (now (f .entry)) (now (u .entry)) rows cols value) (now (f .entry)) (now (f .exit)) (now (u .entry)) (now (u .exit)) ⌝ }
 {
     if u[10] > 1 {
         f[4] = value;
@@ -76,7 +75,7 @@ fn both_next(
     cols: usize,
 )
     requires { ⌜ Ready n m (now f) (now u) × (8192 ≤ length (now w)) × (512 ≤ length (now iw)) × (rows ≤ m) × (cols < n) ⌝ }
-    ensures { λ _. ⌜ Turned (setupIn (now (f .entry)) (now (u .entry))) (secondIn n m (now (f .entry)) (now (u .entry)) rows cols value) (now (f .entry)) (now (f .exit)) (now (u .entry)) (now (u .exit)) × (0 < rows + cols → Same (now (w .entry)) (now (w .exit)) (now (iw .entry)) (now (iw .exit))) ⌝ }
+    ensures { λ _. ⌜ Turned (setupIn (now (f .entry)) (now (u .entry))) (secondIn n m (now (f .entry)) (now (u .entry)) rows cols value) (now (f .entry)) (now (f .exit)) (now (u .entry)) (now (u .exit)) ⌝ }
 {
     let x = f[112 + (n - 1 - cols)];
     let slope = slope_between(f[4], value, x + move_of(x), x - move_of(x));
@@ -94,7 +93,7 @@ fn single_next(
     m: usize,
 )
     requires { ⌜ Ready n m (now f) (now u) × (8192 ≤ length (now w)) × (512 ≤ length (now iw)) × (nth (now u) 5 ≤ m) × (nth (now u) 6 < n) ⌝ }
-    ensures { λ _. ⌜ Turned (setupIn (now (f .entry)) (now (u .entry))) (singleIn n m (now (f .entry)) (now (u .entry)) value) (now (f .entry)) (now (f .exit)) (now (u .entry)) (now (u .exit)) × (0 < nth (now (u .entry)) 5 + nth (now (u .entry)) 6 → Same (now (w .entry)) (now (w .exit)) (now (iw .entry)) (now (iw .exit))) ⌝ }
+    ensures { λ _. ⌜ Turned (setupIn (now (f .entry)) (now (u .entry))) (singleIn n m (now (f .entry)) (now (u .entry)) value) (now (f .entry)) (now (f .exit)) (now (u .entry)) (now (u .exit)) ⌝ }
 {
     let rows = wide(u[5]);
     let cols = wide(u[6]);
@@ -145,7 +144,7 @@ fn go_on(
     m: usize,
 )
     requires { ⌜ Heard (now told) (now f) (now u) × Ready n m (now f) (now u) × (8192 ≤ length (now w)) × (512 ≤ length (now iw)) × (2 ≤ nth (now u) 0) ⌝ }
-    ensures { λ _. ⌜ Turned (setupIn (now (f .entry)) (now (u .entry))) (resumedIn n m (now (f .entry)) (now (u .entry)) (now (told .entry))) (now (f .entry)) (now (f .exit)) (now (u .entry)) (now (u .exit)) × (opensAt (nth (now (u .entry)) 0) (nth (now (u .entry)) 2) (nth (now (u .entry)) 5 + nth (now (u .entry)) 6) ≡ false → Same (now (w .entry)) (now (w .exit)) (now (iw .entry)) (now (iw .exit))) ⌝ }
+    ensures { λ _. ⌜ Turned (setupIn (now (f .entry)) (now (u .entry))) (resumedIn n m (now (f .entry)) (now (u .entry)) (now (told .entry))) (now (f .entry)) (now (f .exit)) (now (u .entry)) (now (u .exit)) ⌝ }
 {
     if u[0] == 2 {
         judge_next(told, f, u, w, iw, n, m);
@@ -161,7 +160,7 @@ fn go_on(
 // The machine in f and u, which waits for an answer, is told one that is as long as it is to be.
 pub fn hear(told: &[f64], f: &mut [f64], u: &mut [u32], w: &mut [f64], iw: &mut [u32])
     requires { ⌜ Heard (now told) (now f) (now u) × (8192 ≤ length (now w)) × (512 ≤ length (now iw)) ⌝ }
-    ensures { λ _. ⌜ Told (now (told .entry)) (now (f .entry)) (now (f .exit)) (now (u .entry)) (now (u .exit)) × (opensAt (nth (now (u .entry)) 0) (nth (now (u .entry)) 2) (nth (now (u .entry)) 5 + nth (now (u .entry)) 6) ≡ false → Same (now (w .entry)) (now (w .exit)) (now (iw .entry)) (now (iw .exit))) ⌝ }
+    ensures { λ _. ⌜ Told (now (told .entry)) (now (f .entry)) (now (f .exit)) (now (u .entry)) (now (u .exit)) ⌝ }
 {
     let n = wide(u[8]);
     let m = wide(u[9]);

@@ -1,6 +1,6 @@
 // Turns and trials.
 ghost use mathlib.Core.Path.{_≡_};
-ghost use Prim.Native.Nat.{suc, _+_, _*_, _≤_, _<_};
+ghost use Prim.Native.Nat.{suc, _+_, _*_, _≤_};
 ghost use lib.ListN.{length};
 ghost use Rattle.numbers.specs.Numbers.{nth};
 ghost use Rattle.workspace.specs.inner.Readings.{vec};
@@ -8,7 +8,7 @@ ghost use Rattle.search.specs.Turn.{reset};
 ghost use Rattle.search.specs.Machine.{turnNext};
 ghost use Rattle.search.specs.Layout.{setupIn, iterateIn};
 ghost use Rattle.search.specs.inner.Work.{Ready, Turned};
-ghost use Rattle.search_next.specs.inner.Next.{triedIn, turnedIn, arrivedIn, takenIn, judgedIn, Same};
+ghost use Rattle.search_next.specs.inner.Next.{triedIn, turnedIn, arrivedIn, takenIn, judgedIn};
 use crate::differences::slopes_next;
 use crate::ends::end_with;
 use crate::ends::set_words;
@@ -110,7 +110,7 @@ pub fn judge_next(
     m: usize,
 )
     requires { ⌜ Ready n m (now f) (now u) × (8192 ≤ length (now w)) × (512 ≤ length (now iw)) × (length (now told) ≡ suc m) ⌝ }
-    ensures { λ _. ⌜ Turned (setupIn (now (f .entry)) (now (u .entry))) (judgedIn n m (now (f .entry)) (now (u .entry)) (now (told .entry))) (now (f .entry)) (now (f .exit)) (now (u .entry)) (now (u .exit)) × (0 < nth (now (u .entry)) 2 → Same (now (w .entry)) (now (w .exit)) (now (iw .entry)) (now (iw .exit))) ⌝ }
+    ensures { λ _. ⌜ Turned (setupIn (now (f .entry)) (now (u .entry))) (judgedIn n m (now (f .entry)) (now (u .entry)) (now (told .entry))) (now (f .entry)) (now (f .exit)) (now (u .entry)) (now (u .exit)) ⌝ }
 {
     let merit = merit_of(f, u, told, m);
     if is_enough(f, merit) {

@@ -6,7 +6,7 @@ use mathlib.Core.Logic.{_↔_}
 use Prim.Native.Nat.{ℕ}
 use native.Mathlib.Omega.{arith}
 use lib.Ieee.{Float}
-use Rattle.workspace.specs.Tables.{Answer, done, refused, call, test, isDimension, isConstraints, isRoom}
+use Rattle.workspace.specs.Tables.{Answer, done, refused, call, test, isDimension, isConstraints, isRoom, isTolerance}
 use Rattle.workspace.specs.declared.Refusal.{Refusal}
 use Rattle.workspace.specs.declared.Refusal.the-variants.{Width, Tolerance}
 use Rattle.step_rows.specs.Problem.{Problem}
@@ -15,7 +15,7 @@ use Rattle.step_check.specs.Check.{Pasted, verdict}
 use Rattle.step_check.specs.declared.Verdict.{Verdict}
 use Rattle.step_check.specs.declared.Verdict.the-variants.{Yes}
 use Rattle.step_check.proofs.Shown.{yes-is-five, names-first}
-use Rattle.step_check_call.specs.Promise.{isTolerance, arePasted, checkCall, outcomeOf, Checks}
+use Rattle.step_check_call.specs.Promise.{arePasted, checkCall, outcomeOf, Checks}
 use Rattle.step_check_call.specs.Claims.{CallYesIsFive, CallNamesFirst}
 use Rattle.step_check_call.specs.declared.Outcome.{Outcome}
 use Rattle.step_check_call.specs.declared.Outcome.the-variants.{Done, Refused}

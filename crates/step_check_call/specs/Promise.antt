@@ -3,20 +3,15 @@ use Prim.Native.Nat.{ℕ}
 use mathlib.Core.Path.{_≡_}
 use mathlib.Core.Bool.{Bool, _&&_}
 use mathlib.Core.List.{List}
-use lib.Ieee.{Float, le}
-use Rattle.numbers.specs.Numbers.{+0}
+use lib.Ieee.{Float}
 use Rattle.workspace.specs.declared.Refusal.the-variants.{Width, Tolerance}
-use Rattle.workspace.specs.Tables.{Answer, done, refused, call, test, floats, words, isDimension, isConstraints, isRoom, has}
+use Rattle.workspace.specs.Tables.{Answer, done, refused, call, test, floats, words, isDimension, isConstraints, isRoom, isTolerance, has}
 use Rattle.step_rows.specs.Problem.{Problem}
 use Rattle.step_call.specs.Promise.{areKinds, areWidths, areLengths}
 use Rattle.step_check.specs.Check.{Pasted, verdict}
 use Rattle.step_check.specs.declared.Verdict.{Verdict}
 use Rattle.step_check_call.specs.declared.Outcome.{Outcome}
 use Rattle.step_check_call.specs.declared.Outcome.the-variants.{Done, Refused}
-
--- not NaN and not below zero: -0 and +infinity are tolerances
-abbrev pub isTolerance : Float → Bool
-isTolerance tol = le +0 tol
 
 -- those of the step, d and multipliers among them, and of the multipliers of both sides
 abbrev pub arePasted : Problem → Pasted → Bool

@@ -5,7 +5,7 @@ ghost use lib.Dec.{eqb};
 ghost use Rattle.workspace.specs.Tables.{done};
 ghost use Rattle.step_rows.specs.Problem.{problemOf};
 ghost use Rattle.step_check.specs.Check.{pastedOf, verdict};
-ghost use Rattle.step_check_call.specs.Promise.{isTolerance, checkCall, Checks};
+ghost use Rattle.step_check_call.specs.Promise.{checkCall, Checks};
 ghost use Rattle.step_check_call.specs.inner.Work.{Lent};
 use step_check::Verdict;
 use workspace::Refusal;
@@ -27,13 +27,6 @@ fn are_sides(n: usize, lowers: usize, uppers: usize) -> bool
         return false;
     }
     uppers == n
-}
-
-// A tolerance is not NaN and not below zero.
-fn is_tolerance(tolerance: f64) -> bool
-    ensures { λ r. ⌜ r ≡ isTolerance tolerance ⌝ }
-{
-    0.0 <= tolerance
 }
 
 // The call where no test refuses.
@@ -124,7 +117,7 @@ impl Check {
         if !step_call::are_widths(kinds, widths, m) {
             return Outcome::Refused(Refusal::Width);
         }
-        if !is_tolerance(tolerance) {
+        if !workspace::is_tolerance(tolerance) {
             return Outcome::Refused(Refusal::Tolerance);
         }
         check_all(

@@ -5,7 +5,7 @@ ghost use Prim.Native.Nat.{ℕ, _+_, _*_, _≤_, _<_};
 ghost use lib.Dec.{leb};
 ghost use lib.ListN.{length};
 ghost use Rattle.numbers.specs.Numbers.{+0, at};
-ghost use Rattle.workspace.specs.Tables.{numberOf, placeOf, outcomeNumber, cleared, isDimension, isMatrix, isWidth, isConstraints, isEqualities, isInequalities};
+ghost use Rattle.workspace.specs.Tables.{numberOf, placeOf, outcomeNumber, cleared, isDimension, isMatrix, isWidth, isConstraints, isEqualities, isInequalities, isTolerance};
 ghost use Rattle.workspace.specs.inner.Readings.{vec, mat, stack, nums, Block, Span, Loaded, Stacked, Cleared};
 
 // ---- answers
@@ -159,6 +159,13 @@ pub fn is_room(w: usize, iw: usize) -> bool
     ensures { λ r. ⌜ r ≡ (leb 8192 w && leb 512 iw) ⌝ }
 {
     w >= 8192 && iw >= 512
+}
+
+// A tolerance is not NaN and not below zero.
+pub fn is_tolerance(tolerance: f64) -> bool
+    ensures { λ r. ⌜ r ≡ isTolerance tolerance ⌝ }
+{
+    0.0 <= tolerance
 }
 
 // ---- clearing

@@ -1,48 +1,39 @@
--- `hear_all`: the answer is heard in the fronts of the workspaces, which are cleared where a turn may have opened.
-use mathlib.Core.Path.{sym, ap, _∙_}
-use mathlib.Core.Bool.{Bool, cond}
-use mathlib.Core.List.{List, _++_}
-use Prim.Native.Nat.{ℕ}
+-- `hear_all`: the answer is heard in the fronts of the workspaces, which are cleared.
+use mathlib.Core.Path.{sym, _∙_}
 use native.Mathlib.Omega.{arith}
-use lib.ListN.{length, drop, take-append-drop}
 use lib.Seq.{length-take-le}
-use lib.Ieee.{Float}
 use Rattle.numbers.specs.Numbers.{+0}
-use Rattle.workspace.specs.Tables.{cleared}
 use Rattle.workspace.proofs.Parts.{front-cleared}
 use Rattle.step_call.proofs.Calls.{front-long}
 use borrow.Author.Needs.{needs}
 use Rattle.search_call.proofs.hear_all.Statement.{statement}
 use Rattle.search_call.proofs.hear_all.Tie as tie
 
-may-open-requires : tie.Need-may-open-requires
-may-open-requires c κs = c .before .before .before .before .before .before .pre .0 .words
-
 slice-relend-prefix-v : tie.Need-slice-relend-prefix-v
-slice-relend-prefix-v c = c .before .before .before .before .before .before .before .pre .1
+slice-relend-prefix-v c = c .before .before .before .before .before .pre .1
 
 slice-aggregate-v : tie.Need-slice-aggregate-v
-slice-aggregate-v c = let s = c .before .before .before .before .before .before .before .before in sym (length-take-le 8192 (s .args .w .now) (s .pre .1))
+slice-aggregate-v c = let s = c .before .before .before .before .before .before in sym (length-take-le 8192 (s .args .w .now) (s .pre .1))
 
 slice-relend-prefix-l : tie.Need-slice-relend-prefix-l
-slice-relend-prefix-l c = c .before .before .before .before .before .before .before .before .pre .2
+slice-relend-prefix-l c = c .before .before .before .before .before .before .pre .2
 
 slice-aggregate-l : tie.Need-slice-aggregate-l
-slice-aggregate-l c = let s = c .before .before .before .before .before .before .before .before .before in sym (length-take-le 512 (s .args .iw .now) (s .pre .2))
+slice-aggregate-l c = let s = c .before .before .before .before .before .before .before in sym (length-take-le 512 (s .args .iw .now) (s .pre .2))
 
 hear-requires : tie.Need-hear-requires
-hear-requires c κs = let s = c .before .before .before .before .before .before .before .before .before .before .before in (s .pre .0, omega (arith, length-take-le 8192 (s .args .w .now) (s .pre .1)), omega (arith, length-take-le 512 (s .args .iw .now) (s .pre .2)))
+hear-requires c κs = let s = c .before .before .before .before .before .before .before .before .before in (s .pre .0, omega (arith, length-take-le 8192 (s .args .w .now) (s .pre .1)), omega (arith, length-take-le 512 (s .args .iw .now) (s .pre .2)))
 
 clear-requires : tie.Need-clear-requires
 clear-requires c κs =
-    let s = c .before .before .before .before .before .before .before .before .before .before .before .before .before .before .before .before .before .before .before .before .before .before .before in
-    let h = c .before .before .before .before .before .before .before .before .before .before .before .hear in
+    let s = c .before .before .before .before .before .before .before .before .before .before .before .before .before .before .before .before .before .before .before .before in
+    let h = c .before .before .before .before .before .before .before .before .before .before .hear in
     let lv = h .kept .1 .1 .1 .0 ∙ length-take-le 8192 (s .args .w .now) (s .pre .1) in
     let lu = h .kept .1 .1 .1 .1 .0 ∙ length-take-le 512 (s .args .iw .now) (s .pre .2) in
     (front-long 8192 (h .last .1 .1 .1 .0) (s .args .w .now) lv, front-long 512 (h .last .1 .1 .1 .1 .0) (s .args .iw .now) lu)
 
 slice-read-outcome-of : tie.Need-slice-read-outcome-of
-slice-read-outcome-of c = omega (arith, c .before .before .before .before .before .before .before .before .before .before .before .before .before .before .before .before .before .before .before .before .before .before .before .before .before .before .before .before .before .pre .0 .words)
+slice-read-outcome-of c = omega (arith, c .before .before .before .before .before .before .before .before .before .before .before .before .before .before .before .before .before .before .before .before .before .before .before .before .before .before .pre .0 .words)
 
 outcome-of-requires : tie.Need-outcome-of-requires
 outcome-of-requires c κs = tt
@@ -61,63 +52,23 @@ same-length-4 c = search needs
 
 returns : tie.Need-returns
 returns c =
-    let s = c .before .before .before .before .before .before .before .before .before .before .before .before .before .before .before .before .before .before .before .before .before .before .before .before .before .before .before .before .before .before in
-    let h = c .before .before .before .before .before .before .before .before .before .before .before .before .before .before .before .before .before .before .hear in
+    let s = c .before .before .before .before .before .before .before .before .before .before .before .before .before .before .before .before .before .before .before .before .before .before .before .before .before .before .before in
+    let h = c .before .before .before .before .before .before .before .before .before .before .before .before .before .before .before .before .before .hear in
     let k = c .before .before .before .before .before .before .clear .ensures in
-    let e = sym (c .before .before .before .before .before .before .before .before .before .if1 .taken) ∙ c .before .before .before .before .before .before .before .before .before .before .before .before .before .before .before .before .before .before .before .before .before .before .before .may-open .ensures in
     let lv = h .kept .1 .1 .1 .0 ∙ length-take-le 8192 (s .args .w .now) (s .pre .1) in
     let lu = h .kept .1 .1 .1 .1 .0 ∙ length-take-le 512 (s .args .iw .now) (s .pre .2) in (
-      h .ensures .0,
+      h .ensures,
       record {
-        floats = k .floats ∙ front-cleared +0 8192 (h .last .1 .1 .1 .0) (s .args .w .now) lv ∙ ap (λ (b : Bool). cond b (cleared +0 8192 (s .args .w .now)) (s .args .w .now)) e;
-        words = k .words ∙ front-cleared 0 512 (h .last .1 .1 .1 .1 .0) (s .args .iw .now) lu ∙ ap (λ (b : Bool). cond b (cleared 0 512 (s .args .iw .now)) (s .args .iw .now)) e;
+        floats = k .floats ∙ front-cleared +0 8192 (h .last .1 .1 .1 .0) (s .args .w .now) lv;
+        words = k .words ∙ front-cleared 0 512 (h .last .1 .1 .1 .1 .0) (s .args .iw .now) lu;
       },
       c .outcome-of .ensures,
-    )
-
-slice-read-outcome-of-2 : tie.Need-slice-read-outcome-of-2
-slice-read-outcome-of-2 c = omega (arith, c .before .before .before .before .before .before .before .before .before .before .before .before .before .before .before .before .before .before .before .before .before .before .pre .0 .words)
-
-outcome-of-requires-2 : tie.Need-outcome-of-requires-2
-outcome-of-requires-2 c κs = tt
-
-same-length-5 : tie.Need-same-length-5
-same-length-5 c = search needs
-
-same-length-6 : tie.Need-same-length-6
-same-length-6 c = search needs
-
-same-length-7 : tie.Need-same-length-7
-same-length-7 c =
-    let s = c .before .before .before .before .before .before .before .before .before .before .before .before .before .before .before .before .before .before .before .before .before .before .before in
-    let z = c .before .before .before .before .before .before .before .before .before .before .before .hear .ensures .1 (sym (c .before .before .before .before .before .before .before .before .before .before .before .before .before .before .before .before .may-open .ensures) ∙ c .before .before .if1 .left) in
-    ap length (ap (λ (v : List Float). v ++ drop 8192 (s .args .w .now)) (z .0) ∙ take-append-drop 8192 (s .args .w .now))
-
-same-length-8 : tie.Need-same-length-8
-same-length-8 c =
-    let s = c .before .before .before .before .before .before .before .before .before .before .before .before .before .before .before .before .before .before .before .before .before .before .before in
-    let z = c .before .before .before .before .before .before .before .before .before .before .before .hear .ensures .1 (sym (c .before .before .before .before .before .before .before .before .before .before .before .before .before .before .before .before .may-open .ensures) ∙ c .before .before .if1 .left) in
-    ap length (ap (λ (l : List ℕ). l ++ drop 512 (s .args .iw .now)) (z .1) ∙ take-append-drop 512 (s .args .iw .now))
-
-returns-2 : tie.Need-returns-2
-returns-2 c =
-    let s = c .before .before .before .before .before .before .before .before .before .before .before .before .before .before .before .before .before .before .before .before .before .before .before in
-    let e = sym (c .before .before .if1 .left) ∙ c .before .before .before .before .before .before .before .before .before .before .before .before .before .before .before .before .may-open .ensures in
-    let h = c .before .before .before .before .before .before .before .before .before .before .before .hear .ensures in
-    let z = h .1 (sym e) in (
-      h .0,
-      record {
-        floats = ap (λ (v : List Float). v ++ drop 8192 (s .args .w .now)) (z .0) ∙ take-append-drop 8192 (s .args .w .now) ∙ ap (λ (b : Bool). cond b (cleared +0 8192 (s .args .w .now)) (s .args .w .now)) e;
-        words = ap (λ (l : List ℕ). l ++ drop 512 (s .args .iw .now)) (z .1) ∙ take-append-drop 512 (s .args .iw .now) ∙ ap (λ (b : Bool). cond b (cleared 0 512 (s .args .iw .now)) (s .args .iw .now)) e;
-      },
-      c .outcome-of2 .ensures,
     )
 
 pub hear-all-spec : {M : Type 1} → statement M
 hear-all-spec =
     tie.close
     (tie.spec
-    may-open-requires
     slice-relend-prefix-v
     slice-aggregate-v
     slice-relend-prefix-l
@@ -130,11 +81,4 @@ hear-all-spec =
     same-length-2
     same-length-3
     same-length-4
-    returns
-    slice-read-outcome-of-2
-    outcome-of-requires-2
-    same-length-5
-    same-length-6
-    same-length-7
-    same-length-8
-    returns-2)
+    returns)

@@ -6,8 +6,7 @@ use mathlib.Core.List.{List}
 use lib.Dec.{leb, eqb}
 use lib.ListN.{length, set, replicate}
 use lib.Ieee.{Float, nan}
-use Rattle.numbers.specs.Numbers.{+0, at, nth, tab}
-use Rattle.workspace.specs.Tables.{cleared}
+use Rattle.numbers.specs.Numbers.{at, nth, tab}
 use Rattle.workspace.specs.declared.Refusal.the-variants.{Nonfinite}
 use Rattle.workspace.specs.declared.Outcome.{Outcome}
 use Rattle.workspace.specs.declared.Outcome.the-variants.{Done, Refused}
@@ -59,8 +58,3 @@ isTold k n m t = cond (eqb k 0) true (eqb t (wantedAt k n m))
 -- the outcome of a state whose first word is k
 abbrev pub outcomeIn : ℕ → Outcome
 outcomeIn k = cond (eqb k 9) (Refused Nonfinite) Done
-
--- the workspaces are cleared where they were used, and as they were where not
-pub record Left (used : Bool) (w w′ : List Float) (iw iw′ : List ℕ) : Type 0 where
-  pub floats : w′ ≡ cond used (cleared +0 8192 w) w
-  pub words : iw′ ≡ cond used (cleared 0 512 iw) iw

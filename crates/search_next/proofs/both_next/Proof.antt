@@ -48,7 +48,7 @@ same-length-4 : tie.Need-same-length-4
 same-length-4 c = search needs
 
 returns : tie.Need-returns
-returns c = let a = c .before .before .before .before .before .before .before .before .before .before .before .before .before .before .before .before .before .before .before .before .before .before .args in (second-adds (a .n) (a .m) (a .rows) (a .cols) (a .n - 1 - a .cols) (a .value) (c .before .before .before .before .before .before .before .before .before .before .before .before .before .before .before .move-of .result) (c .before .before .before .before .before .before .before .before .before .before .before .before .before .before .move-of2 .result) (c .before .before .before .before .before .before .before .before .before .before .before .before .before .slope-between .result) (a .f .now) _ (a .u .now) _ (c .before .before .before .before .before .before .before .before .before .before .before .before .before .before .before .before .before .before .before .before .before .before .pre .0) (omega arith) (c .before .before .before .before .before .before .before .before .before .before .before .before .before .before .before .move-of .ensures) (c .before .before .before .before .before .before .before .before .before .before .before .before .before .before .move-of2 .ensures) (c .before .before .before .before .before .before .before .before .before .before .before .before .before .slope-between .ensures) (c .before .before .before .before .before .before .before .before .add-slope .ensures .0), c .before .before .before .before .before .before .before .before .add-slope .ensures .1)
+returns c = let a = c .before .before .before .before .before .before .before .before .before .before .before .before .before .before .before .before .before .before .before .before .before .before .args in second-adds (a .n) (a .m) (a .rows) (a .cols) (a .n - 1 - a .cols) (a .value) (c .before .before .before .before .before .before .before .before .before .before .before .before .before .before .before .move-of .result) (c .before .before .before .before .before .before .before .before .before .before .before .before .before .before .move-of2 .result) (c .before .before .before .before .before .before .before .before .before .before .before .before .before .slope-between .result) (a .f .now) _ (a .u .now) _ (c .before .before .before .before .before .before .before .before .before .before .before .before .before .before .before .before .before .before .before .before .before .before .pre .0) (omega arith) (c .before .before .before .before .before .before .before .before .before .before .before .before .before .before .before .move-of .ensures) (c .before .before .before .before .before .before .before .before .before .before .before .before .before .before .move-of2 .ensures) (c .before .before .before .before .before .before .before .before .before .before .before .before .before .slope-between .ensures) (c .before .before .before .before .before .before .before .before .add-slope .ensures)
 
 pub both-next-spec : {M : Type 1} → statement M
 both-next-spec =

@@ -1,4 +1,4 @@
-use Rattle.search_next.proofs.Told.{told-values, told-slopes, told-single, heard-rows, resume-trial, resume-slopes, resume-single, trials-left, slopes-never-shut, differences-left}
+use Rattle.search_next.proofs.Told.{told-values, told-slopes, told-single, heard-rows, resume-trial, resume-slopes, resume-single}
 use Rattle.numbers.specs.Numbers.{nth}
 use mathlib.Core.Path.{refl}
 use native.Mathlib.Omega.{arith}
@@ -25,7 +25,7 @@ same-length-4 : tie.Need-same-length-4
 same-length-4 c = search needs
 
 returns : tie.Need-returns
-returns c = let a = c .before .before .before .before .before .before .before .before .before .before .before .before .before .before .before .before .before .before .before .before .args in (resume-trial (a .n) (a .m) (a .told .now) (a .f .now) _ (a .u .now) _ (c .before .before .before .before .before .before .before .before .before .before .before .before .before .if1 .taken) (c .before .before .before .before .before .before .before .before .judge-next .ensures .0), λ h. c .before .before .before .before .before .before .before .before .judge-next .ensures .1 (trials-left (nth (a .u .now) 0) _ _ (c .before .before .before .before .before .before .before .before .before .before .before .before .before .if1 .taken) h))
+returns c = let a = c .before .before .before .before .before .before .before .before .before .before .before .before .before .before .before .before .before .before .before .before .args in resume-trial (a .n) (a .m) (a .told .now) (a .f .now) _ (a .u .now) _ (c .before .before .before .before .before .before .before .before .before .before .before .before .before .if1 .taken) (c .before .before .before .before .before .before .before .before .judge-next .ensures)
 
 slice-read-if2 : tie.Need-slice-read-if2
 slice-read-if2 c = search needs
@@ -46,7 +46,7 @@ same-length-8 : tie.Need-same-length-8
 same-length-8 c = search needs
 
 returns-2 : tie.Need-returns-2
-returns-2 c = let a = c .before .before .before .before .before .before .before .before .before .before .before .before .before .before .before .before .before .before .before .before .before .before .args in (resume-slopes (a .n) (a .m) (a .told .now) (a .f .now) _ (a .u .now) _ (c .before .before .before .before .before .before .before .before .before .before .before .before .before .before .before .if1 .left) (c .before .before .before .before .before .before .before .before .before .before .before .before .before .if2 .taken) (c .before .before .before .before .before .before .before .before .slopes-told .ensures), λ h. absurd (slopes-never-shut (nth (a .u .now) 0) _ _ (c .before .before .before .before .before .before .before .before .before .before .before .before .before .if2 .taken) h))
+returns-2 c = let a = c .before .before .before .before .before .before .before .before .before .before .before .before .before .before .before .before .before .before .before .before .before .before .args in resume-slopes (a .n) (a .m) (a .told .now) (a .f .now) _ (a .u .now) _ (c .before .before .before .before .before .before .before .before .before .before .before .before .before .before .before .if1 .left) (c .before .before .before .before .before .before .before .before .before .before .before .before .before .if2 .taken) (c .before .before .before .before .before .before .before .before .slopes-told .ensures)
 
 shared-slice-read-single-next : tie.Need-shared-slice-read-single-next
 shared-slice-read-single-next c = let a = c .before .before .before .before .before .before .before .before .before .before .args in let r = c .before .before .before .before .before .before .before .before .before .before .pre in let z = told-single (nth (a .u .now) 0) (a .told .now) (a .f .now) (a .u .now) (r .0) refl (omega arith) in omega arith
@@ -67,7 +67,7 @@ same-length-12 : tie.Need-same-length-12
 same-length-12 c = search needs
 
 returns-3 : tie.Need-returns-3
-returns-3 c = let a = c .before .before .before .before .before .before .before .before .before .before .before .before .before .before .before .before .before .before .before .before .before .before .before .args in (resume-single (a .n) (a .m) (a .told .now) (a .f .now) _ (a .u .now) _ (c .before .before .before .before .before .before .before .before .before .before .before .before .before .before .before .before .if1 .left) (c .before .before .before .before .before .before .before .before .before .before .before .before .before .before .if2 .left) (c .before .before .before .before .before .before .before .before .single-next .ensures .0), λ h. c .before .before .before .before .before .before .before .before .single-next .ensures .1 (differences-left (nth (a .u .now) 0) _ _ (omega arith) h))
+returns-3 c = let a = c .before .before .before .before .before .before .before .before .before .before .before .before .before .before .before .before .before .before .before .before .before .before .before .args in resume-single (a .n) (a .m) (a .told .now) (a .f .now) _ (a .u .now) _ (c .before .before .before .before .before .before .before .before .before .before .before .before .before .before .before .before .if1 .left) (c .before .before .before .before .before .before .before .before .before .before .before .before .before .before .if2 .left) (c .before .before .before .before .before .before .before .before .single-next .ensures)
 
 pub go-on-spec : {M : Type 1} → statement M
 go-on-spec =

@@ -2,7 +2,6 @@ use Rattle.search_next.proofs.Sloped.{lowers, raised-adds}
 use Rattle.search.proofs.Lent.{set-laid}
 use lib.ListN.{set, length-set}
 use Prim.Native.Nat.{_-_}
-use mathlib.Core.Path.{refl}
 use native.Mathlib.Omega.{arith}
 use borrow.Author.Needs.{needs}
 use Rattle.search_next.proofs.lower_next.Statement.{statement}
@@ -24,7 +23,7 @@ same-length-2 : tie.Need-same-length-2
 same-length-2 c = search needs
 
 returns : tie.Need-returns
-returns c = let a = c .before .before .before .before .before .before .before .before .before .before .before .before .before .args in (lowers (a .n) (a .m) (a .rows) (a .cols) (a .value) (a .f .now) (set (a .f .now) 4 (a .value)) _ (a .u .now) _ (c .before .before .before .before .before .before .before .before .before .before .before .before .before .pre .0) (omega arith) (set-laid 4 (a .value) (a .f .now)) (c .before .before .before .before .ask-moved .ensures), λ h. (refl, refl))
+returns c = let a = c .before .before .before .before .before .before .before .before .before .before .before .before .before .args in lowers (a .n) (a .m) (a .rows) (a .cols) (a .value) (a .f .now) (set (a .f .now) 4 (a .value)) _ (a .u .now) _ (c .before .before .before .before .before .before .before .before .before .before .before .before .before .pre .0) (omega arith) (set-laid 4 (a .value) (a .f .now)) (c .before .before .before .before .ask-moved .ensures)
 
 sub-x : tie.Need-sub-x
 sub-x c = search needs
@@ -75,7 +74,7 @@ same-length-6 : tie.Need-same-length-6
 same-length-6 c = search needs
 
 returns-2 : tie.Need-returns-2
-returns-2 c = let a = c .before .before .before .before .before .before .before .before .before .before .before .before .before .before .before .before .before .before .before .before .before .before .before .args in (raised-adds (a .n) (a .m) (a .rows) (a .cols) (a .n - 1 - a .cols) (a .m - a .rows) (a .value) (c .before .before .before .before .before .before .before .before .before .before .before .before .before .before .move-of .result) (c .before .before .before .before .before .before .before .before .before .before .before .before .before .slope-between .result) (a .f .now) _ (a .u .now) _ (c .before .before .before .before .before .before .before .before .before .before .before .before .before .before .before .before .before .before .before .before .before .before .before .pre .0) (omega arith) (omega arith) (omega arith) (c .before .before .before .before .before .before .before .before .before .before .before .before .before .before .move-of .ensures) (c .before .before .before .before .before .before .before .before .before .before .before .before .before .slope-between .ensures) (c .before .before .before .before .before .before .before .before .add-slope .ensures .0), c .before .before .before .before .before .before .before .before .add-slope .ensures .1)
+returns-2 c = let a = c .before .before .before .before .before .before .before .before .before .before .before .before .before .before .before .before .before .before .before .before .before .before .before .args in raised-adds (a .n) (a .m) (a .rows) (a .cols) (a .n - 1 - a .cols) (a .m - a .rows) (a .value) (c .before .before .before .before .before .before .before .before .before .before .before .before .before .before .move-of .result) (c .before .before .before .before .before .before .before .before .before .before .before .before .before .slope-between .result) (a .f .now) _ (a .u .now) _ (c .before .before .before .before .before .before .before .before .before .before .before .before .before .before .before .before .before .before .before .before .before .before .before .pre .0) (omega arith) (omega arith) (omega arith) (c .before .before .before .before .before .before .before .before .before .before .before .before .before .before .move-of .ensures) (c .before .before .before .before .before .before .before .before .before .before .before .before .before .slope-between .ensures) (c .before .before .before .before .before .before .before .before .add-slope .ensures)
 
 pub lower-next-spec : {M : Type 1} → statement M
 lower-next-spec =

@@ -1,6 +1,5 @@
 use Rattle.search_next.proofs.Sloped.{single-raised, single-second}
 use borrow.Author.Tests.{eq-eqb, ne-eqb}
-use native.Mathlib.Omega.{arith}
 use borrow.Author.Needs.{needs}
 use Rattle.search_next.proofs.single_next.Statement.{statement}
 use Rattle.search_next.proofs.single_next.Tie as tie
@@ -36,7 +35,7 @@ same-length-4 : tie.Need-same-length-4
 same-length-4 c = search needs
 
 returns : tie.Need-returns
-returns c = let a = c .before .before .before .before .before .before .before .before .before .before .before .before .before .before .before .before .before .before .before .before .before .before .before .args in (single-raised (a .n) (a .m) (a .value) (a .f .now) _ (a .u .now) _ (eq-eqb _ _ (c .before .before .before .before .before .before .before .before .before .before .before .before .before .if1 .taken)) (rw (← c .before .before .before .before .before .before .before .before .before .before .before .before .before .before .before .before .before .wide .ensures, ← c .before .before .before .before .before .before .before .before .before .before .before .before .before .before .before .wide2 .ensures) (c .before .before .before .before .before .before .before .before .lower-next .ensures .0)), λ h. c .before .before .before .before .before .before .before .before .lower-next .ensures .1 (omega (arith, h, c .before .before .before .before .before .before .before .before .before .before .before .before .before .before .before .before .before .wide .ensures, c .before .before .before .before .before .before .before .before .before .before .before .before .before .before .before .wide2 .ensures)))
+returns c = let a = c .before .before .before .before .before .before .before .before .before .before .before .before .before .before .before .before .before .before .before .before .before .before .before .args in single-raised (a .n) (a .m) (a .value) (a .f .now) _ (a .u .now) _ (eq-eqb _ _ (c .before .before .before .before .before .before .before .before .before .before .before .before .before .if1 .taken)) (rw (← c .before .before .before .before .before .before .before .before .before .before .before .before .before .before .before .before .before .wide .ensures, ← c .before .before .before .before .before .before .before .before .before .before .before .before .before .before .before .wide2 .ensures) (c .before .before .before .before .before .before .before .before .lower-next .ensures))
 
 both-next-requires : tie.Need-both-next-requires
 both-next-requires c κs = search needs
@@ -54,7 +53,7 @@ same-length-8 : tie.Need-same-length-8
 same-length-8 c = search needs
 
 returns-2 : tie.Need-returns-2
-returns-2 c = let a = c .before .before .before .before .before .before .before .before .before .before .before .before .before .before .before .before .before .before .before .before .before .before .before .args in (single-second (a .n) (a .m) (a .value) (a .f .now) _ (a .u .now) _ (ne-eqb _ _ (c .before .before .before .before .before .before .before .before .before .before .before .before .before .if1 .left)) (rw (← c .before .before .before .before .before .before .before .before .before .before .before .before .before .before .before .before .before .wide .ensures, ← c .before .before .before .before .before .before .before .before .before .before .before .before .before .before .before .wide2 .ensures) (c .before .before .before .before .before .before .before .before .both-next .ensures .0)), λ h. c .before .before .before .before .before .before .before .before .both-next .ensures .1 (omega (arith, h, c .before .before .before .before .before .before .before .before .before .before .before .before .before .before .before .before .before .wide .ensures, c .before .before .before .before .before .before .before .before .before .before .before .before .before .before .before .wide2 .ensures)))
+returns-2 c = let a = c .before .before .before .before .before .before .before .before .before .before .before .before .before .before .before .before .before .before .before .before .before .before .before .args in single-second (a .n) (a .m) (a .value) (a .f .now) _ (a .u .now) _ (ne-eqb _ _ (c .before .before .before .before .before .before .before .before .before .before .before .before .before .if1 .left)) (rw (← c .before .before .before .before .before .before .before .before .before .before .before .before .before .before .before .before .before .wide .ensures, ← c .before .before .before .before .before .before .before .before .before .before .before .before .before .before .before .wide2 .ensures) (c .before .before .before .before .before .before .before .before .both-next .ensures))
 
 pub single-next-spec : {M : Type 1} → statement M
 single-next-spec =

@@ -141,15 +141,3 @@ pub record Heard (v f : List Float) (u : List ℕ) : Type 0 where
 -- the state in the slices has become what it becomes by v
 abbrev pub Told : (v f f′ : List Float) (u u′ : List ℕ) → Type 0
 Told v f f′ u u′ = (M : Machine) → machineIn f u ≡ some M → Turned (setupIn f u) (tell (setupIn f u) M v) f f′ u u′
-
--- the workspaces are as they were
-abbrev pub Same : (w w′ : List Float) (iw iw′ : List ℕ) → Type 0
-Same w w′ iw iw′ = (w′ ≡ w) × (iw′ ≡ iw)
-
--- whether an answer in a phase may open a turn, with so many trials and so many differences after this one
-abbrev pub opensAt : (phase trials differences : ℕ) → Bool
-opensAt zero t d = false
-opensAt (suc zero) t d = false
-opensAt (suc (suc zero)) t d = eqb t 0
-opensAt (suc (suc (suc zero))) t d = true
-opensAt (suc (suc (suc (suc k)))) t d = eqb d 0

@@ -130,7 +130,7 @@ pub fn begin(call: &Begin, lent: &Lent, slip: Slip) -> Outcome {
     }
     let reading = Reading { setup: call.setup(), slip };
     let state = reading.start(&call.x, call.budget);
-    settled(&reading, &state, Page::blank(&reading.setup), slip == Slip::BeginClears)
+    settled(&reading, &state, Page::blank(&reading.setup), slip != Slip::BeginKeeps)
 }
 
 /// What `tell` owes, on the slices as they are.
@@ -153,7 +153,7 @@ pub fn tell(told: &[f64], floats: &[f64], words: &[u32], work: [usize; 2], slip:
         _ if !lent.has_room() => refused(3),
         _ if !long => refused(2),
         (Some((reading, state)), Some(_)) => {
-            let clears = reading.may_open(&state);
+            let clears = !reading.keeps(&state);
             settled(&reading, &reading.told(state, told), page, clears)
         }
         _ => refused(18),
@@ -165,5 +165,6 @@ fn settled(reading: &Reading, state: &State, mut page: Page, clears: bool) -> Ou
     page.write(reading, state);
     let nonfinite = matches!(state, State::Ended(Ending::Nonfinite, _));
     let number = if nonfinite && reading.slip != Slip::NonfiniteDone { 17 } else { 0 };
+    let clears = clears && !(nonfinite && reading.slip == Slip::NonfiniteKeeps);
     Outcome { number, variable: None, page: Some(page), clears }
 }

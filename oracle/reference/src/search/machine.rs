@@ -267,24 +267,14 @@ impl Reading {
         State::Ended(ending, report)
     }
 
-    /// Whether the answer that a state waits for may open a turn: the slopes, the last difference of
-    /// them, the last trial of a line.
-    pub fn may_open(&self, state: &State) -> bool {
-        let all = (1 + self.setup.m) * self.setup.n;
+    /// Whether the answer to a state leaves the workspaces as they were, which is always a slip.
+    pub fn keeps(&self, state: &State) -> bool {
         match state {
             State::Ended(..) => false,
-            State::Starting(..) => self.slip == Slip::StartClears,
-            State::Trying(.., again) => match self.slip {
-                Slip::LastTrialKeeps => false,
-                Slip::TrialClears => true,
-                _ => *again == 0,
-            },
-            State::Sloping(..) => self.slip != Slip::SlopesKeep,
-            State::Moving(_, arrival) => match self.slip {
-                Slip::DifferenceClears => true,
-                Slip::LastDifferenceKeeps => false,
-                _ => arrival.known.len() + 1 == all,
-            },
+            State::Starting(..) => self.slip == Slip::StartKeeps,
+            State::Trying(..) => self.slip == Slip::TrialKeeps,
+            State::Sloping(..) => self.slip == Slip::SlopesKeep,
+            State::Moving(..) => self.slip == Slip::DifferenceKeeps,
         }
     }
 

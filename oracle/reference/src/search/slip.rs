@@ -33,13 +33,12 @@ slips! {
     TrialReported "a trial that is not finite reported";
     NotEmptied "an ended machine not emptied";
     PenaltiesNotEmptied "an ended machine with its penalties";
-    BeginClears "workspaces cleared by a beginning";
-    StartClears "workspaces cleared by the values at the start";
-    TrialClears "workspaces cleared by a trial that is not the last";
-    LastTrialKeeps "workspaces kept by the last trial";
+    BeginKeeps "workspaces kept by a beginning";
+    StartKeeps "workspaces kept by the values at the start";
+    TrialKeeps "workspaces kept by a trial";
     SlopesKeep "workspaces kept by slopes";
-    DifferenceClears "workspaces cleared by a difference that is not the last";
-    LastDifferenceKeeps "workspaces kept by the last difference";
+    DifferenceKeeps "workspaces kept by a difference";
+    NonfiniteKeeps "workspaces kept with 17";
     NonfiniteDone "0 for 17";
     BandTaken "kind 2 taken";
     BudgetPastMost "a budget of 10,001 taken";

@@ -6,8 +6,8 @@ use super::runs::{KINDS, Run};
 use crate::digest::{Digest, OUTPUT, ROOMS, memory, room, values};
 use crate::draw::Draw;
 use crate::stored::{Fill, LENGTHS as COUNT, bytes_of, pattern};
-use reference::search::call::{Begin, Lent, Outcome, begin, tell};
 use reference::search::Slip;
+use reference::search::call::{Begin, Lent, Outcome, begin, tell};
 use reference::shape::{OPS, Op, WORKSPACES};
 
 /// Where the inputs' lengths begin in the header, and where the tolerance's stands.

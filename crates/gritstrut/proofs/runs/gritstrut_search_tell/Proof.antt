@@ -23,7 +23,7 @@ same-length-4 : tie.Need-same-length-4
 same-length-4 c = omega arith
 
 returns : tie.Need-returns
-returns c = run-leaves _ _ _ _ _ _ _ _ _ _ _ _ _ _ (c .before .before .before .before .before .before .before .before .before .tell .ensures) (c .number .ensures)
+returns c = run-leaves _ _ _ _ _ _ _ _ _ _ _ _ _ (c .before .before .before .before .before .before .before .before .before .tell .ensures) (c .number .ensures)
 
 pub gritstrut-search-tell-spec : {M : Type 1} → statement M
 gritstrut-search-tell-spec =

@@ -2,6 +2,7 @@
 use mathlib.Core.Path.{sym, _∙_}
 use native.Mathlib.Omega.{arith}
 use borrow.Author.Tests.{not-true, not-false}
+use Rattle.workspace.proofs.Tests.{room-ge}
 use Rattle.step_call.proofs.Bounds.{all-pass, all-stop}
 use Rattle.search.specs.Promise.{setupOf}
 use Rattle.search_call.proofs.Calls.{size-refused, length-refused, room-refused, kind-refused, tolerance-refused, bound-refused, call-answered, lengths-bad, lengths-rest, begins-of}
@@ -78,9 +79,10 @@ enum-told c = search needs
 
 begin-bounded-requires : tie.Need-begin-bounded-requires
 begin-bounded-requires c κs =
-    let a = c .before .before .before .before .before .before .before .before .before .before .before .before .before .before .before .before .before .before .before .before .before .before .before .before .before .args in
-    let b = begins-of (a .n) (a .m) (a .budget) (a .scheme) (a .kinds .now) (a .lower .now) (a .upper .now) (a .x .now) (a .machine .now) (a .words .now) (a .ftol) (sym (c .before .before .before .before .before .before .before .before .before .before .before .before .before .before .before .before .are-sizes .ensures) ∙ not-false _ (c .before .before .before .before .before .before .before .before .before .before .before .before .before .before .before .if1 .left)) (sym (c .before .before .before .before .before .before .before .before .before .before .before .before .before .before .are-lengths .ensures) ∙ not-false _ (c .before .before .before .before .before .before .before .before .before .before .before .before .before .if2 .left)) (sym (c .before .before .before .before .before .before .before .before .before .before .before .before .are-slices .ensures) ∙ not-false _ (c .before .before .before .before .before .before .before .before .before .before .before .if3 .left)) (sym (c .before .before .before .before .before .before .before .before .are-kinds .ensures) ∙ not-false _ (c .before .before .before .before .before .before .before .if5 .left)) in
-    (b .0, b .1)
+    let a = c .before .before .before .before .before .before .before .before .before .before .before .before .before .before .before .before .before .before .before .before .before .before .before .before .before .before .before .args in
+    let b = begins-of (a .n) (a .m) (a .budget) (a .scheme) (a .kinds .now) (a .lower .now) (a .upper .now) (a .x .now) (a .machine .now) (a .words .now) (a .ftol) (sym (c .before .before .before .before .before .before .before .before .before .before .before .before .before .before .before .before .before .before .are-sizes .ensures) ∙ not-false _ (c .before .before .before .before .before .before .before .before .before .before .before .before .before .before .before .before .before .if1 .left)) (sym (c .before .before .before .before .before .before .before .before .before .before .before .before .before .before .before .before .are-lengths .ensures) ∙ not-false _ (c .before .before .before .before .before .before .before .before .before .before .before .before .before .before .before .if2 .left)) (sym (c .before .before .before .before .before .before .before .before .before .before .before .before .before .before .are-slices .ensures) ∙ not-false _ (c .before .before .before .before .before .before .before .before .before .before .before .before .before .if3 .left)) (sym (c .before .before .before .before .before .before .before .before .before .before .are-kinds .ensures) ∙ not-false _ (c .before .before .before .before .before .before .before .before .before .if5 .left)) in
+    let r = room-ge (a .w .now) (a .iw .now) (sym (c .before .before .before .before .before .before .before .before .before .before .before .before .is-room .ensures) ∙ not-false _ (c .before .before .before .before .before .before .before .before .before .before .before .if4 .left)) in
+    (b .0, b .1, r .0, r .1)
 
 returns-7 : tie.Need-returns-7
 returns-7 c =
@@ -95,12 +97,18 @@ same-length c = search needs
 same-length-2 : tie.Need-same-length-2
 same-length-2 c = search needs
 
+same-length-3 : tie.Need-same-length-3
+same-length-3 c = search needs
+
+same-length-4 : tie.Need-same-length-4
+same-length-4 c = search needs
+
 returns-8 : tie.Need-returns-8
 returns-8 c =
-    let a = c .before .before .before .before .before .before .before .before .before .before .before .before .before .before .before .before .before .before .before .before .before .before .before .before .before .before .before .before .before .before .args in
+    let a = c .before .before .before .before .before .before .before .before .before .before .before .before .before .before .before .before .before .before .before .before .before .before .before .before .before .before .before .before .before .before .before .before .before .before .before .before .args in
     let p = setupOf (a .n) (a .m) (a .kinds .now) (a .lower .now) (a .upper .now) (a .ftol) (a .scheme) in
-    call-answered p (a .machine .now) (a .w .now) (a .words .now) (a .iw .now) _ _ _ _ _ _ (sym (c .before .before .before .before .before .before .before .before .before .before .before .before .before .before .before .before .before .before .before .before .before .are-sizes .ensures) ∙ not-false _ (c .before .before .before .before .before .before .before .before .before .before .before .before .before .before .before .before .before .before .before .before .if1 .left)) (lengths-rest _ _ _ _ (sym (c .before .before .before .before .before .before .before .before .before .before .before .before .before .before .before .before .before .before .before .are-lengths .ensures) ∙ not-false _ (c .before .before .before .before .before .before .before .before .before .before .before .before .before .before .before .before .before .before .if2 .left)) (sym (c .before .before .before .before .before .before .before .before .before .before .before .before .before .before .before .before .before .are-slices .ensures) ∙ not-false _ (c .before .before .before .before .before .before .before .before .before .before .before .before .before .before .before .before .if3 .left))) (sym (c .before .before .before .before .before .before .before .before .before .before .before .before .before .before .before .is-room .ensures) ∙ not-false _ (c .before .before .before .before .before .before .before .before .before .before .before .before .before .before .if4 .left)) (sym (c .before .before .before .before .before .before .before .before .before .before .before .before .before .are-kinds .ensures) ∙ not-false _ (c .before .before .before .before .before .before .before .before .before .before .before .before .if5 .left)) _ _ _ _ _ _ (sym (c .before .before .before .before .before .before .before .before .before .before .before .is-tolerance .ensures) ∙ not-false _ (c .before .before .before .before .before .before .before .before .before .before .if6 .left))
-    (all-pass (a .lower .now) (a .upper .now) _ (a .n) 0 (sym (c .before .before .before .before .before .before .before .before .before .test-bounds .ensures) ∙ c .before .before .before .before .before .before .before .enum-told .given .1)) (c .before .before .before .before .begin-bounded .ensures (a .w .now) (a .iw .now))
+    call-answered p (a .machine .now) (a .w .now) (a .words .now) (a .iw .now) _ _ _ _ _ _ (sym (c .before .before .before .before .before .before .before .before .before .before .before .before .before .before .before .before .before .before .before .before .before .before .before .before .before .before .before .are-sizes .ensures) ∙ not-false _ (c .before .before .before .before .before .before .before .before .before .before .before .before .before .before .before .before .before .before .before .before .before .before .before .before .before .before .if1 .left)) (lengths-rest _ _ _ _ (sym (c .before .before .before .before .before .before .before .before .before .before .before .before .before .before .before .before .before .before .before .before .before .before .before .before .before .are-lengths .ensures) ∙ not-false _ (c .before .before .before .before .before .before .before .before .before .before .before .before .before .before .before .before .before .before .before .before .before .before .before .before .if2 .left)) (sym (c .before .before .before .before .before .before .before .before .before .before .before .before .before .before .before .before .before .before .before .before .before .before .before .are-slices .ensures) ∙ not-false _ (c .before .before .before .before .before .before .before .before .before .before .before .before .before .before .before .before .before .before .before .before .before .before .if3 .left))) (sym (c .before .before .before .before .before .before .before .before .before .before .before .before .before .before .before .before .before .before .before .before .before .is-room .ensures) ∙ not-false _ (c .before .before .before .before .before .before .before .before .before .before .before .before .before .before .before .before .before .before .before .before .if4 .left)) (sym (c .before .before .before .before .before .before .before .before .before .before .before .before .before .before .before .before .before .before .before .are-kinds .ensures) ∙ not-false _ (c .before .before .before .before .before .before .before .before .before .before .before .before .before .before .before .before .before .before .if5 .left)) _ _ _ _ _ _ (sym (c .before .before .before .before .before .before .before .before .before .before .before .before .before .before .before .before .before .is-tolerance .ensures) ∙ not-false _ (c .before .before .before .before .before .before .before .before .before .before .before .before .before .before .before .before .if6 .left))
+    (all-pass (a .lower .now) (a .upper .now) _ (a .n) 0 (sym (c .before .before .before .before .before .before .before .before .before .before .before .before .before .before .before .test-bounds .ensures) ∙ c .before .before .before .before .before .before .before .before .before .before .before .before .before .enum-told .given .1)) (c .before .before .before .before .before .before .before .before .begin-bounded .ensures)
 
 pub begin-spec : {M : Type 1} → statement M
 begin-spec =
@@ -125,4 +133,6 @@ begin-spec =
     returns-7
     same-length
     same-length-2
+    same-length-3
+    same-length-4
     returns-8)

@@ -1,5 +1,4 @@
 use Rattle.search_next.proofs.Sloped.{added-next, added-row, added-last, kept-ready}
-use mathlib.Core.Path.{refl}
 use native.Mathlib.Omega.{arith}
 use borrow.Author.Needs.{needs}
 use Rattle.search_next.proofs.differences.add_slope.Statement.{statement}
@@ -21,7 +20,7 @@ same-length-2 : tie.Need-same-length-2
 same-length-2 c = search needs
 
 returns : tie.Need-returns
-returns c = let a = c .before .before .before .before .before .before .before .before .before .before .before .before .before .before .before .before .args in (added-next (a .n) (a .m) (a .rows) (a .cols) (a .slope) (a .f .now) (c .before .before .before .before .before .before .before .before .before .keep-slope .last .0) _ (a .u .now) _ (c .before .before .before .before .before .before .before .before .before .before .before .before .before .before .before .before .pre .0) (omega arith) (c .before .before .before .before .before .before .before .before .before .before .before .before .before .before .before .before .pre .3) (c .before .before .before .before .before .before .before .before .before .before .before .before .before .before .before .before .pre .4) (c .before .before .before .before .before .before .before .before .before .keep-slope .ensures) (c .before .before .before .before .ask-moved .ensures), λ h. (refl, refl))
+returns c = let a = c .before .before .before .before .before .before .before .before .before .before .before .before .before .before .before .before .args in added-next (a .n) (a .m) (a .rows) (a .cols) (a .slope) (a .f .now) (c .before .before .before .before .before .before .before .before .before .keep-slope .last .0) _ (a .u .now) _ (c .before .before .before .before .before .before .before .before .before .before .before .before .before .before .before .before .pre .0) (omega arith) (c .before .before .before .before .before .before .before .before .before .before .before .before .before .before .before .before .pre .3) (c .before .before .before .before .before .before .before .before .before .before .before .before .before .before .before .before .pre .4) (c .before .before .before .before .before .before .before .before .before .keep-slope .ensures) (c .before .before .before .before .ask-moved .ensures)
 
 keep-slope-requires-2 : tie.Need-keep-slope-requires-2
 keep-slope-requires-2 c κs = let r = c .before .before .before .before .before .before .before .pre .0 in (r .floats, r .few, r .constraints, c .before .before .before .before .before .before .before .pre .3, c .before .before .before .before .before .before .before .pre .4)
@@ -36,7 +35,7 @@ same-length-4 : tie.Need-same-length-4
 same-length-4 c = search needs
 
 returns-2 : tie.Need-returns-2
-returns-2 c = let a = c .before .before .before .before .before .before .before .before .before .before .before .before .before .before .before .before .before .args in (added-row (a .n) (a .m) (a .rows) (a .cols) (a .slope) (a .f .now) (c .before .before .before .before .before .before .before .before .before .keep-slope2 .last .0) _ (a .u .now) _ (c .before .before .before .before .before .before .before .before .before .before .before .before .before .before .before .before .before .pre .0) (omega arith) (omega arith) (c .before .before .before .before .before .before .before .before .before .before .before .before .before .before .before .before .before .pre .3) (c .before .before .before .before .before .before .before .before .before .keep-slope2 .ensures) (c .before .before .before .before .row-next .ensures), λ h. (refl, refl))
+returns-2 c = let a = c .before .before .before .before .before .before .before .before .before .before .before .before .before .before .before .before .before .args in added-row (a .n) (a .m) (a .rows) (a .cols) (a .slope) (a .f .now) (c .before .before .before .before .before .before .before .before .before .keep-slope2 .last .0) _ (a .u .now) _ (c .before .before .before .before .before .before .before .before .before .before .before .before .before .before .before .before .before .pre .0) (omega arith) (omega arith) (c .before .before .before .before .before .before .before .before .before .before .before .before .before .before .before .before .before .pre .3) (c .before .before .before .before .before .before .before .before .before .keep-slope2 .ensures) (c .before .before .before .before .row-next .ensures)
 
 last-slope-requires : tie.Need-last-slope-requires
 last-slope-requires c κs = search needs
@@ -54,7 +53,7 @@ same-length-8 : tie.Need-same-length-8
 same-length-8 c = search needs
 
 returns-3 : tie.Need-returns-3
-returns-3 c = let a = c .before .before .before .before .before .before .before .before .before .before .before .before .before .before .before .before .before .before .before .args in (added-last (a .n) (a .m) (a .rows) (a .cols) (a .slope) (a .f .now) _ (a .u .now) _ (omega arith) (omega arith) (c .before .before .before .before .before .before .before .before .last-slope .ensures), λ h. absurd (omega arith))
+returns-3 c = let a = c .before .before .before .before .before .before .before .before .before .before .before .before .before .before .before .before .before .before .before .args in added-last (a .n) (a .m) (a .rows) (a .cols) (a .slope) (a .f .now) _ (a .u .now) _ (omega arith) (omega arith) (c .before .before .before .before .before .before .before .before .last-slope .ensures)
 
 pub add-slope-spec : {M : Type 1} → statement M
 add-slope-spec =
