@@ -5,6 +5,7 @@
 mod calls;
 mod days;
 mod lines;
+mod searches;
 mod table;
 
 use libc::STDIN_FILENO;
@@ -59,6 +60,7 @@ fn answer_all(bundle: &[u8]) {
 fn main() {
     table::tell_all();
     days::tell_days();
+    searches::tell_searches();
     let mut input = io::large_buffer();
     let n = io::read_full(STDIN_FILENO, &mut input);
     answer_all(&input[..n]);
