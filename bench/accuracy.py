@@ -12,7 +12,7 @@ import sys
 WIDTH, HEIGHT, LEFT, RIGHT, TOP, BOTTOM = 470, 390, 62, 14, 74, 48
 LOW, HIGH, FAR = -17, 8, 8
 FAMILIES = [("floor", "one meter, a floor away", "#1b6ca8"), ("pulled", "one meter, pulled from its ceiling", "#b5651d"),
-            ("header", "four meters, one floor away", "#2e7d32")]
+            ("header", "four meters, one floor away", "#2e7d32"), ("pinned", "four meters, one pinned at zero", "#8e24aa")]
 
 
 def read(path):
@@ -77,7 +77,7 @@ def main():
     rows = read(sys.argv[1])
     legend = []
     for k, (_, words, colour) in enumerate(FAMILIES):
-        at = LEFT + 250 * k
+        at = LEFT + 215 * k
         legend.append(f'<circle cx="{at}" cy="18" r="4" fill="none" stroke="{colour}" stroke-width="1.4"/><text x="{at + 9}" y="22">{words}</text>')
     legend.append(f'<text x="{LEFT - 4}" y="42">Circles: Gritstrut, and the Rust, whose bits are the same. Crosses: NLopt, which clips its steps into their bounds. Dashed: distance³ · 2⁻⁵³.</text>')
     print(f'<svg xmlns="http://www.w3.org/2000/svg" width="{2 * WIDTH}" height="{HEIGHT}" font-family="sans-serif" font-size="11">')

@@ -22,7 +22,8 @@
  * - w is a workspace of at least GRITSTRUT_FLOATS doubles (64 KiB) and iw one of at least
  *   GRITSTRUT_WORDS uint32_t (2 KiB). What they hold before a call does not matter.
  * - The result is a number of the table below. Tests are made in the order 1, 2, 3, 4, 14, 10, 15,
- *   16, 18, 20, 19.
+ *   16, 18, 17, 20, 19; of a day's meters 12 and 13 come after 3, the lowest meter first. 5, 6, 7, 8
+ *   and 11 are of the arithmetic, which comes after them; 17 may be of it too.
  *
  *     number                                 outputs      workspaces
  *     0  GRITSTRUT_DONE                      all written  first 8192 and 512 entries zero
@@ -148,7 +149,8 @@ uint32_t gritstrut_qr(size_t m, size_t n, const double *a, size_t a_len,
 
 /* Nonnegative least squares, min ||A x - b|| with x >= 0, of the m by n matrix a: m from 0 to
  * 18, n from 0 to 66, with k rounds allowed, from 0 to 3n. In: a (m * n), b (m). Out: x (n), and
- * how many rounds and factorings it took. */
+ * how many rounds and factorings the definition counts (docs/RULES.md, "Nonnegative least
+ * squares"): some are counted and not run, since what they come to is known. */
 uint32_t gritstrut_nnls(size_t m, size_t n, size_t k, const double *a, size_t a_len,
                         const double *b, size_t b_len, double *x, size_t x_len,
                         uint32_t *rounds, uint32_t *factorings,
@@ -186,7 +188,9 @@ uint32_t gritstrut_lsei(size_t n, size_t mc, size_t me, size_t mg,
 
 /* A day's volumes of n meters, from 0 to 16, corrected so that m balances, from 0 to 16, come to
  * zero: the least squares of the corrections, each over its meter's spread, with no volume below
- * zero. In: the totaliser readings before and after (n each, 0 to 999,999; the volume between them
+ * zero, as LSEI works them out. Where the balances fix a meter at zero, or one stands twice, that
+ * can be far from the least though the balances close (docs/MANUAL.md, "A day that closes and is
+ * wrong"). In: the totaliser readings before and after (n each, 0 to 999,999; the volume between them
  * is after - before, plus 1,000,000 where that is below zero, so a full turn cannot be seen),
  * spreads (n), balances (m * n, a row of coefficients each). Out: volumes (n), and named (n): 1
  * where the volume is below zero, as rounding can leave it, or NaN, else 0. Volumes are not
@@ -264,7 +268,8 @@ enum {
     GRITSTRUT_EXACT_PLACE,    /* with 5 and 11, as LSEI's; else GRITSTRUT_NOWHERE */
     GRITSTRUT_RELAXED_NUMBER, /* 0 where the relaxed one was solved or not tried, else 5, 6 or 7 */
     GRITSTRUT_RELAXED_PLACE,  /* with 5 the variable, n being the relaxation; else NOWHERE */
-    GRITSTRUT_ROUNDS,         /* rounds of NNLS in both stages, one refused by 7 not counted */
+    GRITSTRUT_ROUNDS,         /* rounds of NNLS in both stages, as gritstrut_nnls counts them: one
+                                 refused by 7 is not counted */
     GRITSTRUT_FACTORINGS,     /* QR factorings in both stages, of no columns too: at most 25,879 */
     GRITSTRUT_REPORT          /* how many entries a report has */
 };
@@ -276,8 +281,8 @@ enum {
     GRITSTRUT_BAND      /* 0 <= a'd + c <= w, of which w is at least zero and finite */
 };
 
-/* A running tally of what steps took: set both counts to 0 at first. A count that would pass the
- * range stays at UINT64_MAX. */
+/* A running tally of the rounds and factorings of steps, as their reports count them: set both
+ * counts to 0 at first. A count that would pass the range stays at UINT64_MAX. */
 typedef struct gritstrut_tally {
     uint64_t rounds;
     uint64_t factorings;
@@ -303,7 +308,7 @@ void gritstrut_tally_raise(gritstrut_tally *tally, uint64_t rounds, uint64_t fac
  * tally is raised by the report's rounds and factorings with 0, 5, 6 and 7, and stays with 1 to 4
  * and 14; nothing else depends on it. With p exact inequality rows (one of a floor, two of a band,
  * one of each closed side) and q relaxed rows (the same, two of an equality, and two more) a step
- * takes at most 3 + (3p^2 + 4p) + (3q^2 + 4q) factorings.
+ * counts at most 3 + (3p^2 + 4p) + (3q^2 + 4q) factorings.
  * The exact problem reads the whole square of factor, the entries ABOVE the diagonal too: set
  * them to +0, as gritstrut_cholesky does. */
 uint32_t gritstrut_step(size_t n, size_t m, const double *factor, size_t factor_len,
@@ -402,44 +407,66 @@ uint32_t gritstrut_write_problem(size_t n, size_t m, const uint64_t *factor, siz
                                  uint8_t *out, size_t out_len, size_t *written, uint32_t *place,
                                  double *w, size_t w_len, uint32_t *iw, size_t iw_len);
 
-/* The search: the whole iteration around the step, as a machine that asks and is told. It keeps all
- * that it knows in two slices of the caller's, machine and words, and nothing else: they may be
- * stored, copied and gone on with elsewhere. docs/RULES.md, "The search", has its rules. */
+/* The search: the whole iteration around the step, as a machine that asks and is told. It looks for
+ * the x of least f(x) under constraints c_j(x) = 0 or c_j(x) >= 0 and bounds lower <= x <= upper,
+ * and ends where f is least nearby. (NLopt's inequalities are c_j(x) <= 0: change their signs.) It
+ * keeps all that it knows in two slices of the caller's, machine and words, and nothing else: they
+ * may be stored, copied and gone on with elsewhere. docs/RULES.md, "The search", has its rules, and
+ * examples/valves.c is one. */
 #define GRITSTRUT_SEARCH_MACHINE 1024 /* the length of machine, in doubles */
 #define GRITSTRUT_SEARCH_WORDS 32     /* the length of words, in uint32_t */
 #define GRITSTRUT_SEARCH_BUDGET 10000 /* the most objective values that a run may cost */
 
-/* Where in machine stand: x, the last accepted point (n); the multipliers of the last step (m); the
- * values at x (1 + m, the objective first); and, while a question stands, the point that it asks
- * about (n). */
+/* Where in machine the report stands, at the end of a run and before: the last accepted point (n),
+ * which is the start, clipped into its bounds, before any other is; the multipliers of the last step
+ * (m), +0 before the first; and the values at that point (1 + m, the objective first), NaN before
+ * the start's are told. And, while a question stands, the point that it asks about (n). */
 #define GRITSTRUT_SEARCH_X 48
 #define GRITSTRUT_SEARCH_MULTIPLIERS 96
 #define GRITSTRUT_SEARCH_VALUES 128
 #define GRITSTRUT_SEARCH_POINT 976
 
-/* What words[0] says: the question that stands, or how the run has ended. 0 is no machine. Values
- * are 1 + m numbers, the objective and then each constraint; slopes are 1 + m rows of n, the
- * gradient first; one value is that of function words[9] - words[5], 0 being the objective and
- * 1 + j constraint j. */
+/* Where in words stand: what is asked, or how the run has ended (below); what is left of the budget
+ * when the question that stands is answered; of a question for one value, how many functions come
+ * after the one that is asked for; n; and m. */
+#define GRITSTRUT_SEARCH_ASKED 0
+#define GRITSTRUT_SEARCH_LEFT 1
+#define GRITSTRUT_SEARCH_AFTER 5
+#define GRITSTRUT_SEARCH_VARIABLES 8
+#define GRITSTRUT_SEARCH_CONSTRAINTS 9
+
+/* The function that a question for one value asks for: 0 is the objective, 1 + j constraint j. */
+#define GRITSTRUT_SEARCH_FUNCTION(words) \
+    ((words)[GRITSTRUT_SEARCH_CONSTRAINTS] - (words)[GRITSTRUT_SEARCH_AFTER])
+
+/* What words[GRITSTRUT_SEARCH_ASKED] says: the question that stands, or how the run has ended. 0 is
+ * no machine. All values are 1 + m numbers, the objective and then each constraint; all slopes are
+ * 1 + m rows of n, the gradient first; one value is one number. */
 enum {
-    GRITSTRUT_SEARCH_START = 1, /* all values at the start */
-    GRITSTRUT_SEARCH_TRIAL,     /* all values at a trial point */
-    GRITSTRUT_SEARCH_SLOPES,    /* all slopes */
-    GRITSTRUT_SEARCH_RAISED,    /* one value, a coordinate raised */
-    GRITSTRUT_SEARCH_LOWERED,   /* one value, a coordinate lowered */
-    GRITSTRUT_SEARCH_CONVERGED, /* ended: within ftol */
+    GRITSTRUT_SEARCH_START = 1,  /* all values at the start */
+    GRITSTRUT_SEARCH_TRIAL,      /* all values at a trial point */
+    GRITSTRUT_SEARCH_SLOPES,     /* all slopes */
+    GRITSTRUT_SEARCH_RAISED,     /* one value, a coordinate raised */
+    GRITSTRUT_SEARCH_LOWERED,    /* one value, a coordinate lowered */
+    GRITSTRUT_SEARCH_CONVERGED,  /* ended: within ftol */
     GRITSTRUT_SEARCH_INFEASIBLE, /* ended: no step, or one that relaxes all */
-    GRITSTRUT_SEARCH_EXHAUSTED, /* ended: an objective value is due, and none is left */
-    GRITSTRUT_SEARCH_NONFINITE  /* ended: a number that is not finite */
+    GRITSTRUT_SEARCH_EXHAUSTED,  /* ended: an objective value is due, and none is left */
+    GRITSTRUT_SEARCH_NONFINITE   /* ended: a number that is not finite */
+};
+
+/* Where slopes come from: the scheme of a search. */
+enum {
+    GRITSTRUT_SEARCH_TOLD,    /* they are asked for */
+    GRITSTRUT_SEARCH_FORWARD, /* forward differences, of single values that are asked for */
+    GRITSTRUT_SEARCH_CENTRAL  /* central ones */
 };
 
 /* Begins a search of n variables, from 1 to 16, and m constraints, from 0 to 16. In: kinds (m; 0 an
  * equality, 1 a floor: there are no bands), lower and upper (n each; -infinity and +infinity are
- * open), the start x (n), ftol, the budget, from 0 to GRITSTRUT_SEARCH_BUDGET, and the scheme: 0,
- * slopes are told; 1, they are worked out by forward differences, or 2, by central ones, of single
- * values that are asked for. Out: machine and words, whole: what they held before does not matter.
- * After 1 to 4 comes 10 for ftol, then 15 with the lowest variable in place, then 16. With 17 the
- * start is not finite: the machine is written, and its run is over. With 0 look at words[0]. */
+ * open), the start x (n), ftol, the budget, from 0 to GRITSTRUT_SEARCH_BUDGET, and the scheme. Out:
+ * machine and words, whole: what they held before does not matter. After 1 to 4 comes 10 for ftol,
+ * then 15 with the lowest variable in place, then 16. With 17 the start is not finite: the machine
+ * is written, and its run is over. With 0 look at words[GRITSTRUT_SEARCH_ASKED]. */
 uint32_t gritstrut_search_begin(size_t n, size_t m, const uint8_t *kinds, size_t kinds_len,
                                 const double *lower, size_t lower_len,
                                 const double *upper, size_t upper_len,
@@ -453,7 +480,9 @@ uint32_t gritstrut_search_begin(size_t n, size_t m, const uint8_t *kinds, size_t
  * many numbers as the question wants. In and out: machine and words. 2 is also for an answer of
  * another length; 18 where no question stands, because the run has ended or words are no machine,
  * as also where a word that another hand wrote is out of its range. With 17 a number is not finite:
- * the machine is written, and its run is over. With 0 look at words[0]. */
+ * the machine is written, and its run is over. That is so at a trial too: no shorter step is tried
+ * where a function has no value, so let the bounds keep x where all have one. With 0 look at
+ * words[GRITSTRUT_SEARCH_ASKED]. */
 uint32_t gritstrut_search_tell(const double *told, size_t told_len,
                                double *machine, size_t machine_len,
                                uint32_t *words, size_t words_len,

@@ -79,6 +79,20 @@ fn header_idle(z: f64) -> Case {
     case
 }
 
+/// Four meters, of which the first is in no balance: the second and the third are alike by one balance, and but for the
+/// fourth by another, so these two alone hold the fourth at zero, where its floor is. The two that are alike are z spreads
+/// of the third apart, and share that by their spreads; nothing else moves.
+fn pinned(z: f64) -> Case {
+    let spreads = [40.0, 40.0, 10.0, 0.5];
+    let mut problem = free(&spreads);
+    let off = 10.0 * z;
+    problem.kinds = vec![0, 0];
+    problem.jacobian = vec![0.0, -1.0, 1.0, -1.0, 0.0, -1.0, 1.0, 0.0];
+    problem.values = vec![-off, -off];
+    problem.lower = vec![-1338.0, f64::NEG_INFINITY, f64::NEG_INFINITY, 0.0];
+    Case { problem, exact: vec![0.0, -off * 1600.0 / 1700.0, off * 100.0 / 1700.0, 0.0], spreads: spreads.to_vec() }
+}
+
 /// The largest error, and the largest violation of a bound or of the header, in spreads.
 fn measured(case: &Case, d: &[f64]) -> (f64, f64) {
     let (p, s) = (&case.problem, &case.spreads);
@@ -87,8 +101,8 @@ fn measured(case: &Case, d: &[f64]) -> (f64, f64) {
     let error = largest((0..n).map(|i| (d[i] - case.exact[i]).abs() / s[i]).collect());
     let below = |i: usize| (p.lower[i] - d[i]).max(d[i] - p.upper[i]) / s[i];
     let mut violations: Vec<f64> = (0..n).map(below).collect();
-    if let [value] = p.values[..] {
-        let sum: f64 = p.jacobian.iter().zip(d).map(|(a, d)| a * d).sum();
+    for (row, value) in p.jacobian.chunks(n).zip(&p.values) {
+        let sum: f64 = row.iter().zip(d).map(|(a, d)| a * d).sum();
         violations.push((sum + value).abs());
     }
     (error, largest(violations))
@@ -163,8 +177,8 @@ pub fn table() {
         "family", "distance", "ours err", "ours viol", "Rust", "NL err", "NL viol", TOLERANCES.map(|t| format!("{t:e}")).join(" ")
     );
     type Family = (&'static str, fn(f64) -> Case);
-    let families: [Family; 4] =
-        [("floor", floor), ("pulled", pulled), ("header", header_floor), ("idle", header_idle)];
+    let families: [Family; 5] =
+        [("floor", floor), ("pulled", pulled), ("header", header_floor), ("idle", header_idle), ("pinned", pinned)];
     for (name, make) in families {
         for k in 0..=32 {
             let z = 10f64.powf(f64::from(k) / 4.0);

@@ -1,14 +1,14 @@
 #!/usr/bin/env python3
 """A second reading of docs/RULES.md, "The day's sheet" and "The day's report", and drawn sheets to hold the program against it.
 
-    oracle/day/day.py sheets --program target/bin/day [--count 20000] [--seed 1]    drawn sheets through the program, byte by byte
+    oracle/day/day.py sheets --program target/bin/day [--count 20000] [--seed 1]    the sheets of examples/ and drawn ones through the program, byte by byte
     oracle/day/day.py slips [--count 2000] [--seed 1]    wrong readings of the rules: on how many of the sheets each is told
     oracle/day/day.py one --index K [--seed 1]           one drawn sheet, and the report that it is owed
     oracle/day/day.py report < SHEET                     the report that a sheet is owed
     oracle/day/day.py endless --program target/bin/day   input without an end: a refusal, and the program ends
     oracle/day/day.py decimals write [--count 1000000] [--seed 1] > LINES    decimals to be read, and f64s to be printed
     oracle/day/day.py decimals check [--count 1000000] [--seed 1] < ANSWERS  a program's answers to these lines
-    oracle/day/day.py accuracy [--count 20000] [--seed 1]    the corrected volumes beside exact ones, worked out with fractions
+    oracle/day/day.py accuracy [--count 4000] [--seed 1]     days of four kinds beside their exact answers (exact.py): how many that close are off
     oracle/day/day.py example                            writes examples/plant.readings, a day of twelve meters
 
 Written from the rules alone: reading and printing of decimals by whole numbers. The corrected volumes are those of gritstrut_reconcile, which is compared with
@@ -26,6 +26,8 @@ import threading
 from concurrent.futures import ThreadPoolExecutor
 from fractions import Fraction
 from math import ldexp
+
+from exact import least
 
 HERE = os.path.dirname(os.path.abspath(__file__))
 ROOT = os.path.dirname(os.path.dirname(HERE))
@@ -309,7 +311,7 @@ def refusal(number, place, sheet, slip):
     if slip == "a balance is named by the meters":
         balances = meters
     return {
-        11: lambda: f"refused 11: {balances[place]} depends on the balances before it",
+        11: lambda: f"refused 11: {balances[place]} is zero, or depends on the others",
         12: lambda: f"refused 12: {meters[place]}: reading over 999999",
         13: lambda: f"refused 13: {meters[place]}: spread not above zero",
         5: lambda: "refused 5: the spreads are too far apart, or one is out of range",
@@ -826,8 +828,23 @@ def place_of(data, solve):
         return 0
 
 
+def examples(program, solve):
+    """The sheets of examples/ that have a report there: whether the program and this reading both write that report."""
+    agree = True
+    folder = os.path.join(ROOT, "examples")
+    for name in sorted(name for name in os.listdir(folder) if name.endswith(".sheet")):
+        with open(os.path.join(folder, name), "rb") as sheet, open(os.path.join(folder, name[:-5] + "report"), "rb") as report:
+            data, owed = sheet.read(), report.read()
+        done = subprocess.run([program], input=data, capture_output=True)
+        same = done.stdout == owed == text_of(report_of(data, solve))
+        print(f"examples/{name}: {'as stored' if same else 'DIFFERS'}")
+        agree &= same
+    return agree
+
+
 def sheets(options):
     solve, seen, wrong = Solver(), fresh(), []
+    agree = examples(options.program, solve)
 
     def one(span):
         bad = []
@@ -847,7 +864,7 @@ def sheets(options):
     for index, kind in sorted(wrong)[:20]:
         print(f"differs: sheet {index} ({kind}), seed {options.seed}")
     print(f"{options.count:,} sheets, seed {options.seed}: {len(wrong)} differ")
-    return counted(seen) and not wrong
+    return counted(seen) and agree and not wrong
 
 
 def slips(options):
@@ -965,61 +982,54 @@ def decimals(options):
     return not wrong and not rest
 
 
-def solved(matrix, right):
-    """The exact solution of a square system, or None."""
-    rows = [list(row) + [r] for row, r in zip(matrix, right)]
-    for k in range(len(rows)):
-        pivot = next((i for i in range(k, len(rows)) if rows[i][k]), None)
-        if pivot is None:
-            return None
-        rows[k], rows[pivot] = rows[pivot], rows[k]
-        rows[k] = [x / rows[k][k] for x in rows[k]]
-        for i in range(len(rows)):
-            if i != k and rows[i][k]:
-                rows[i] = [x - rows[i][k] * y for x, y in zip(rows[i], rows[k])]
-    return [row[-1] for row in rows]
+def idle(rng):
+    """A network with a meter that is in no balance."""
+    volumes, spreads, rows = network(rng, most=15)
+    at = rng.randrange(len(volumes) + 1)
+    put = lambda xs, x: xs[:at] + [x] + xs[at:]
+    return put(volumes, rng.randrange(1, 60000)), put(spreads, some_decimal(rng, 0.5, 60.0)), [put(row, 0) for row in rows]
 
 
-def exact(sheet, corrected):
-    """The least corrections without any rounding: the meters at zero are guessed from the answer, and the guess is tried. None where it does not hold."""
-    volumes = [Fraction((new - old) % 1000000) for _, old, new, _ in sheet.meters]
-    squares = [Fraction(spread) ** 2 for _, _, _, spread in sheet.meters]
-    rows = [[Fraction(c) for c in row] for _, row in sheet.balances]
-    free = [x > 1e-3 * spread for x, (_, _, _, spread) in zip(corrected, sheet.meters)]
-    matrix = [[sum(a * b * q for a, b, q, f in zip(r, t, squares, free) if f) for t in rows] for r in rows]
-    shares = solved(matrix, [sum(a * v for a, v, f in zip(r, volumes, free) if f) for r in rows])
-    if shares is None:
-        return None
-    pulls = [sum(row[i] * share for row, share in zip(rows, shares)) for i in range(len(volumes))]
-    answer = [v - q * pull if f else Fraction(0) for v, q, pull, f in zip(volumes, squares, pulls, free)]
-    held = all(x >= 0 for x in answer) and all(f or pull * q >= v for v, q, pull, f in zip(volumes, squares, pulls, free))
-    return answer if held else None
+def pinned(rng):
+    """A network with a meter in no balance and one more, at rest, that the balances alone hold at zero: one balance stands with it and without it."""
+    volumes, spreads, rows = network(rng, most=14, headers=rng.randrange(1, 4))
+    volumes, spreads = volumes + [0, rng.randrange(1, 60000)], spreads + [some_decimal(rng, 0.5, 60.0), some_decimal(rng, 0.5, 60.0)]
+    rows = [row + [0, 0] for row in rows]
+    return volumes, spreads, rows + [rows[0][:-2] + [rng.choice((1, -1)), 0]]
+
+
+def weighed(rng):
+    """Meters whose coefficients are tenths up to 9.9, and volumes that come near to closing."""
+    volumes, spreads, rows = network(rng)
+    return volumes, spreads, [[round(c * rng.randrange(1, 100) / 10, 1) if c else 0 for c in row] for row in rows]
 
 
 def accuracy(options):
-    """Networks of meters as they are drawn for the comparison: how far the answers are from the exact ones, by the largest correction in spreads."""
-    solve, found, undecided = Solver(), {}, 0
-    for index in range(options.count):
-        rng = random.Random(f"accuracy {options.seed} {index}")
-        sheet = sheet_of("\n".join(" ".join(words) for words in sound(rng)).encode())
-        number, _, corrected = solve(sheet)
-        answer = None if number else exact(sheet, corrected)
-        if answer is None:
-            undecided += 1
-            continue
-        off = [abs(Fraction(x) - y) for x, y in zip(corrected, answer)]
-        largest = max(abs(y - (new - old) % 1000000) / Fraction(spread) for y, (_, old, new, spread) in zip(answer, sheet.meters))
-        state = "a meter is marked" if min(corrected) < 0 else "a meter is at zero" if 0 in answer else "no meter is at zero"
-        key = (state, next(k for k in (10, 100, 1000, 10000, 100000, 10 ** 9) if largest <= k))
-        part = found.setdefault(key, [0, 0.0, 0.0, 0.0])
-        part[0] += 1
-        part[1] = max(part[1], float(max(off)))
-        part[2] = max(part[2], float(max(o / Fraction(m[3]) for o, m in zip(off, sheet.meters))))
-        part[3] = max(part[3], max(abs(dot(row, corrected)) for _, row in sheet.balances))
-    for (state, most), (count, off, spreads_off, left) in sorted(found.items()):
-        print(f"{state}, largest correction up to {most:,} spreads: {count:,} networks; off by {off:.2g}, {spreads_off:.2g} spreads; left {left:.2g}")
-    print(f"refused, or not decided: {undecided:,}")
-    return len(found) > 4
+    """Days of four kinds, each with its exact answer: how many that close are off, and by how much, in spreads."""
+    solve, wrong = Solver(), 0
+    print(f"{'kind':<10} {'days':>7} {'refused':>8} {'open':>7} {'closes':>7} {'to 1e-6':>8} {'to 1e-3':>8} {'off more':>9} {'unseen':>7} {'most':>9}")
+    for kind in (network, idle, weighed, pinned):
+        counts, most = dict.fromkeys(("refused", "open", "closes", "fine", "fair", "off", "unseen"), 0), 0.0
+        for index in range(options.count):
+            rng = random.Random(f"accuracy {kind.__name__} {options.seed} {index}")
+            lines = sheet_lines(rng, *kind(rng), tolerance="0.001")
+            sheet = sheet_of("\n".join(" ".join(words) for words in lines).encode())
+            number, _, corrected = solve(sheet)
+            rows, spreads = [row for _, row in sheet.balances], [Fraction(meter[3]) for meter in sheet.meters]
+            if number or not (min(corrected) >= 0 and all(abs(dot(row, corrected)) <= sheet.tolerance for row in rows)):
+                counts["refused" if number else "open"] += 1
+                continue
+            volumes, n = [(new - old) % 1000000 for _, old, new, _ in sheet.meters], len(sheet.meters)
+            answer = least(volumes, spreads, rows, [[int(i == j) for j in range(n)] for i in range(n)], [0] * n)[0]
+            off = float(max(abs(Fraction(x) - y) / s for x, y, s in zip(corrected, answer, spreads)))
+            within = all(abs(x - v) <= 3 * s for x, v, s in zip(corrected, volumes, spreads))
+            counts["closes"] += 1
+            counts["fine" if off <= 1e-6 else "fair" if off <= 1e-3 else "off"] += 1
+            counts["unseen"] += off > 1e-3 and within
+            most = max(most, off)
+        wrong += counts["off"]
+        print(f"{kind.__name__:<10} {options.count:>7,} " + " ".join(f"{counts[key]:>{width},}" for key, width in zip(counts, (8, 7, 7, 8, 8, 9, 7))) + f" {most:>9.2g}")
+    return wrong > 0
 
 
 def example(options):
@@ -1044,7 +1054,7 @@ def example(options):
 def main():
     parser = argparse.ArgumentParser(description=__doc__, formatter_class=argparse.RawDescriptionHelpFormatter)
     verbs = {"sheets": (sheets, 20000), "slips": (slips, 2000), "one": (one, 1), "report": (report, 1), "endless": (endless, 1), "decimals": (decimals, 1000000),
-             "accuracy": (accuracy, 20000), "example": (example, 1)}
+             "accuracy": (accuracy, 4000), "example": (example, 1)}
     commands = parser.add_subparsers(dest="verb", required=True)
     for verb, (_, count) in verbs.items():
         command = commands.add_parser(verb)

@@ -27,15 +27,21 @@ fn tell_phase(phase: u32) {
     tell_count(b"stands", phase as u64);
 }
 
-// The first word, and the point that is asked about; of a run that has ended the accepted point and its value.
+// The point that is asked about, where one is.
+fn tell_question(machine: &[f64], words: &[u32])
+    requires { ⌜ (length (now machine) ≡ 1024) × (length (now words) ≡ 32) ⌝ }
+{
+    if words[0] < 6 {
+        tell_floats(b"asks at", &machine[976..977]);
+    }
+}
+
+// The first word, the question, and what is reported: the accepted point and its value.
 fn tell_standing(machine: &[f64], words: &[u32])
     requires { ⌜ (length (now machine) ≡ 1024) × (length (now words) ≡ 32) ⌝ }
 {
     tell_phase(words[0]);
-    if words[0] < 6 {
-        tell_floats(b"asks at", &machine[976..977]);
-        return;
-    }
+    tell_question(machine, words);
     tell_floats(b"x", &machine[48..49]);
     tell_floats(b"value", &machine[128..129]);
 }

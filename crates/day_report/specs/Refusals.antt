@@ -61,7 +61,7 @@ plainText number =
 
 unfoldable pub reasonText : List ℕ → (number place : ℕ) → List ℕ
 reasonText names number place =
-    cond (eqb number 11) (nameText names (16 + place) ++ ascii " depends on the balances before it")
+    cond (eqb number 11) (nameText names (16 + place) ++ ascii " is zero, or depends on the others")
     (cond (eqb number 12) (nameText names place ++ ascii ": reading over 999999")
     (cond (eqb number 13) (nameText names place ++ ascii ": spread not above zero")
     (plainText number)))

@@ -122,7 +122,7 @@ fn put_reason(out: &mut [u8], at: usize, names: &[u8], number: u32, place: u32) 
             at,
             names,
             16 + k,
-            b" depends on the balances before it",
+            b" is zero, or depends on the others",
         );
     }
     if number == 12 {

@@ -1,5 +1,5 @@
 // The record program: standard input to standard output. The first 9,504 bytes decide the answer (`FirstBytesDecide` of
-// report's specs/Claims.antt), so no more is read. A read or a write that fails is told on standard error.
+// record_answer's specs/Claims.antt), so no more is read. A read or a write that fails is told on standard error.
 use input::Reading;
 use libc::STDERR_FILENO;
 use libc::STDIN_FILENO;

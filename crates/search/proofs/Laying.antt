@@ -92,6 +92,14 @@ nums-here o n v w e h = sym (tab-of n v _ 0 e (λ i l. sym (laid-in o v w i 0 (o
 pub vec-laid : (o n : ℕ) (v w : List Float) (k : ℕ) → length v ≡ n → length w ≡ k → o + n ≤ k → vec o n (laid o v w) ≡ v
 vec-laid o n v w k e z h = vec-here o n v w e (omega arith)
 
+-- apart from what was laid
+abbrev pub Apart : (o n p c : ℕ) → Type 0
+Apart o n p c = (o + n ≤ p) ⊎ (p + c ≤ o)
+
+pub vec-apart : (o n p : ℕ) (v w : List Float) → Apart o n p (length v) → vec o n (laid p v w) ≡ vec o n w
+vec-apart o n p v w (inl h) = vec-below o n p v w h
+vec-apart o n p v w (inr h) = vec-above o n p v w h
+
 -- ---- what laying does
 
 -- two lists with the same entries

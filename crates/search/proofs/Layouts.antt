@@ -13,13 +13,14 @@ use Rattle.numbers.specs.Numbers.{+0, at, nth, tab}
 use Rattle.numbers.proofs.Lists.{length-tab, getD-tab, tab-same, tab-of}
 use Rattle.nnls.proofs.Signs.{T→true}
 use Rattle.search.proofs.Laying.{size, laid-in, laid-below, laid-above, vec-below, vec-above, vec-laid, nums-above, nums-here}
+use Rattle.search.proofs.Reported.{report-read}
 use Rattle.workspace.specs.Tables.{isDimension, isConstraints}
 use Rattle.workspace.specs.inner.Readings.{vec, nums}
 use Rattle.search.specs.Setup.{Setup, isBudget, isScheme, areKinds, Scheme, told, forward, central, Point, Report, Question, values, slopes, single, Ending, converged, infeasible, exhausted, nonfinite}
 use Rattle.search.specs.Turn.{Iterate, Line, backtracks, pointOf, along, raise, lower}
 use Rattle.search.specs.Written.{Goal, begun, taken, Standing, over, waits}
-use Rattle.search.specs.Machine.{Machine, ended, starting, trying, sloping, raised, lowered, standing}
-use Rattle.search.specs.Layout.{schemeOf, schemeNumber, endingNumber, bit, setupIn, pointIn, newIn, iterateIn, lineIn, goalIn, reportIn, known, stateIn, areWords, machineIn, laid, setupFloats, setupWords, emptied, pointFloats, newFloats, iterateFloats, goalFloats, stateFloats, askedFloats, machineFloats, isTaken, isFresh, seven, machineWords, FitsPoint, FitsIterate, FitsGoal, Fits, Posed, Holds, Begun, Kept}
+use Rattle.search.specs.Machine.{Machine, ended, starting, trying, sloping, raised, lowered, standing, reportNow}
+use Rattle.search.specs.Layout.{schemeOf, schemeNumber, endingNumber, bit, setupIn, pointIn, newIn, iterateIn, lineIn, goalIn, reportIn, known, stateIn, areWords, machineIn, laid, setupFloats, setupWords, emptied, pointFloats, newFloats, iterateFloats, reportFloats, goalFloats, stateFloats, askedFloats, machineFloats, isTaken, isFresh, seven, machineWords, FitsPoint, FitsIterate, FitsGoal, Fits, Posed, Holds, Begun, Kept}
 
 -- ---- an iterate
 
@@ -94,21 +95,21 @@ module _ (n m : ℕ) (l : n ≤ 16) (k : m ≤ 16) (B₁ : suc m * n ≤ 272) (B
       ∙ laid-below 128 _ _ 0 nan (omega arith)
 
   -- what slopes are for
-  goal-size : (goal : Goal) (f : List Float) → length f ≡ 1024 → length (goalFloats goal f) ≡ 1024
-  goal-size begun f e = e
-  goal-size (taken s) f e = iterate-size s f e
+  goal-size : (p : Setup) (goal : Goal) (q : Point) (f : List Float) → length f ≡ 1024 → length (goalFloats p goal q f) ≡ 1024
+  goal-size p begun q f e = size _ _ _ _ (size _ _ _ _ (size _ _ _ _ e))
+  goal-size p (taken s) q f e = iterate-size s f e
 
-  goal-lower : (goal : Goal) (f : List Float) → FitsGoal n m goal → length f ≡ 1024 → vec 16 n (goalFloats goal f) ≡ vec 16 n f
-  goal-lower begun f h e = refl
-  goal-lower (taken s) f h e = iterate-lower s f h e
+  goal-lower : (p : Setup) (goal : Goal) (q : Point) (f : List Float) → FitsGoal n m goal → length f ≡ 1024 → vec 16 n (goalFloats p goal q f) ≡ vec 16 n f
+  goal-lower p begun q f h e = vec-below 16 n 96 _ _ (omega arith) ∙ vec-below 16 n 48 _ _ (omega arith) ∙ vec-below 16 n 128 _ _ (omega arith)
+  goal-lower p (taken s) q f h e = iterate-lower s f h e
 
-  goal-upper : (goal : Goal) (f : List Float) → FitsGoal n m goal → length f ≡ 1024 → vec 32 n (goalFloats goal f) ≡ vec 32 n f
-  goal-upper begun f h e = refl
-  goal-upper (taken s) f h e = iterate-upper s f h e
+  goal-upper : (p : Setup) (goal : Goal) (q : Point) (f : List Float) → FitsGoal n m goal → length f ≡ 1024 → vec 32 n (goalFloats p goal q f) ≡ vec 32 n f
+  goal-upper p begun q f h e = vec-below 32 n 96 _ _ (omega arith) ∙ vec-below 32 n 48 _ _ (omega arith) ∙ vec-below 32 n 128 _ _ (omega arith)
+  goal-upper p (taken s) q f h e = iterate-upper s f h e
 
-  goal-ftol : (goal : Goal) (f : List Float) → FitsGoal n m goal → length f ≡ 1024 → at (goalFloats goal f) 0 ≡ at f 0
-  goal-ftol begun f h e = refl
-  goal-ftol (taken s) f h e = iterate-ftol s f h e
+  goal-ftol : (p : Setup) (goal : Goal) (q : Point) (f : List Float) → FitsGoal n m goal → length f ≡ 1024 → at (goalFloats p goal q f) 0 ≡ at f 0
+  goal-ftol p begun q f h e = laid-below 96 _ _ 0 nan (omega arith) ∙ laid-below 48 _ _ 0 nan (omega arith) ∙ laid-below 128 _ _ 0 nan (omega arith)
+  goal-ftol p (taken s) q f h e = iterate-ftol s f h e
 
   pub is-one : (t : Bool) → eqb (bit t) 1 ≡ t
   is-one true = refl
@@ -203,37 +204,37 @@ module _ (n m : ℕ) (l : n ≤ 16) (k : m ≤ 16) (B₁ : suc m * n ≤ 272) (B
       ∙ laid-in 1 (α ∷ line .merit ∷ line .slope ∷ []) (laid 64 (line .d) (iterateFloats s f)) 2 nan (omega arith) (omega arith)
 
   -- slopes are asked for
-  sloping-lower : (goal : Goal) (q : Point) (x f : List Float) → FitsGoal n m goal → FitsPoint n m q → length x ≡ n → length f ≡ 1024 → vec 16 n (laid 976 x (laid 112 (q .x) (laid 152 (q .values) (goalFloats goal f)))) ≡ vec 16 n f
-  sloping-lower goal q x f h hq hx e =
+  sloping-lower : (p : Setup) (goal : Goal) (q : Point) (x f : List Float) → FitsGoal n m goal → FitsPoint n m q → length x ≡ n → length f ≡ 1024 → vec 16 n (laid 976 x (laid 112 (q .x) (laid 152 (q .values) (goalFloats p goal q f)))) ≡ vec 16 n f
+  sloping-lower p goal q x f h hq hx e =
       vec-below 16 n 976 _ _ (omega arith)
       ∙ vec-below 16 n 112 _ _ (omega arith)
       ∙ vec-below 16 n 152 _ _ (omega arith)
-      ∙ goal-lower goal f h e
+      ∙ goal-lower p goal q f h e
 
-  sloping-upper : (goal : Goal) (q : Point) (x f : List Float) → FitsGoal n m goal → FitsPoint n m q → length x ≡ n → length f ≡ 1024 → vec 32 n (laid 976 x (laid 112 (q .x) (laid 152 (q .values) (goalFloats goal f)))) ≡ vec 32 n f
-  sloping-upper goal q x f h hq hx e =
+  sloping-upper : (p : Setup) (goal : Goal) (q : Point) (x f : List Float) → FitsGoal n m goal → FitsPoint n m q → length x ≡ n → length f ≡ 1024 → vec 32 n (laid 976 x (laid 112 (q .x) (laid 152 (q .values) (goalFloats p goal q f)))) ≡ vec 32 n f
+  sloping-upper p goal q x f h hq hx e =
       vec-below 32 n 976 _ _ (omega arith)
       ∙ vec-below 32 n 112 _ _ (omega arith)
       ∙ vec-below 32 n 152 _ _ (omega arith)
-      ∙ goal-upper goal f h e
+      ∙ goal-upper p goal q f h e
 
-  sloping-ftol : (goal : Goal) (q : Point) (x f : List Float) → FitsGoal n m goal → FitsPoint n m q → length x ≡ n → length f ≡ 1024 → at (laid 976 x (laid 112 (q .x) (laid 152 (q .values) (goalFloats goal f)))) 0 ≡ at f 0
-  sloping-ftol goal q x f h hq hx e =
+  sloping-ftol : (p : Setup) (goal : Goal) (q : Point) (x f : List Float) → FitsGoal n m goal → FitsPoint n m q → length x ≡ n → length f ≡ 1024 → at (laid 976 x (laid 112 (q .x) (laid 152 (q .values) (goalFloats p goal q f)))) 0 ≡ at f 0
+  sloping-ftol p goal q x f h hq hx e =
       laid-below 976 _ _ 0 nan (omega arith)
       ∙ laid-below 112 _ _ 0 nan (omega arith)
       ∙ laid-below 152 _ _ 0 nan (omega arith)
-      ∙ goal-ftol goal f h e
+      ∙ goal-ftol p goal q f h e
 
-  sloping-NX : (goal : Goal) (q : Point) (x f : List Float) → FitsGoal n m goal → FitsPoint n m q → length x ≡ n → length f ≡ 1024 → vec 112 n (laid 976 x (laid 112 (q .x) (laid 152 (q .values) (goalFloats goal f)))) ≡ q .x
-  sloping-NX goal q x f h hq hx e =
+  sloping-NX : (p : Setup) (goal : Goal) (q : Point) (x f : List Float) → FitsGoal n m goal → FitsPoint n m q → length x ≡ n → length f ≡ 1024 → vec 112 n (laid 976 x (laid 112 (q .x) (laid 152 (q .values) (goalFloats p goal q f)))) ≡ q .x
+  sloping-NX p goal q x f h hq hx e =
       vec-below 112 n 976 _ _ (omega arith)
-      ∙ vec-laid 112 n _ _ 1024 (hq .x) (size _ _ _ _ (goal-size goal f e)) (omega arith)
+      ∙ vec-laid 112 n _ _ 1024 (hq .x) (size _ _ _ _ (goal-size p goal q f e)) (omega arith)
 
-  sloping-NV : (goal : Goal) (q : Point) (x f : List Float) → FitsGoal n m goal → FitsPoint n m q → length x ≡ n → length f ≡ 1024 → vec 152 (suc m) (laid 976 x (laid 112 (q .x) (laid 152 (q .values) (goalFloats goal f)))) ≡ q .values
-  sloping-NV goal q x f h hq hx e =
+  sloping-NV : (p : Setup) (goal : Goal) (q : Point) (x f : List Float) → FitsGoal n m goal → FitsPoint n m q → length x ≡ n → length f ≡ 1024 → vec 152 (suc m) (laid 976 x (laid 112 (q .x) (laid 152 (q .values) (goalFloats p goal q f)))) ≡ q .values
+  sloping-NV p goal q x f h hq hx e =
       vec-below 152 (suc m) 976 _ _ (omega arith)
       ∙ vec-above 152 (suc m) 112 _ _ (omega arith)
-      ∙ vec-laid 152 (suc m) _ _ 1024 (hq .values) (goal-size goal f e) (omega arith)
+      ∙ vec-laid 152 (suc m) _ _ 1024 (hq .values) (goal-size p goal q f e) (omega arith)
 
   sloping-SL : (s : Iterate) (q : Point) (x f : List Float) → FitsIterate n m s → FitsPoint n m q → length x ≡ n → length f ≡ 1024 → vec 176 (suc m * n) (laid 976 x (laid 112 (q .x) (laid 152 (q .values) (iterateFloats s f)))) ≡ s .slopes
   sloping-SL s q x f h hq hx e =
@@ -277,9 +278,9 @@ module _ (n m : ℕ) (l : n ≤ 16) (k : m ≤ 16) (B₁ : suc m * n ≤ 272) (B
       ∙ vec-below 128 (suc m) 152 _ _ (omega arith)
       ∙ iterate-PV s f h e
 
-  sloping-goal : (goal : Goal) (q : Point) (x f : List Float) → FitsGoal n m goal → FitsPoint n m q → length x ≡ n → length f ≡ 1024 → (u : List ℕ) → nth u 3 ≡ bit (isFresh goal) → nth u 4 ≡ bit (isTaken goal) → goalIn n m (laid 976 x (laid 112 (q .x) (laid 152 (q .values) (goalFloats goal f)))) u ≡ goal
-  sloping-goal begun q x f h hq hx e u e₃ e₄ = rw e₄ refl
-  sloping-goal (taken s) q x f h hq hx e u e₃ e₄ =
+  sloping-goal : (p : Setup) (goal : Goal) (q : Point) (x f : List Float) → FitsGoal n m goal → FitsPoint n m q → length x ≡ n → length f ≡ 1024 → (u : List ℕ) → nth u 3 ≡ bit (isFresh goal) → nth u 4 ≡ bit (isTaken goal) → goalIn n m (laid 976 x (laid 112 (q .x) (laid 152 (q .values) (goalFloats p goal q f)))) u ≡ goal
+  sloping-goal p begun q x f h hq hx e u e₃ e₄ = rw e₄ refl
+  sloping-goal p (taken s) q x f h hq hx e u e₃ e₄ =
       rw (e₄, e₃) (λ i. taken (record {
         point = record { x = sloping-PX s q x f h hq hx e i; values = sloping-PV s q x f h hq hx e i };
         slopes = sloping-SL s q x f h hq hx e i;
@@ -290,47 +291,47 @@ module _ (n m : ℕ) (l : n ≤ 16) (k : m ≤ 16) (B₁ : suc m * n ≤ 272) (B
       }))
 
   -- a value at a moved point is
-  raised-lower : (goal : Goal) (q : Point) (c : ℕ) (g : List Float) (x f : List Float) → FitsGoal n m goal → FitsPoint n m q → length g ≡ c → c ≤ 272 → length x ≡ n → length f ≡ 1024 → vec 16 n (laid 976 x (laid 448 g (laid 112 (q .x) (laid 152 (q .values) (goalFloats goal f))))) ≡ vec 16 n f
-  raised-lower goal q c g x f h hq hg hc hx e =
+  raised-lower : (p : Setup) (goal : Goal) (q : Point) (c : ℕ) (g : List Float) (x f : List Float) → FitsGoal n m goal → FitsPoint n m q → length g ≡ c → c ≤ 272 → length x ≡ n → length f ≡ 1024 → vec 16 n (laid 976 x (laid 448 g (laid 112 (q .x) (laid 152 (q .values) (goalFloats p goal q f))))) ≡ vec 16 n f
+  raised-lower p goal q c g x f h hq hg hc hx e =
       vec-below 16 n 976 _ _ (omega arith)
       ∙ vec-below 16 n 448 _ _ (omega arith)
       ∙ vec-below 16 n 112 _ _ (omega arith)
       ∙ vec-below 16 n 152 _ _ (omega arith)
-      ∙ goal-lower goal f h e
+      ∙ goal-lower p goal q f h e
 
-  raised-upper : (goal : Goal) (q : Point) (c : ℕ) (g : List Float) (x f : List Float) → FitsGoal n m goal → FitsPoint n m q → length g ≡ c → c ≤ 272 → length x ≡ n → length f ≡ 1024 → vec 32 n (laid 976 x (laid 448 g (laid 112 (q .x) (laid 152 (q .values) (goalFloats goal f))))) ≡ vec 32 n f
-  raised-upper goal q c g x f h hq hg hc hx e =
+  raised-upper : (p : Setup) (goal : Goal) (q : Point) (c : ℕ) (g : List Float) (x f : List Float) → FitsGoal n m goal → FitsPoint n m q → length g ≡ c → c ≤ 272 → length x ≡ n → length f ≡ 1024 → vec 32 n (laid 976 x (laid 448 g (laid 112 (q .x) (laid 152 (q .values) (goalFloats p goal q f))))) ≡ vec 32 n f
+  raised-upper p goal q c g x f h hq hg hc hx e =
       vec-below 32 n 976 _ _ (omega arith)
       ∙ vec-below 32 n 448 _ _ (omega arith)
       ∙ vec-below 32 n 112 _ _ (omega arith)
       ∙ vec-below 32 n 152 _ _ (omega arith)
-      ∙ goal-upper goal f h e
+      ∙ goal-upper p goal q f h e
 
-  raised-ftol : (goal : Goal) (q : Point) (c : ℕ) (g : List Float) (x f : List Float) → FitsGoal n m goal → FitsPoint n m q → length g ≡ c → c ≤ 272 → length x ≡ n → length f ≡ 1024 → at (laid 976 x (laid 448 g (laid 112 (q .x) (laid 152 (q .values) (goalFloats goal f))))) 0 ≡ at f 0
-  raised-ftol goal q c g x f h hq hg hc hx e =
+  raised-ftol : (p : Setup) (goal : Goal) (q : Point) (c : ℕ) (g : List Float) (x f : List Float) → FitsGoal n m goal → FitsPoint n m q → length g ≡ c → c ≤ 272 → length x ≡ n → length f ≡ 1024 → at (laid 976 x (laid 448 g (laid 112 (q .x) (laid 152 (q .values) (goalFloats p goal q f))))) 0 ≡ at f 0
+  raised-ftol p goal q c g x f h hq hg hc hx e =
       laid-below 976 _ _ 0 nan (omega arith)
       ∙ laid-below 448 _ _ 0 nan (omega arith)
       ∙ laid-below 112 _ _ 0 nan (omega arith)
       ∙ laid-below 152 _ _ 0 nan (omega arith)
-      ∙ goal-ftol goal f h e
+      ∙ goal-ftol p goal q f h e
 
-  raised-NX : (goal : Goal) (q : Point) (c : ℕ) (g : List Float) (x f : List Float) → FitsGoal n m goal → FitsPoint n m q → length g ≡ c → c ≤ 272 → length x ≡ n → length f ≡ 1024 → vec 112 n (laid 976 x (laid 448 g (laid 112 (q .x) (laid 152 (q .values) (goalFloats goal f))))) ≡ q .x
-  raised-NX goal q c g x f h hq hg hc hx e =
+  raised-NX : (p : Setup) (goal : Goal) (q : Point) (c : ℕ) (g : List Float) (x f : List Float) → FitsGoal n m goal → FitsPoint n m q → length g ≡ c → c ≤ 272 → length x ≡ n → length f ≡ 1024 → vec 112 n (laid 976 x (laid 448 g (laid 112 (q .x) (laid 152 (q .values) (goalFloats p goal q f))))) ≡ q .x
+  raised-NX p goal q c g x f h hq hg hc hx e =
       vec-below 112 n 976 _ _ (omega arith)
       ∙ vec-below 112 n 448 _ _ (omega arith)
-      ∙ vec-laid 112 n _ _ 1024 (hq .x) (size _ _ _ _ (goal-size goal f e)) (omega arith)
+      ∙ vec-laid 112 n _ _ 1024 (hq .x) (size _ _ _ _ (goal-size p goal q f e)) (omega arith)
 
-  raised-NV : (goal : Goal) (q : Point) (c : ℕ) (g : List Float) (x f : List Float) → FitsGoal n m goal → FitsPoint n m q → length g ≡ c → c ≤ 272 → length x ≡ n → length f ≡ 1024 → vec 152 (suc m) (laid 976 x (laid 448 g (laid 112 (q .x) (laid 152 (q .values) (goalFloats goal f))))) ≡ q .values
-  raised-NV goal q c g x f h hq hg hc hx e =
+  raised-NV : (p : Setup) (goal : Goal) (q : Point) (c : ℕ) (g : List Float) (x f : List Float) → FitsGoal n m goal → FitsPoint n m q → length g ≡ c → c ≤ 272 → length x ≡ n → length f ≡ 1024 → vec 152 (suc m) (laid 976 x (laid 448 g (laid 112 (q .x) (laid 152 (q .values) (goalFloats p goal q f))))) ≡ q .values
+  raised-NV p goal q c g x f h hq hg hc hx e =
       vec-below 152 (suc m) 976 _ _ (omega arith)
       ∙ vec-below 152 (suc m) 448 _ _ (omega arith)
       ∙ vec-above 152 (suc m) 112 _ _ (omega arith)
-      ∙ vec-laid 152 (suc m) _ _ 1024 (hq .values) (goal-size goal f e) (omega arith)
+      ∙ vec-laid 152 (suc m) _ _ 1024 (hq .values) (goal-size p goal q f e) (omega arith)
 
-  raised-G : (goal : Goal) (q : Point) (c : ℕ) (g : List Float) (x f : List Float) → FitsGoal n m goal → FitsPoint n m q → length g ≡ c → c ≤ 272 → length x ≡ n → length f ≡ 1024 → vec 448 c (laid 976 x (laid 448 g (laid 112 (q .x) (laid 152 (q .values) (goalFloats goal f))))) ≡ g
-  raised-G goal q c g x f h hq hg hc hx e =
+  raised-G : (p : Setup) (goal : Goal) (q : Point) (c : ℕ) (g : List Float) (x f : List Float) → FitsGoal n m goal → FitsPoint n m q → length g ≡ c → c ≤ 272 → length x ≡ n → length f ≡ 1024 → vec 448 c (laid 976 x (laid 448 g (laid 112 (q .x) (laid 152 (q .values) (goalFloats p goal q f))))) ≡ g
+  raised-G p goal q c g x f h hq hg hc hx e =
       vec-below 448 c 976 _ _ (omega arith)
-      ∙ vec-laid 448 c _ _ 1024 (hg) (size _ _ _ _ (size _ _ _ _ (goal-size goal f e))) (omega arith)
+      ∙ vec-laid 448 c _ _ 1024 (hg) (size _ _ _ _ (size _ _ _ _ (goal-size p goal q f e))) (omega arith)
 
   raised-SL : (s : Iterate) (q : Point) (c : ℕ) (g : List Float) (x f : List Float) → FitsIterate n m s → FitsPoint n m q → length g ≡ c → c ≤ 272 → length x ≡ n → length f ≡ 1024 → vec 176 (suc m * n) (laid 976 x (laid 448 g (laid 112 (q .x) (laid 152 (q .values) (iterateFloats s f))))) ≡ s .slopes
   raised-SL s q c g x f h hq hg hc hx e =
@@ -380,9 +381,9 @@ module _ (n m : ℕ) (l : n ≤ 16) (k : m ≤ 16) (B₁ : suc m * n ≤ 272) (B
       ∙ vec-below 128 (suc m) 152 _ _ (omega arith)
       ∙ iterate-PV s f h e
 
-  raised-goal : (goal : Goal) (q : Point) (c : ℕ) (g : List Float) (x f : List Float) → FitsGoal n m goal → FitsPoint n m q → length g ≡ c → c ≤ 272 → length x ≡ n → length f ≡ 1024 → (u : List ℕ) → nth u 3 ≡ bit (isFresh goal) → nth u 4 ≡ bit (isTaken goal) → goalIn n m (laid 976 x (laid 448 g (laid 112 (q .x) (laid 152 (q .values) (goalFloats goal f))))) u ≡ goal
-  raised-goal begun q c g x f h hq hg hc hx e u e₃ e₄ = rw e₄ refl
-  raised-goal (taken s) q c g x f h hq hg hc hx e u e₃ e₄ =
+  raised-goal : (p : Setup) (goal : Goal) (q : Point) (c : ℕ) (g : List Float) (x f : List Float) → FitsGoal n m goal → FitsPoint n m q → length g ≡ c → c ≤ 272 → length x ≡ n → length f ≡ 1024 → (u : List ℕ) → nth u 3 ≡ bit (isFresh goal) → nth u 4 ≡ bit (isTaken goal) → goalIn n m (laid 976 x (laid 448 g (laid 112 (q .x) (laid 152 (q .values) (goalFloats p goal q f))))) u ≡ goal
+  raised-goal p begun q c g x f h hq hg hc hx e u e₃ e₄ = rw e₄ refl
+  raised-goal p (taken s) q c g x f h hq hg hc hx e u e₃ e₄ =
       rw (e₄, e₃) (λ i. taken (record {
         point = record { x = raised-PX s q c g x f h hq hg hc hx e i; values = raised-PV s q c g x f h hq hg hc hx e i };
         slopes = raised-SL s q c g x f h hq hg hc hx e i;
@@ -392,59 +393,59 @@ module _ (n m : ℕ) (l : n ≤ 16) (k : m ≤ 16) (B₁ : suc m * n ≤ 272) (B
         multipliers = raised-MU s q c g x f h hq hg hc hx e i;
       }))
 
-  lowered-lower : (goal : Goal) (q : Point) (c : ℕ) (g : List Float) (v : Float) (x f : List Float) → FitsGoal n m goal → FitsPoint n m q → length g ≡ c → c ≤ 272 → length x ≡ n → length f ≡ 1024 → vec 16 n (laid 976 x (laid 4 (v ∷ []) (laid 448 g (laid 112 (q .x) (laid 152 (q .values) (goalFloats goal f)))))) ≡ vec 16 n f
-  lowered-lower goal q c g v x f h hq hg hc hx e =
+  lowered-lower : (p : Setup) (goal : Goal) (q : Point) (c : ℕ) (g : List Float) (v : Float) (x f : List Float) → FitsGoal n m goal → FitsPoint n m q → length g ≡ c → c ≤ 272 → length x ≡ n → length f ≡ 1024 → vec 16 n (laid 976 x (laid 4 (v ∷ []) (laid 448 g (laid 112 (q .x) (laid 152 (q .values) (goalFloats p goal q f)))))) ≡ vec 16 n f
+  lowered-lower p goal q c g v x f h hq hg hc hx e =
       vec-below 16 n 976 _ _ (omega arith)
       ∙ vec-above 16 n 4 _ _ (omega arith)
       ∙ vec-below 16 n 448 _ _ (omega arith)
       ∙ vec-below 16 n 112 _ _ (omega arith)
       ∙ vec-below 16 n 152 _ _ (omega arith)
-      ∙ goal-lower goal f h e
+      ∙ goal-lower p goal q f h e
 
-  lowered-upper : (goal : Goal) (q : Point) (c : ℕ) (g : List Float) (v : Float) (x f : List Float) → FitsGoal n m goal → FitsPoint n m q → length g ≡ c → c ≤ 272 → length x ≡ n → length f ≡ 1024 → vec 32 n (laid 976 x (laid 4 (v ∷ []) (laid 448 g (laid 112 (q .x) (laid 152 (q .values) (goalFloats goal f)))))) ≡ vec 32 n f
-  lowered-upper goal q c g v x f h hq hg hc hx e =
+  lowered-upper : (p : Setup) (goal : Goal) (q : Point) (c : ℕ) (g : List Float) (v : Float) (x f : List Float) → FitsGoal n m goal → FitsPoint n m q → length g ≡ c → c ≤ 272 → length x ≡ n → length f ≡ 1024 → vec 32 n (laid 976 x (laid 4 (v ∷ []) (laid 448 g (laid 112 (q .x) (laid 152 (q .values) (goalFloats p goal q f)))))) ≡ vec 32 n f
+  lowered-upper p goal q c g v x f h hq hg hc hx e =
       vec-below 32 n 976 _ _ (omega arith)
       ∙ vec-above 32 n 4 _ _ (omega arith)
       ∙ vec-below 32 n 448 _ _ (omega arith)
       ∙ vec-below 32 n 112 _ _ (omega arith)
       ∙ vec-below 32 n 152 _ _ (omega arith)
-      ∙ goal-upper goal f h e
+      ∙ goal-upper p goal q f h e
 
-  lowered-ftol : (goal : Goal) (q : Point) (c : ℕ) (g : List Float) (v : Float) (x f : List Float) → FitsGoal n m goal → FitsPoint n m q → length g ≡ c → c ≤ 272 → length x ≡ n → length f ≡ 1024 → at (laid 976 x (laid 4 (v ∷ []) (laid 448 g (laid 112 (q .x) (laid 152 (q .values) (goalFloats goal f)))))) 0 ≡ at f 0
-  lowered-ftol goal q c g v x f h hq hg hc hx e =
+  lowered-ftol : (p : Setup) (goal : Goal) (q : Point) (c : ℕ) (g : List Float) (v : Float) (x f : List Float) → FitsGoal n m goal → FitsPoint n m q → length g ≡ c → c ≤ 272 → length x ≡ n → length f ≡ 1024 → at (laid 976 x (laid 4 (v ∷ []) (laid 448 g (laid 112 (q .x) (laid 152 (q .values) (goalFloats p goal q f)))))) 0 ≡ at f 0
+  lowered-ftol p goal q c g v x f h hq hg hc hx e =
       laid-below 976 _ _ 0 nan (omega arith)
       ∙ laid-below 4 _ _ 0 nan (omega arith)
       ∙ laid-below 448 _ _ 0 nan (omega arith)
       ∙ laid-below 112 _ _ 0 nan (omega arith)
       ∙ laid-below 152 _ _ 0 nan (omega arith)
-      ∙ goal-ftol goal f h e
+      ∙ goal-ftol p goal q f h e
 
-  lowered-NX : (goal : Goal) (q : Point) (c : ℕ) (g : List Float) (v : Float) (x f : List Float) → FitsGoal n m goal → FitsPoint n m q → length g ≡ c → c ≤ 272 → length x ≡ n → length f ≡ 1024 → vec 112 n (laid 976 x (laid 4 (v ∷ []) (laid 448 g (laid 112 (q .x) (laid 152 (q .values) (goalFloats goal f)))))) ≡ q .x
-  lowered-NX goal q c g v x f h hq hg hc hx e =
+  lowered-NX : (p : Setup) (goal : Goal) (q : Point) (c : ℕ) (g : List Float) (v : Float) (x f : List Float) → FitsGoal n m goal → FitsPoint n m q → length g ≡ c → c ≤ 272 → length x ≡ n → length f ≡ 1024 → vec 112 n (laid 976 x (laid 4 (v ∷ []) (laid 448 g (laid 112 (q .x) (laid 152 (q .values) (goalFloats p goal q f)))))) ≡ q .x
+  lowered-NX p goal q c g v x f h hq hg hc hx e =
       vec-below 112 n 976 _ _ (omega arith)
       ∙ vec-above 112 n 4 _ _ (omega arith)
       ∙ vec-below 112 n 448 _ _ (omega arith)
-      ∙ vec-laid 112 n _ _ 1024 (hq .x) (size _ _ _ _ (goal-size goal f e)) (omega arith)
+      ∙ vec-laid 112 n _ _ 1024 (hq .x) (size _ _ _ _ (goal-size p goal q f e)) (omega arith)
 
-  lowered-NV : (goal : Goal) (q : Point) (c : ℕ) (g : List Float) (v : Float) (x f : List Float) → FitsGoal n m goal → FitsPoint n m q → length g ≡ c → c ≤ 272 → length x ≡ n → length f ≡ 1024 → vec 152 (suc m) (laid 976 x (laid 4 (v ∷ []) (laid 448 g (laid 112 (q .x) (laid 152 (q .values) (goalFloats goal f)))))) ≡ q .values
-  lowered-NV goal q c g v x f h hq hg hc hx e =
+  lowered-NV : (p : Setup) (goal : Goal) (q : Point) (c : ℕ) (g : List Float) (v : Float) (x f : List Float) → FitsGoal n m goal → FitsPoint n m q → length g ≡ c → c ≤ 272 → length x ≡ n → length f ≡ 1024 → vec 152 (suc m) (laid 976 x (laid 4 (v ∷ []) (laid 448 g (laid 112 (q .x) (laid 152 (q .values) (goalFloats p goal q f)))))) ≡ q .values
+  lowered-NV p goal q c g v x f h hq hg hc hx e =
       vec-below 152 (suc m) 976 _ _ (omega arith)
       ∙ vec-above 152 (suc m) 4 _ _ (omega arith)
       ∙ vec-below 152 (suc m) 448 _ _ (omega arith)
       ∙ vec-above 152 (suc m) 112 _ _ (omega arith)
-      ∙ vec-laid 152 (suc m) _ _ 1024 (hq .values) (goal-size goal f e) (omega arith)
+      ∙ vec-laid 152 (suc m) _ _ 1024 (hq .values) (goal-size p goal q f e) (omega arith)
 
-  lowered-G : (goal : Goal) (q : Point) (c : ℕ) (g : List Float) (v : Float) (x f : List Float) → FitsGoal n m goal → FitsPoint n m q → length g ≡ c → c ≤ 272 → length x ≡ n → length f ≡ 1024 → vec 448 c (laid 976 x (laid 4 (v ∷ []) (laid 448 g (laid 112 (q .x) (laid 152 (q .values) (goalFloats goal f)))))) ≡ g
-  lowered-G goal q c g v x f h hq hg hc hx e =
+  lowered-G : (p : Setup) (goal : Goal) (q : Point) (c : ℕ) (g : List Float) (v : Float) (x f : List Float) → FitsGoal n m goal → FitsPoint n m q → length g ≡ c → c ≤ 272 → length x ≡ n → length f ≡ 1024 → vec 448 c (laid 976 x (laid 4 (v ∷ []) (laid 448 g (laid 112 (q .x) (laid 152 (q .values) (goalFloats p goal q f)))))) ≡ g
+  lowered-G p goal q c g v x f h hq hg hc hx e =
       vec-below 448 c 976 _ _ (omega arith)
       ∙ vec-above 448 c 4 _ _ (omega arith)
-      ∙ vec-laid 448 c _ _ 1024 (hg) (size _ _ _ _ (size _ _ _ _ (goal-size goal f e))) (omega arith)
+      ∙ vec-laid 448 c _ _ 1024 (hg) (size _ _ _ _ (size _ _ _ _ (goal-size p goal q f e))) (omega arith)
 
-  lowered-4 : (goal : Goal) (q : Point) (c : ℕ) (g : List Float) (v : Float) (x f : List Float) → FitsGoal n m goal → FitsPoint n m q → length g ≡ c → c ≤ 272 → length x ≡ n → length f ≡ 1024 → at (laid 976 x (laid 4 (v ∷ []) (laid 448 g (laid 112 (q .x) (laid 152 (q .values) (goalFloats goal f)))))) 4 ≡ v
-  lowered-4 goal q c g v x f h hq hg hc hx e =
-      let z : length (laid 448 g (laid 112 (q .x) (laid 152 (q .values) (goalFloats goal f)))) ≡ 1024 = size _ _ _ _ (size _ _ _ _ (size _ _ _ _ (goal-size goal f e))) in
+  lowered-4 : (p : Setup) (goal : Goal) (q : Point) (c : ℕ) (g : List Float) (v : Float) (x f : List Float) → FitsGoal n m goal → FitsPoint n m q → length g ≡ c → c ≤ 272 → length x ≡ n → length f ≡ 1024 → at (laid 976 x (laid 4 (v ∷ []) (laid 448 g (laid 112 (q .x) (laid 152 (q .values) (goalFloats p goal q f)))))) 4 ≡ v
+  lowered-4 p goal q c g v x f h hq hg hc hx e =
+      let z : length (laid 448 g (laid 112 (q .x) (laid 152 (q .values) (goalFloats p goal q f)))) ≡ 1024 = size _ _ _ _ (size _ _ _ _ (size _ _ _ _ (goal-size p goal q f e))) in
       laid-below 976 _ _ 4 nan (omega arith)
-      ∙ laid-in 4 (v ∷ []) (laid 448 g (laid 112 (q .x) (laid 152 (q .values) (goalFloats goal f)))) 0 nan (omega arith) (omega arith)
+      ∙ laid-in 4 (v ∷ []) (laid 448 g (laid 112 (q .x) (laid 152 (q .values) (goalFloats p goal q f)))) 0 nan (omega arith) (omega arith)
 
   lowered-SL : (s : Iterate) (q : Point) (c : ℕ) (g : List Float) (v : Float) (x f : List Float) → FitsIterate n m s → FitsPoint n m q → length g ≡ c → c ≤ 272 → length x ≡ n → length f ≡ 1024 → vec 176 (suc m * n) (laid 976 x (laid 4 (v ∷ []) (laid 448 g (laid 112 (q .x) (laid 152 (q .values) (iterateFloats s f)))))) ≡ s .slopes
   lowered-SL s q c g v x f h hq hg hc hx e =
@@ -500,9 +501,9 @@ module _ (n m : ℕ) (l : n ≤ 16) (k : m ≤ 16) (B₁ : suc m * n ≤ 272) (B
       ∙ vec-below 128 (suc m) 152 _ _ (omega arith)
       ∙ iterate-PV s f h e
 
-  lowered-goal : (goal : Goal) (q : Point) (c : ℕ) (g : List Float) (v : Float) (x f : List Float) → FitsGoal n m goal → FitsPoint n m q → length g ≡ c → c ≤ 272 → length x ≡ n → length f ≡ 1024 → (u : List ℕ) → nth u 3 ≡ bit (isFresh goal) → nth u 4 ≡ bit (isTaken goal) → goalIn n m (laid 976 x (laid 4 (v ∷ []) (laid 448 g (laid 112 (q .x) (laid 152 (q .values) (goalFloats goal f)))))) u ≡ goal
-  lowered-goal begun q c g v x f h hq hg hc hx e u e₃ e₄ = rw e₄ refl
-  lowered-goal (taken s) q c g v x f h hq hg hc hx e u e₃ e₄ =
+  lowered-goal : (p : Setup) (goal : Goal) (q : Point) (c : ℕ) (g : List Float) (v : Float) (x f : List Float) → FitsGoal n m goal → FitsPoint n m q → length g ≡ c → c ≤ 272 → length x ≡ n → length f ≡ 1024 → (u : List ℕ) → nth u 3 ≡ bit (isFresh goal) → nth u 4 ≡ bit (isTaken goal) → goalIn n m (laid 976 x (laid 4 (v ∷ []) (laid 448 g (laid 112 (q .x) (laid 152 (q .values) (goalFloats p goal q f)))))) u ≡ goal
+  lowered-goal p begun q c g v x f h hq hg hc hx e u e₃ e₄ = rw e₄ refl
+  lowered-goal p (taken s) q c g v x f h hq hg hc hx e u e₃ e₄ =
       rw (e₄, e₃) (λ i. taken (record {
         point = record { x = lowered-PX s q c g v x f h hq hg hc hx e i; values = lowered-PV s q c g v x f h hq hg hc hx e i };
         slopes = lowered-SL s q c g v x f h hq hg hc hx e i;
@@ -512,26 +513,35 @@ module _ (n m : ℕ) (l : n ≤ 16) (k : m ≤ 16) (B₁ : suc m * n ≤ 272) (B
         multipliers = lowered-MU s q c g v x f h hq hg hc hx e i;
       }))
 
-  -- the start
-  starting-lower : (x f : List Float) → length x ≡ n → length f ≡ 1024 → vec 16 n (laid 976 x (laid 112 x f)) ≡ vec 16 n f
-  starting-lower x f hx e =
+  -- the start, over what is reported
+  starting-lower : (r : Report) (x f : List Float) → length x ≡ n → length f ≡ 1024 → vec 16 n (laid 976 x (laid 112 x (reportFloats r f))) ≡ vec 16 n f
+  starting-lower r x f hx e =
       vec-below 16 n 976 _ _ (omega arith)
       ∙ vec-below 16 n 112 _ _ (omega arith)
+      ∙ vec-below 16 n 96 _ _ (omega arith)
+      ∙ vec-below 16 n 48 _ _ (omega arith)
+      ∙ vec-below 16 n 128 _ _ (omega arith)
 
-  starting-upper : (x f : List Float) → length x ≡ n → length f ≡ 1024 → vec 32 n (laid 976 x (laid 112 x f)) ≡ vec 32 n f
-  starting-upper x f hx e =
+  starting-upper : (r : Report) (x f : List Float) → length x ≡ n → length f ≡ 1024 → vec 32 n (laid 976 x (laid 112 x (reportFloats r f))) ≡ vec 32 n f
+  starting-upper r x f hx e =
       vec-below 32 n 976 _ _ (omega arith)
       ∙ vec-below 32 n 112 _ _ (omega arith)
+      ∙ vec-below 32 n 96 _ _ (omega arith)
+      ∙ vec-below 32 n 48 _ _ (omega arith)
+      ∙ vec-below 32 n 128 _ _ (omega arith)
 
-  starting-ftol : (x f : List Float) → length x ≡ n → length f ≡ 1024 → at (laid 976 x (laid 112 x f)) 0 ≡ at f 0
-  starting-ftol x f hx e =
+  starting-ftol : (r : Report) (x f : List Float) → length x ≡ n → length f ≡ 1024 → at (laid 976 x (laid 112 x (reportFloats r f))) 0 ≡ at f 0
+  starting-ftol r x f hx e =
       laid-below 976 _ _ 0 nan (omega arith)
       ∙ laid-below 112 _ _ 0 nan (omega arith)
+      ∙ laid-below 96 _ _ 0 nan (omega arith)
+      ∙ laid-below 48 _ _ 0 nan (omega arith)
+      ∙ laid-below 128 _ _ 0 nan (omega arith)
 
-  starting-NX : (x f : List Float) → length x ≡ n → length f ≡ 1024 → vec 112 n (laid 976 x (laid 112 x f)) ≡ x
-  starting-NX x f hx e =
+  starting-NX : (r : Report) (x f : List Float) → length x ≡ n → length f ≡ 1024 → vec 112 n (laid 976 x (laid 112 x (reportFloats r f))) ≡ x
+  starting-NX r x f hx e =
       vec-below 112 n 976 _ _ (omega arith)
-      ∙ vec-laid 112 n _ _ 1024 (hx) e (omega arith)
+      ∙ vec-laid 112 n _ _ 1024 (hx) (size _ _ _ _ (size _ _ _ _ (size _ _ _ _ e))) (omega arith)
 
   -- the end
   ended-lower : (r : Report) (f : List Float) → FitsPoint n m (r .point) → length (r .multipliers) ≡ m → length f ≡ 1024 → vec 16 n (laid 96 (r .multipliers) (laid 48 (r .point .x) (laid 128 (r .point .values) f))) ≡ vec 16 n f
@@ -702,12 +712,13 @@ again (starting b x) f u p h z y =
     let n = nth u 8 in let m = nth u 9 in let B = bounds n m (p .few) (p .constraints) in
     let hx = h .0 in
     let M = starting b x in
+    let r = reportNow (setupIn f u) M in
     record {
-      size = (size _ _ _ _ (size _ _ _ _ z));
-      lower = starting-lower n m (p .few) (p .constraints) (B .0) (B .1) x f hx z;
-      upper = starting-upper n m (p .few) (p .constraints) (B .0) (B .1) x f hx z;
-      ftol = starting-ftol n m (p .few) (p .constraints) (B .0) (B .1) x f hx z;
-      state = λ i. some (starting (word M u 1 y (omega arith) i) (starting-NX n m (p .few) (p .constraints) (B .0) (B .1) x f hx z i));
+      size = (size _ _ _ _ (size _ _ _ _ (size _ _ _ _ (size _ _ _ _ (size _ _ _ _ z)))));
+      lower = starting-lower n m (p .few) (p .constraints) (B .0) (B .1) r x f hx z;
+      upper = starting-upper n m (p .few) (p .constraints) (B .0) (B .1) r x f hx z;
+      ftol = starting-ftol n m (p .few) (p .constraints) (B .0) (B .1) r x f hx z;
+      state = λ i. some (starting (word M u 1 y (omega arith) i) (starting-NX n m (p .few) (p .constraints) (B .0) (B .1) r x f hx z i));
     }
 again (trying b s line α more) f u p h z y =
     let n = nth u 8 in let m = nth u 9 in let B = bounds n m (p .few) (p .constraints) in
@@ -746,13 +757,13 @@ again (sloping b goal q) f u p h z y =
     let M = sloping b goal q in
     let x = q .x in
     let hx : length x ≡ n = hq .x in
-    let goals = sloping-goal n m (p .few) (p .constraints) (B .0) (B .1) goal q x f hgoal hq hx z (machineWords M u) (word M u 3 y (omega arith)) (word M u 4 y (omega arith)) in
+    let goals = sloping-goal n m (p .few) (p .constraints) (B .0) (B .1) (setupIn f u) goal q x f hgoal hq hx z (machineWords M u) (word M u 3 y (omega arith)) (word M u 4 y (omega arith)) in
     record {
-      size = (size _ _ _ _ (size _ _ _ _ (size _ _ _ _ (goal-size n m (p .few) (p .constraints) (B .0) (B .1) goal f z))));
-      lower = sloping-lower n m (p .few) (p .constraints) (B .0) (B .1) goal q x f hgoal hq hx z;
-      upper = sloping-upper n m (p .few) (p .constraints) (B .0) (B .1) goal q x f hgoal hq hx z;
-      ftol = sloping-ftol n m (p .few) (p .constraints) (B .0) (B .1) goal q x f hgoal hq hx z;
-      state = λ i. some (sloping (word M u 1 y (omega arith) i) (goals i) (record { x = sloping-NX n m (p .few) (p .constraints) (B .0) (B .1) goal q x f hgoal hq hx z i; values = sloping-NV n m (p .few) (p .constraints) (B .0) (B .1) goal q x f hgoal hq hx z i }));
+      size = (size _ _ _ _ (size _ _ _ _ (size _ _ _ _ (goal-size n m (p .few) (p .constraints) (B .0) (B .1) (setupIn f u) goal q f z))));
+      lower = sloping-lower n m (p .few) (p .constraints) (B .0) (B .1) (setupIn f u) goal q x f hgoal hq hx z;
+      upper = sloping-upper n m (p .few) (p .constraints) (B .0) (B .1) (setupIn f u) goal q x f hgoal hq hx z;
+      ftol = sloping-ftol n m (p .few) (p .constraints) (B .0) (B .1) (setupIn f u) goal q x f hgoal hq hx z;
+      state = λ i. some (sloping (word M u 1 y (omega arith) i) (goals i) (record { x = sloping-NX n m (p .few) (p .constraints) (B .0) (B .1) (setupIn f u) goal q x f hgoal hq hx z i; values = sloping-NV n m (p .few) (p .constraints) (B .0) (B .1) (setupIn f u) goal q x f hgoal hq hx z i }));
     }
 again (raised b goal q rows cols g) f u p h z y =
     let n = nth u 8 in let m = nth u 9 in let B = bounds n m (p .few) (p .constraints) in
@@ -760,15 +771,15 @@ again (raised b goal q rows cols g) f u p h z y =
     let M = raised b goal q rows cols g in
     let x = set (q .x) (n - suc cols) (raise (at (q .x) (n - suc cols))) in
     let hx : length x ≡ n = length-set (q .x) (n - suc cols) _ ∙ hq .x in
-    let goals = raised-goal n m (p .few) (p .constraints) (B .0) (B .1) goal q (known n m rows cols) g x f hgoal hq hg hc hx z (machineWords M u) (word M u 3 y (omega arith)) (word M u 4 y (omega arith)) in
+    let goals = raised-goal n m (p .few) (p .constraints) (B .0) (B .1) (setupIn f u) goal q (known n m rows cols) g x f hgoal hq hg hc hx z (machineWords M u) (word M u 3 y (omega arith)) (word M u 4 y (omega arith)) in
     let slopes : vec 448 (known n m (nth (machineWords M u) 5) (nth (machineWords M u) 6)) (machineFloats (setupIn f u) M f) ≡ g =
-    ap₂ (λ c d. vec 448 (known n m c d) (machineFloats (setupIn f u) M f)) (word M u 5 y (omega arith)) (word M u 6 y (omega arith)) ∙ raised-G n m (p .few) (p .constraints) (B .0) (B .1) goal q (known n m rows cols) g x f hgoal hq hg hc hx z in
+    ap₂ (λ c d. vec 448 (known n m c d) (machineFloats (setupIn f u) M f)) (word M u 5 y (omega arith)) (word M u 6 y (omega arith)) ∙ raised-G n m (p .few) (p .constraints) (B .0) (B .1) (setupIn f u) goal q (known n m rows cols) g x f hgoal hq hg hc hx z in
     record {
-      size = (size _ _ _ _ (size _ _ _ _ (size _ _ _ _ (size _ _ _ _ (goal-size n m (p .few) (p .constraints) (B .0) (B .1) goal f z)))));
-      lower = raised-lower n m (p .few) (p .constraints) (B .0) (B .1) goal q (known n m rows cols) g x f hgoal hq hg hc hx z;
-      upper = raised-upper n m (p .few) (p .constraints) (B .0) (B .1) goal q (known n m rows cols) g x f hgoal hq hg hc hx z;
-      ftol = raised-ftol n m (p .few) (p .constraints) (B .0) (B .1) goal q (known n m rows cols) g x f hgoal hq hg hc hx z;
-      state = λ i. some (raised (word M u 1 y (omega arith) i) (goals i) (record { x = raised-NX n m (p .few) (p .constraints) (B .0) (B .1) goal q (known n m rows cols) g x f hgoal hq hg hc hx z i; values = raised-NV n m (p .few) (p .constraints) (B .0) (B .1) goal q (known n m rows cols) g x f hgoal hq hg hc hx z i }) (word M u 5 y (omega arith) i) (word M u 6 y (omega arith) i) (slopes i));
+      size = (size _ _ _ _ (size _ _ _ _ (size _ _ _ _ (size _ _ _ _ (goal-size n m (p .few) (p .constraints) (B .0) (B .1) (setupIn f u) goal q f z)))));
+      lower = raised-lower n m (p .few) (p .constraints) (B .0) (B .1) (setupIn f u) goal q (known n m rows cols) g x f hgoal hq hg hc hx z;
+      upper = raised-upper n m (p .few) (p .constraints) (B .0) (B .1) (setupIn f u) goal q (known n m rows cols) g x f hgoal hq hg hc hx z;
+      ftol = raised-ftol n m (p .few) (p .constraints) (B .0) (B .1) (setupIn f u) goal q (known n m rows cols) g x f hgoal hq hg hc hx z;
+      state = λ i. some (raised (word M u 1 y (omega arith) i) (goals i) (record { x = raised-NX n m (p .few) (p .constraints) (B .0) (B .1) (setupIn f u) goal q (known n m rows cols) g x f hgoal hq hg hc hx z i; values = raised-NV n m (p .few) (p .constraints) (B .0) (B .1) (setupIn f u) goal q (known n m rows cols) g x f hgoal hq hg hc hx z i }) (word M u 5 y (omega arith) i) (word M u 6 y (omega arith) i) (slopes i));
     }
 again (lowered b goal q rows cols g v) f u p h z y =
     let n = nth u 8 in let m = nth u 9 in let B = bounds n m (p .few) (p .constraints) in
@@ -776,15 +787,15 @@ again (lowered b goal q rows cols g v) f u p h z y =
     let M = lowered b goal q rows cols g v in
     let x = set (q .x) (n - suc cols) (lower (at (q .x) (n - suc cols))) in
     let hx : length x ≡ n = length-set (q .x) (n - suc cols) _ ∙ hq .x in
-    let goals = lowered-goal n m (p .few) (p .constraints) (B .0) (B .1) goal q (known n m rows cols) g v x f hgoal hq hg hc hx z (machineWords M u) (word M u 3 y (omega arith)) (word M u 4 y (omega arith)) in
+    let goals = lowered-goal n m (p .few) (p .constraints) (B .0) (B .1) (setupIn f u) goal q (known n m rows cols) g v x f hgoal hq hg hc hx z (machineWords M u) (word M u 3 y (omega arith)) (word M u 4 y (omega arith)) in
     let slopes : vec 448 (known n m (nth (machineWords M u) 5) (nth (machineWords M u) 6)) (machineFloats (setupIn f u) M f) ≡ g =
-    ap₂ (λ c d. vec 448 (known n m c d) (machineFloats (setupIn f u) M f)) (word M u 5 y (omega arith)) (word M u 6 y (omega arith)) ∙ lowered-G n m (p .few) (p .constraints) (B .0) (B .1) goal q (known n m rows cols) g v x f hgoal hq hg hc hx z in
+    ap₂ (λ c d. vec 448 (known n m c d) (machineFloats (setupIn f u) M f)) (word M u 5 y (omega arith)) (word M u 6 y (omega arith)) ∙ lowered-G n m (p .few) (p .constraints) (B .0) (B .1) (setupIn f u) goal q (known n m rows cols) g v x f hgoal hq hg hc hx z in
     record {
-      size = (size _ _ _ _ (size _ _ _ _ (size _ _ _ _ (size _ _ _ _ (size _ _ _ _ (goal-size n m (p .few) (p .constraints) (B .0) (B .1) goal f z))))));
-      lower = lowered-lower n m (p .few) (p .constraints) (B .0) (B .1) goal q (known n m rows cols) g v x f hgoal hq hg hc hx z;
-      upper = lowered-upper n m (p .few) (p .constraints) (B .0) (B .1) goal q (known n m rows cols) g v x f hgoal hq hg hc hx z;
-      ftol = lowered-ftol n m (p .few) (p .constraints) (B .0) (B .1) goal q (known n m rows cols) g v x f hgoal hq hg hc hx z;
-      state = λ i. some (lowered (word M u 1 y (omega arith) i) (goals i) (record { x = lowered-NX n m (p .few) (p .constraints) (B .0) (B .1) goal q (known n m rows cols) g v x f hgoal hq hg hc hx z i; values = lowered-NV n m (p .few) (p .constraints) (B .0) (B .1) goal q (known n m rows cols) g v x f hgoal hq hg hc hx z i }) (word M u 5 y (omega arith) i) (word M u 6 y (omega arith) i) (slopes i) (lowered-4 n m (p .few) (p .constraints) (B .0) (B .1) goal q (known n m rows cols) g v x f hgoal hq hg hc hx z i));
+      size = (size _ _ _ _ (size _ _ _ _ (size _ _ _ _ (size _ _ _ _ (size _ _ _ _ (goal-size n m (p .few) (p .constraints) (B .0) (B .1) (setupIn f u) goal q f z))))));
+      lower = lowered-lower n m (p .few) (p .constraints) (B .0) (B .1) (setupIn f u) goal q (known n m rows cols) g v x f hgoal hq hg hc hx z;
+      upper = lowered-upper n m (p .few) (p .constraints) (B .0) (B .1) (setupIn f u) goal q (known n m rows cols) g v x f hgoal hq hg hc hx z;
+      ftol = lowered-ftol n m (p .few) (p .constraints) (B .0) (B .1) (setupIn f u) goal q (known n m rows cols) g v x f hgoal hq hg hc hx z;
+      state = λ i. some (lowered (word M u 1 y (omega arith) i) (goals i) (record { x = lowered-NX n m (p .few) (p .constraints) (B .0) (B .1) (setupIn f u) goal q (known n m rows cols) g v x f hgoal hq hg hc hx z i; values = lowered-NV n m (p .few) (p .constraints) (B .0) (B .1) (setupIn f u) goal q (known n m rows cols) g v x f hgoal hq hg hc hx z i }) (word M u 5 y (omega arith) i) (word M u 6 y (omega arith) i) (slopes i) (lowered-4 n m (p .few) (p .constraints) (B .0) (B .1) (setupIn f u) goal q (known n m rows cols) g v x f hgoal hq hg hc hx z i));
     }
 
 stored : (M : Machine) (f : List Float) (u : List ℕ) → Posed (setupIn f u) → nth u 10 ≤ 2 → Fits (nth u 8) (nth u 9) M → length f ≡ 1024 → length u ≡ 32
@@ -797,6 +808,7 @@ stored M f u p s h z y =
       words = size 0 (seven M) u 32 y;
       problem = problem-again M f _ u (a .lower) (a .upper) (a .ftol);
       machine = machine-again M f _ u p s h y (a .state);
+      report = report-read (setupIn f u) M f (p .few) (p .constraints) h z;
     }
 
 -- the same of a problem that is read

@@ -12,6 +12,7 @@ pub mod Calls
 pub mod Inside
 pub mod Relaid
 pub mod Turns
+pub mod Reported
 pub mod Rereads
 pub mod Widths
 pub mod Lent

@@ -1,6 +1,6 @@
 -- What is read of slices after a part was laid, and states whose parts are read.
 use Prim.Native.Nat.{ℕ, zero, suc, _+_, _*_, _≤_, _<_}
-use mathlib.Core.Path.{_≡_, refl, sym, ap, _∙_}
+use mathlib.Core.Path.{_≡_, refl, sym, ap, _∙_, subst}
 use mathlib.Core.Bool.{Bool, true, false, cond}
 use mathlib.Core.List.{List, [], _∷_}
 use mathlib.Core.Logic.{_⊎_, inl, inr}
@@ -11,9 +11,10 @@ use lib.Ieee.{Float, nan}
 use Rattle.numbers.specs.Numbers.{+0, at, nth, tab, _⊕_, _⊗_}
 use Rattle.numbers.proofs.Lists.{getD-tab, tab-same}
 use Rattle.workspace.specs.inner.Readings.{vec, nums}
-use Rattle.search.proofs.Laying.{size, length-laid, laid-in, laid-below, laid-above, vec-below, vec-above, vec-laid, laid-again}
+use Rattle.workspace.proofs.Readings.{length-vec}
+use Rattle.search.proofs.Laying.{size, length-laid, laid-in, laid-below, laid-above, vec-below, vec-above, vec-laid, Apart, vec-apart, laid-again}
 use Rattle.search.proofs.Layouts.{bounds, seven-length, is-one, iterate-size, iterate-SL, iterate-B, iterate-PE, iterate-MU, iterate-PX, iterate-PV}
-use Rattle.search.proofs.Relaid.{more, new-again, iterate-again}
+use Rattle.search.proofs.Relaid.{more, iterate-again}
 use Rattle.search.specs.Setup.{Setup, areKinds, Ending}
 use Rattle.search.specs.Turn.{Iterate, pointOf, along, clip}
 use Rattle.search.specs.Written.{begun, taken}
@@ -123,14 +124,6 @@ turned-after p p′ M M′ f f′ f″ u u′ u″ t a b c d =
 
 -- ---- readings
 
--- apart from what was laid
-abbrev pub Apart : (o n p c : ℕ) → Type 0
-Apart o n p c = (o + n ≤ p) ⊎ (p + c ≤ o)
-
-pub vec-apart : (o n p : ℕ) (v w : List Float) → Apart o n p (length v) → vec o n (laid p v w) ≡ vec o n w
-vec-apart o n p v w (inl h) = vec-below o n p v w h
-vec-apart o n p v w (inr h) = vec-above o n p v w h
-
 pub iterate-apart : (n m : ℕ) (p : ℕ) (v f : List Float) (u u′ : List ℕ) → Apart 48 n p (length v) → Apart 128 (suc m) p (length v) → Apart 176 (suc m * n) p (length v)
     → Apart 720 (n * n) p (length v) → Apart 80 m p (length v) → Apart 96 m p (length v) → nth u′ 3 ≡ nth u 3 → iterateIn n m (laid p v f) u′ ≡ iterateIn n m f u
 iterate-apart n m p v f u u′ a b c d e g h = λ i. record {
@@ -163,13 +156,38 @@ iterate-read n m s f u l k h z e =
 
 -- ---- states whose parts are read
 
-pub goal-again : (n m : ℕ) (t : Bool) (f : List Float) (u : List ℕ) → n ≤ 16 → m ≤ 16 → length f ≡ 1024 → goalFloats (cond t begun (taken (iterateIn n m f u))) f ≡ f
-goal-again n m true f u l k z = refl
-goal-again n m false f u l k z = let B = bounds n m l k in iterate-again n m f u l k (B .0) (B .1) z
+-- what slopes at the new point are for: an iterate that stands there, or the new point where it is reported
+module _ (p : Setup) (f : List Float) (u : List ℕ) (l : p .n ≤ 16) (k : p .m ≤ 16) (z : length f ≡ 1024) where
+  abbrev pub goalBy : Bool → List Float
+  goalBy t = goalFloats p (cond t begun (taken (iterateIn (p .n) (p .m) f u))) (newIn (p .n) (p .m) f) f
 
--- a new point with what its slopes are for
-pub due-again : (n m : ℕ) (f : List Float) (u : List ℕ) → n ≤ 16 → m ≤ 16 → length f ≡ 1024 → newFloats (newIn n m f) (goalFloats (goalIn n m f u) f) ≡ f
-due-again n m f u l k z = ap (λ t. newFloats (newIn n m f) t) (goal-again n m (eqb (nth u 4) 0) f u l k z) ∙ new-again n m f l k z
+  goal-again : goalBy false ≡ f
+  goal-again = let B = bounds (p .n) (p .m) l k in iterate-again (p .n) (p .m) f u l k (B .0) (B .1) z
+
+  pub goal-length : (t : Bool) → length (goalBy t) ≡ 1024
+  goal-length true = size _ _ _ _ (size _ _ _ _ (size _ _ _ _ z))
+  goal-length false = ap length goal-again ∙ z
+
+  -- what is apart from the report is read as it was
+  pub goal-vec : (t : Bool) (o c : ℕ) → Apart o c 96 (p .m) → Apart o c 48 (p .n) → Apart o c 128 (suc (p .m)) → vec o c (goalBy t) ≡ vec o c f
+  goal-vec true o c a b d =
+      vec-apart o c 96 _ _ (subst (λ (y : ℕ). Apart o c 96 y) (sym (length-replicate (p .m) +0)) a)
+      ∙ vec-apart o c 48 _ _ (subst (λ (y : ℕ). Apart o c 48 y) (sym (length-vec 112 (p .n) f)) b)
+      ∙ vec-apart o c 128 _ _ (subst (λ (y : ℕ). Apart o c 128 y) (sym (length-vec 152 (suc (p .m)) f)) d)
+  goal-vec false o c a b d = ap (λ (y : List Float). vec o c y) goal-again
+
+  -- and so laid there again
+  pub goal-more : (t : Bool) (o c : ℕ) (g : List Float) → g ≡ goalBy t → Apart o c 96 (p .m) → Apart o c 48 (p .n) → Apart o c 128 (suc (p .m)) → o + c ≤ 1024 → laid o (vec o c f) g ≡ goalBy t
+  goal-more t o c g e a b d h =
+      let y = goal-length t in
+      ap (λ (v : List Float). laid o v g) (sym (goal-vec t o c a b d)) ∙ more o c (goalBy t) g e (omega arith)
+
+  -- the new point is
+  pub due-again : (t : Bool) → newFloats (newIn (p .n) (p .m) f) (goalBy t) ≡ goalBy t
+  due-again t =
+      goal-more t 112 (p .n) _
+      (goal-more t 152 (suc (p .m)) _ refl (inr (omega arith)) (inr (omega arith)) (inr (omega arith)) (omega arith))
+      (inr (omega arith)) (inr (omega arith)) (inl (omega arith)) (omega arith)
 
 pub emptied-length : (f : List Float) → length (emptied f) ≡ length f
 unfolding emptied

@@ -11,10 +11,10 @@ use Rattle.numbers.specs.Numbers.{+0, at}
 use Rattle.numbers.proofs.Lists.{length-tab}
 use Rattle.search.proofs.Laying.{length-laid, laid-in, laid-below, laid-above, same-entries, Where, before, inside, behind, where-is}
 use Rattle.search.specs.Setup.{Setup, Scheme, told, forward, central, Point, Report, Ending, exhausted, nonfinite, isFinite, areFinite}
-use Rattle.search.specs.Turn.{Iterate, Line, along, raise}
+use Rattle.search.specs.Turn.{Iterate, Line, unknown, reportOf, blank, along, raise}
 use Rattle.search.specs.Written.{Goal, begun, taken, reportFor, due, pay, sound, reach, rowDone}
 use Rattle.search.specs.Machine.{Machine, ended, starting, trying, sloping, raised, lowered, moveNext, slopesNext}
-use Rattle.search.specs.Layout.{laid, emptied, known, iterateFloats, goalFloats, machineFloats, FitsPoint, FitsIterate, FitsGoal}
+use Rattle.search.specs.Layout.{laid, emptied, known, reportFloats, iterateFloats, goalFloats, machineFloats, FitsPoint, FitsIterate, FitsGoal}
 
 -- ---- two slices that agree but for some parts
 
@@ -69,16 +69,19 @@ within o c p d i h l (inr b) = inr (omega arith)
 
 -- ---- the parts of a state
 
+abbrev pub reportParts : (n m : ℕ) → List Part → List Part
+reportParts n m rs = part 128 (suc m) ∷ part 48 n ∷ part 96 m ∷ rs
+
 abbrev pub iterateParts : (n m : ℕ) → List Part → List Part
-iterateParts n m rs = part 128 (suc m) ∷ part 48 n ∷ part 96 m ∷ part 80 m ∷ part 720 (n * n) ∷ part 176 (suc m * n) ∷ rs
+iterateParts n m rs = reportParts n m (part 80 m ∷ part 720 (n * n) ∷ part 176 (suc m * n) ∷ rs)
 
 abbrev pub goalParts : (n m : ℕ) → Goal → List Part → List Part
-goalParts n m begun rs = rs
+goalParts n m begun rs = reportParts n m rs
 goalParts n m (taken s) rs = iterateParts n m rs
 
 abbrev pub partsOf : (n m : ℕ) → Machine → List Part
-partsOf n m (ended e r) = part 152 872 ∷ part 112 16 ∷ part 64 32 ∷ part 1 15 ∷ part 128 (suc m) ∷ part 48 n ∷ part 96 m ∷ []
-partsOf n m (starting b x) = part 112 n ∷ part 976 n ∷ []
+partsOf n m (ended e r) = part 152 872 ∷ part 112 16 ∷ part 64 32 ∷ part 1 15 ∷ reportParts n m []
+partsOf n m (starting b x) = reportParts n m (part 112 n ∷ part 976 n ∷ [])
 partsOf n m (trying b s line α again) = iterateParts n m (part 64 n ∷ part 1 3 ∷ part 976 n ∷ [])
 partsOf n m (sloping b goal q) = goalParts n m goal (part 152 (suc m) ∷ part 112 n ∷ part 976 n ∷ [])
 partsOf n m (raised b goal q rows cols g) = goalParts n m goal (part 152 (suc m) ∷ part 112 n ∷ part 448 (known n m rows cols) ∷ part 976 n ∷ [])
@@ -88,23 +91,33 @@ partsOf n m (lowered b goal q rows cols g v) = goalParts n m goal (part 152 (suc
 abbrev pub Covers : (n m : ℕ) (o c : ℕ) → Machine → Type 0
 Covers n m o c M = (i : ℕ) → Off (partsOf n m M) i → Beside o c i
 
+-- the parts of a report are as long as they are to be
+abbrev pub FitsReport : (n m : ℕ) → Report → Type 0
+FitsReport n m r = FitsPoint n m (r .point) × (length (r .multipliers) ≡ m)
+
+report-over : (n m : ℕ) (r : Report) (rs : List Part) (f g : List Float) → FitsReport n m r → Agree (reportParts n m rs) f g → Agree rs (reportFloats r f) (reportFloats r g)
+report-over n m r rs f g h a = agree-laid 96 m _ _ _ _ (h .1) (agree-laid 48 n _ _ _ _ (h .0 .x) (agree-laid 128 (suc m) _ _ _ _ (h .0 .values) a))
+
 iterate-over : (n m : ℕ) (s : Iterate) (rs : List Part) (f g : List Float) → FitsIterate n m s → Agree (iterateParts n m rs) f g → Agree rs (iterateFloats s f) (iterateFloats s g)
 iterate-over n m s rs f g h a =
     agree-laid 176 (suc m * n) _ _ _ _ (h .slopes)
     (agree-laid 720 (n * n) _ _ _ _ (h .b)
     (agree-laid 80 m _ _ _ _ (h .penalty)
-    (agree-laid 96 m _ _ _ _ (h .multipliers)
-    (agree-laid 48 n _ _ _ _ (h .point .x)
-    (agree-laid 128 (suc m) _ _ _ _ (h .point .values) a)))))
+    (report-over n m (reportOf s) _ _ _ (h .point, h .multipliers) a)))
 
-goal-over : (n m : ℕ) (goal : Goal) (rs : List Part) (f g : List Float) → FitsGoal n m goal → Agree (goalParts n m goal rs) f g → Agree rs (goalFloats goal f) (goalFloats goal g)
-goal-over n m begun rs f g h a = a
-goal-over n m (taken s) rs f g h a = iterate-over n m s rs f g h a
+-- what is reported before the first step has no multipliers but +0
+pub blank-fits : (p : Setup) (q : Point) → FitsPoint (p .n) (p .m) q → FitsReport (p .n) (p .m) (blank p q)
+blank-fits p q h = (h, length-replicate (p .m) +0)
 
--- the parts of a state are as long as they are to be
-abbrev pub FitsReport : (n m : ℕ) → Report → Type 0
-FitsReport n m r = FitsPoint n m (r .point) × (length (r .multipliers) ≡ m)
+pub unknown-fits : (p : Setup) (x : List Float) → length x ≡ p .n → FitsReport (p .n) (p .m) (blank p (unknown p x))
+unknown-fits p x h = blank-fits p (unknown p x) (record { x = h; values = length-replicate (suc (p .m)) nan })
 
+goal-over : (p : Setup) (goal : Goal) (q : Point) (rs : List Part) (f g : List Float) → FitsGoal (p .n) (p .m) goal → FitsPoint (p .n) (p .m) q → Agree (goalParts (p .n) (p .m) goal rs) f g
+    → Agree rs (goalFloats p goal q f) (goalFloats p goal q g)
+goal-over p begun q rs f g h hq a = report-over (p .n) (p .m) (blank p q) rs f g (blank-fits p q hq) a
+goal-over p (taken s) q rs f g h hq a = iterate-over (p .n) (p .m) s rs f g h a
+
+-- and those of a state
 abbrev pub Sized : (n m : ℕ) → Machine → Type 0
 Sized n m (ended e r) = FitsReport n m r
 Sized n m (starting b x) = length x ≡ n
@@ -118,14 +131,12 @@ pub state-over : (p : Setup) (M : Machine) (f g : List Float) → Sized (p .n) (
 unfolding machineFloats emptied along
 state-over p (ended e r) f g h a =
     agree-done _ _
-    (agree-laid 96 (p .m) _ _ _ _ (h .1)
-    (agree-laid 48 (p .n) _ _ _ _ (h .0 .x)
-    (agree-laid 128 (suc (p .m)) _ _ _ _ (h .0 .values)
+    (report-over (p .n) (p .m) r _ _ _ h
     (agree-laid 1 15 _ _ _ _ (length-replicate 15 +0)
     (agree-laid 64 32 _ _ _ _ (length-replicate 32 +0)
     (agree-laid 112 16 _ _ _ _ (length-replicate 16 +0)
-    (agree-laid 152 872 _ _ _ _ (length-replicate 872 +0) a)))))))
-state-over p (starting b x) f g h a = agree-done _ _ (agree-laid 976 (p .n) _ _ _ _ h (agree-laid 112 (p .n) _ _ _ _ h a))
+    (agree-laid 152 872 _ _ _ _ (length-replicate 872 +0) a)))))
+state-over p (starting b x) f g h a = agree-done _ _ (agree-laid 976 (p .n) _ _ _ _ h (agree-laid 112 (p .n) _ _ _ _ h (report-over (p .n) (p .m) (blank p (unknown p x)) _ _ _ (unknown-fits p x h) a)))
 state-over p (trying b s line α again) f g h a =
     agree-done _ _
     (agree-laid 976 (p .n) _ _ _ _ (length-tab (p .n) _)
@@ -137,14 +148,14 @@ state-over p (sloping b goal q) f g h a =
     (agree-laid 976 (p .n) _ _ _ _ (h .1 .x)
     (agree-laid 112 (p .n) _ _ _ _ (h .1 .x)
     (agree-laid 152 (suc (p .m)) _ _ _ _ (h .1 .values)
-    (goal-over (p .n) (p .m) goal _ f g (h .0) a))))
+    (goal-over p goal q _ f g (h .0) (h .1) a))))
 state-over p (raised b goal q rows cols g′) f g h a =
     agree-done _ _
     (agree-laid 976 (p .n) _ _ _ _ (length-set (q .x) _ _ ∙ h .1 .x)
     (agree-laid 448 (known (p .n) (p .m) rows cols) _ _ _ _ (h .2)
     (agree-laid 112 (p .n) _ _ _ _ (h .1 .x)
     (agree-laid 152 (suc (p .m)) _ _ _ _ (h .1 .values)
-    (goal-over (p .n) (p .m) goal _ f g (h .0) a)))))
+    (goal-over p goal q _ f g (h .0) (h .1) a)))))
 state-over p (lowered b goal q rows cols g′ v) f g h a =
     agree-done _ _
     (agree-laid 976 (p .n) _ _ _ _ (length-set (q .x) _ _ ∙ h .1 .x)
@@ -152,7 +163,7 @@ state-over p (lowered b goal q rows cols g′ v) f g h a =
     (agree-laid 448 (known (p .n) (p .m) rows cols) _ _ _ _ (h .2)
     (agree-laid 112 (p .n) _ _ _ _ (h .1 .x)
     (agree-laid 152 (suc (p .m)) _ _ _ _ (h .1 .values)
-    (goal-over (p .n) (p .m) goal _ f g (h .0) a))))))
+    (goal-over p goal q _ f g (h .0) (h .1) a))))))
 
 -- so what was laid where a state writes does not show
 pub covered : (p : Setup) (M : Machine) (o c : ℕ) (v f : List Float) → Sized (p .n) (p .m) M → length v ≡ c → Covers (p .n) (p .m) o c M → machineFloats p M (laid o v f) ≡ machineFloats p M f
@@ -161,7 +172,7 @@ covered p M o c v f h e k = state-over p M (laid o v f) f h (agree-put _ o c v f
 -- ---- which parts a state writes
 
 past : (n m : ℕ) (goal : Goal) (rs : List Part) (i : ℕ) → Off (goalParts n m goal rs) i → Off rs i
-past n m begun rs i h = h
+past n m begun rs i h = h .1 .1 .1
 past n m (taken s) rs i h = h .1 .1 .1 .1 .1 .1
 
 -- those of an iterate

@@ -20,9 +20,9 @@ use Rattle.numbers.specs.Numbers.{+0, at, nth}
 use Rattle.workspace.specs.Tables.{isDimension, isConstraints}
 use Rattle.workspace.specs.inner.Readings.{vec, nums}
 use Rattle.search.specs.Setup.{Setup, isBudget, isScheme, areKinds, Scheme, told, forward, central, Point, Report, Question, values, slopes, single, Ending, converged, infeasible, exhausted, nonfinite}
-use Rattle.search.specs.Turn.{Iterate, Line, backtracks, pointOf}
+use Rattle.search.specs.Turn.{Iterate, Line, backtracks, pointOf, unknown, reportOf, blank}
 use Rattle.search.specs.Written.{Goal, begun, taken, Standing, over, waits}
-use Rattle.search.specs.Machine.{Machine, ended, starting, trying, sloping, raised, lowered, standing}
+use Rattle.search.specs.Machine.{Machine, ended, starting, trying, sloping, raised, lowered, standing, reportNow}
 
 -- ---- numbers of cases
 
@@ -130,25 +130,30 @@ pointFloats q f = laid 48 (q .x) (laid 128 (q .values) f)
 abbrev pub newFloats : Point → List Float → List Float
 newFloats q f = laid 112 (q .x) (laid 152 (q .values) f)
 
-abbrev pub iterateFloats : Iterate → List Float → List Float
-iterateFloats s f = laid 176 (s .slopes) (laid 720 (s .b) (laid 80 (s .penalty) (laid 96 (s .multipliers) (pointFloats (s .point) f))))
+-- the report, where it is read at the end and before
+abbrev pub reportFloats : Report → List Float → List Float
+reportFloats r f = laid 96 (r .multipliers) (pointFloats (r .point) f)
 
-abbrev pub goalFloats : Goal → List Float → List Float
-goalFloats begun f = f
-goalFloats (taken s) f = iterateFloats s f
+abbrev pub iterateFloats : Iterate → List Float → List Float
+iterateFloats s f = laid 176 (s .slopes) (laid 720 (s .b) (laid 80 (s .penalty) (reportFloats (reportOf s) f)))
+
+-- what slopes at q are for: before the first turn q itself is reported
+abbrev pub goalFloats : Setup → Goal → Point → List Float → List Float
+goalFloats p begun q f = reportFloats (blank p q) f
+goalFloats p (taken s) q f = iterateFloats s f
 
 -- all that served the search and is no part of its report, +0: the line, the step, the penalties, the new point, the slopes, B and the point that was asked about
 unfoldable pub emptied : List Float → List Float
 emptied f = laid 1 (replicate 15 +0) (laid 64 (replicate 32 +0) (laid 112 (replicate 16 +0) (laid 152 (replicate 872 +0) f)))
 
 -- what a state says, in the parts that it uses; the other parts are as they were, but behind an end they are emptied
-abbrev pub stateFloats : Machine → List Float → List Float
-stateFloats (ended e r) f = laid 96 (r .multipliers) (pointFloats (r .point) (emptied f))
-stateFloats (starting b x) f = laid 112 x f
-stateFloats (trying b s line α again) f = laid 1 (α ∷ line .merit ∷ line .slope ∷ []) (laid 64 (line .d) (iterateFloats s f))
-stateFloats (sloping b goal q) f = newFloats q (goalFloats goal f)
-stateFloats (raised b goal q rows cols g) f = laid 448 g (newFloats q (goalFloats goal f))
-stateFloats (lowered b goal q rows cols g v) f = laid 4 (v ∷ []) (laid 448 g (newFloats q (goalFloats goal f)))
+abbrev pub stateFloats : Setup → Machine → List Float → List Float
+stateFloats p (ended e r) f = reportFloats r (emptied f)
+stateFloats p (starting b x) f = laid 112 x (reportFloats (blank p (unknown p x)) f)
+stateFloats p (trying b s line α again) f = laid 1 (α ∷ line .merit ∷ line .slope ∷ []) (laid 64 (line .d) (iterateFloats s f))
+stateFloats p (sloping b goal q) f = newFloats q (goalFloats p goal q f)
+stateFloats p (raised b goal q rows cols g) f = laid 448 g (newFloats q (goalFloats p goal q f))
+stateFloats p (lowered b goal q rows cols g v) f = laid 4 (v ∷ []) (laid 448 g (newFloats q (goalFloats p goal q f)))
 
 -- the point of the question
 abbrev pub askedFloats : Standing → List Float → List Float
@@ -158,7 +163,7 @@ askedFloats (waits (slopes x)) f = laid 976 x f
 askedFloats (waits (single w x)) f = laid 976 x f
 
 unfoldable pub machineFloats : Setup → Machine → List Float → List Float
-machineFloats p m f = askedFloats (standing p m) (stateFloats m f)
+machineFloats p m f = askedFloats (standing p m) (stateFloats p m f)
 
 -- the seven words of a state
 abbrev pub isTaken : Goal → Bool
@@ -215,12 +220,13 @@ pub record Posed (p : Setup) : Type 0 where
   pub lower : length (p .lower) ≡ p .n
   pub upper : length (p .upper) ≡ p .n
 
--- A machine that is written is read again, with its problem.
+-- A machine that is written is read again, with its problem, and what it reports is read there too.
 pub record Holds (p : Setup) (m : Machine) (f : List Float) (u : List ℕ) : Type 0 where
   pub floats : length f ≡ 1024
   pub words : length u ≡ 32
   pub problem : setupIn f u ≡ p
   pub machine : machineIn f u ≡ some m
+  pub report : reportIn (p .n) (p .m) f ≡ reportNow p m
 
 abbrev pub Begun : Type 0
 Begun = (p : Setup) (m : Machine) → Posed p → Fits (p .n) (p .m) m → Holds p m (machineFloats p m (setupFloats p)) (machineWords m (setupWords p))

@@ -111,3 +111,12 @@ standing p (trying b s line α again) = waits (values (along p s line α))
 standing p (sloping b goal q) = waits (slopes (q .x))
 standing p (raised b goal q rows cols g) = let i = p .n - suc cols in waits (single (p .m - rows) (set (q .x) i (raise (at (q .x) i))))
 standing p (lowered b goal q rows cols g v) = let i = p .n - suc cols in waits (single (p .m - rows) (set (q .x) i (lower (at (q .x) i))))
+
+-- what is reported of a run in this state, at its end and before: the last accepted point with its values, which are NaN before the start's are told, and the multipliers of the last step
+abbrev pub reportNow : Setup → Machine → Report
+reportNow p (ended e r) = r
+reportNow p (starting b x) = blank p (unknown p x)
+reportNow p (trying b s line α again) = reportOf s
+reportNow p (sloping b goal q) = reportFor p goal q
+reportNow p (raised b goal q rows cols g) = reportFor p goal q
+reportNow p (lowered b goal q rows cols g v) = reportFor p goal q

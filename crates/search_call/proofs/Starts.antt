@@ -14,10 +14,10 @@ use Rattle.workspace.specs.inner.Readings.{vec}
 use Rattle.search.specs.Setup.{Setup, Ending, exhausted, nonfinite, areFinite}
 use Rattle.search.specs.Turn.{clip, clipped, unknown, blank}
 use Rattle.search.specs.Machine.{Machine, ended, starting, begin}
-use Rattle.search.specs.Layout.{endingNumber, laid, fronted, setupFloats, setupWords, emptied, machineFloats, machineWords, Posed}
+use Rattle.search.specs.Layout.{endingNumber, laid, fronted, setupFloats, setupWords, emptied, reportFloats, machineFloats, machineWords, Posed}
 use Rattle.search.specs.Promise.{stateOutcome, endOutcome}
 use Rattle.search.proofs.Laying.{size, vec-below, vec-above, laid-again}
-use Rattle.search_call.specs.inner.Work.{Unknown, Asks, Started}
+use Rattle.search_call.specs.inner.Work.{unknownFloats, Unknown, Asks, Started}
 
 -- ---- words
 
@@ -68,18 +68,24 @@ module _ (p : Setup) (h : Posed p) where
       let d : laid 1 (replicate 15 +0) F ≡ F = blank-again 1 15 F z line (omega arith) in
       ap (λ (x : List Float). laid 1 (replicate 15 +0) x) (ap (λ (x : List Float). laid 64 (replicate 32 +0) x) (ap (λ (x : List Float). laid 112 (replicate 16 +0) x) a ∙ b) ∙ c) ∙ d
 
-  -- a report of y with values that are not known
-  unknown-floats : (e : Ending) (y : List Float) → length y ≡ p .n
-      → laid 48 y (laid 128 (replicate (suc (p .m)) nan) (setupFloats p)) ≡ machineFloats p (ended e (blank p (unknown p y))) (setupFloats p)
-  unfolding machineFloats
-  unknown-floats e y l =
+  -- y with values that are not known is a report: the multipliers are +0 already
+  unknown-report : (y : List Float) → length y ≡ p .n → unknownFloats (p .m) y (setupFloats p) ≡ reportFloats (blank p (unknown p y)) (setupFloats p)
+  unknown-report y l =
       let F = setupFloats p in
-      let G = laid 48 y (laid 128 (replicate (suc (p .m)) nan) F) in
+      let G = unknownFloats (p .m) y F in
       let n = h .few in
       let m = h .constraints in
       let z : length G ≡ 1024 = size 48 y _ 1024 (size 128 _ F 1024 setup-size) in
       let v : vec 96 (p .m) G ≡ replicate (p .m) +0 = vec-above 96 (p .m) 48 y _ (omega arith) ∙ vec-below 96 (p .m) 128 _ F (omega arith) ∙ behind 96 (p .m) (omega arith) (omega arith) in
-      sym (ap (λ (x : List Float). laid 96 (replicate (p .m) +0) (laid 48 y (laid 128 (replicate (suc (p .m)) nan) x))) empty-already ∙ blank-again 96 (p .m) G z v (omega arith))
+      sym (blank-again 96 (p .m) G z v (omega arith))
+
+  unknown-floats : (e : Ending) (y : List Float) → length y ≡ p .n → unknownFloats (p .m) y (setupFloats p) ≡ machineFloats p (ended e (blank p (unknown p y))) (setupFloats p)
+  unfolding machineFloats
+  unknown-floats e y l = unknown-report y l ∙ sym (ap (λ (x : List Float). reportFloats (blank p (unknown p y)) x) empty-already)
+
+  first-floats : (b : ℕ) (y : List Float) → length y ≡ p .n → laid 976 y (laid 112 y (unknownFloats (p .m) y (setupFloats p))) ≡ machineFloats p (starting b y) (setupFloats p)
+  unfolding machineFloats
+  first-floats b y l = ap (λ (x : List Float). laid 976 y (laid 112 y x)) (unknown-report y l)
 
   -- ---- what the state is
 
@@ -95,7 +101,7 @@ module _ (p : Setup) (h : Posed p) where
       record {
         outcome = sym (ap stateOutcome q);
         floats =
-            k .floats ∙ ap (λ (g : List Float). laid 48 y (laid 128 (replicate (suc (p .m)) nan) g)) hf ∙ unknown-floats e y (clipped-size x)
+            k .floats ∙ ap (λ (g : List Float). unknownFloats (p .m) y g) hf ∙ unknown-floats e y (clipped-size x)
             ∙ sym (ap (λ (M : Machine). machineFloats p M (setupFloats p)) q);
         words = k .words ∙ ap (λ (g : List ℕ). set g 0 (endingNumber e)) hu ∙ ended-words p (endingNumber e) ∙ sym (ap (λ (M : Machine). machineWords M (setupWords p)) q);
       }
@@ -111,18 +117,18 @@ module _ (p : Setup) (h : Posed p) where
   started-exhausted x b f f′ u u′ hf hu a e k = ended-as exhausted x b f f′ u u′ hf hu (rw (a, e) refl) k
 
   asked-as : (x : List Float) (b : ℕ) (f f′ : List Float) (u u′ : List ℕ) → f ≡ setupFloats p → u ≡ setupWords p → areFinite x ≡ true
-      → Asks b (clipped p x) f f′ u u′ → Started p x (suc b) Done f′ u′
-  unfolding begin machineFloats machineWords
+      → Asks b (p .m) (clipped p x) f f′ u u′ → Started p x (suc b) Done f′ u′
+  unfolding begin machineWords
   asked-as x b f f′ u u′ hf hu a k =
       let y = clipped p x in
       let q : begin p x (suc b) ≡ starting b y = rw a refl in
       record {
         outcome = sym (ap stateOutcome q);
-        floats = k .floats ∙ ap (λ (g : List Float). laid 976 y (laid 112 y g)) hf ∙ sym (ap (λ (M : Machine). machineFloats p M (setupFloats p)) q);
+        floats = k .floats ∙ ap (λ (g : List Float). laid 976 y (laid 112 y (unknownFloats (p .m) y g))) hf ∙ first-floats b y (clipped-size x) ∙ sym (ap (λ (M : Machine). machineFloats p M (setupFloats p)) q);
         words = k .words ∙ ap (λ (g : List ℕ). set (set g 0 1) 1 b) hu ∙ first-words p b ∙ sym (ap (λ (M : Machine). machineWords M (setupWords p)) q);
       }
 
   pub started-first : (x : List Float) (b : ℕ) (f f′ : List Float) (u u′ : List ℕ) → f ≡ setupFloats p → u ≡ setupWords p → areFinite x ≡ true → (b ≡ 0 → ⊥)
-      → Asks (b - 1) (clipped p x) f f′ u u′ → Started p x b Done f′ u′
+      → Asks (b - 1) (p .m) (clipped p x) f f′ u u′ → Started p x b Done f′ u′
   started-first x zero f f′ u u′ hf hu a z k = absurd (z refl)
-  started-first x (suc b) f f′ u u′ hf hu a z k = let e : suc b - 1 ≡ b = omega arith in asked-as x b f f′ u u′ hf hu a (subst (λ (c : ℕ). Asks c (clipped p x) f f′ u u′) e k)
+  started-first x (suc b) f f′ u u′ hf hu a z k = let e : suc b - 1 ≡ b = omega arith in asked-as x b f f′ u u′ hf hu a (subst (λ (c : ℕ). Asks c (p .m) (clipped p x) f f′ u u′) e k)

@@ -6,7 +6,7 @@ ghost use lib.ListN.{length, replicate};
 ghost use lib.Ieee.{Float, nan};
 ghost use Rattle.search.specs.Layout.{setupFloats, setupWords, laid};
 ghost use Rattle.search.specs.Promise.{setupOf};
-ghost use Rattle.search_call.specs.inner.Work.{clippedIn, Begins, Unknown, Asks, Started};
+ghost use Rattle.search_call.specs.inner.Work.{clippedIn, unknownFloats, Begins, Unknown, Asks, Started};
 use workspace::Outcome;
 use workspace::Refusal;
 
@@ -70,7 +70,16 @@ fn forget_values(f: &mut [f64], m: usize)
     }
 }
 
-// The run is over before a value was told, and the clipped start is reported.
+// The clipped start is reported, with values that are not known.
+fn report_unknown(f: &mut [f64], lower: &[f64], upper: &[f64], x: &[f64], n: usize, m: usize)
+    requires { ⌜ (length (now f) ≡ 1024) × (length (now lower) ≡ n) × (length (now upper) ≡ n) × (length (now x) ≡ n) × (n ≤ 16) × (m ≤ 16) ⌝ }
+    ensures { λ _. ⌜ now (f .exit) ≡ unknownFloats m (clippedIn n (now (lower .entry)) (now (upper .entry)) (now (x .entry))) (now (f .entry)) ⌝ }
+{
+    forget_values(f, m);
+    clip_into(f, lower, upper, x, 48, n);
+}
+
+// The run is over before a value was told.
 fn end_unknown(
     f: &mut [f64],
     u: &mut [u32],
@@ -84,8 +93,7 @@ fn end_unknown(
     requires { ⌜ (length (now f) ≡ 1024) × (length (now u) ≡ 32) × (length (now lower) ≡ n) × (length (now upper) ≡ n) × (length (now x) ≡ n) × (n ≤ 16) × (m ≤ 16) ⌝ }
     ensures { λ _. ⌜ Unknown ending n m (clippedIn n (now (lower .entry)) (now (upper .entry)) (now (x .entry))) (now (f .entry)) (now (f .exit)) (now (u .entry)) (now (u .exit)) ⌝ }
 {
-    forget_values(f, m);
-    clip_into(f, lower, upper, x, 48, n);
+    report_unknown(f, lower, upper, x, n, m);
     u[0] = ending;
 }
 
@@ -97,11 +105,13 @@ fn ask_first(
     upper: &[f64],
     x: &[f64],
     n: usize,
+    m: usize,
     budget: u32,
 )
-    requires { ⌜ (length (now f) ≡ 1024) × (length (now u) ≡ 32) × (length (now lower) ≡ n) × (length (now upper) ≡ n) × (length (now x) ≡ n) × (n ≤ 16) ⌝ }
-    ensures { λ _. ⌜ Asks budget (clippedIn n (now (lower .entry)) (now (upper .entry)) (now (x .entry))) (now (f .entry)) (now (f .exit)) (now (u .entry)) (now (u .exit)) ⌝ }
+    requires { ⌜ (length (now f) ≡ 1024) × (length (now u) ≡ 32) × (length (now lower) ≡ n) × (length (now upper) ≡ n) × (length (now x) ≡ n) × (n ≤ 16) × (m ≤ 16) ⌝ }
+    ensures { λ _. ⌜ Asks budget m (clippedIn n (now (lower .entry)) (now (upper .entry)) (now (x .entry))) (now (f .entry)) (now (f .exit)) (now (u .entry)) (now (u .exit)) ⌝ }
 {
+    report_unknown(f, lower, upper, x, n, m);
     clip_into(f, lower, upper, x, 112, n);
     workspace::copy_up(f, 112, 976, n);
     u[0] = 1;
@@ -135,6 +145,6 @@ pub fn begin_posed(
         end_unknown(f, u, lower, upper, x, n, m, 8);
         return Outcome::Done;
     }
-    ask_first(f, u, lower, upper, x, n, budget - 1);
+    ask_first(f, u, lower, upper, x, n, m, budget - 1);
     Outcome::Done
 }

@@ -3,9 +3,11 @@ use Prim.Native.Nat.{ℕ, zero, suc, _+_, _-_, _*_, _≤_, _<_}
 use mathlib.Core.Path.{_≡_, refl, sym, ap, ap₂, _∙_, subst}
 use mathlib.Core.Bool.{Bool, true, false}
 use mathlib.Core.List.{List, [], _∷_}
+use mathlib.Core.Logic.{inl, inr}
 use native.Mathlib.Nat.{zero-add, suc-add}
 use native.Mathlib.Omega.{arith}
 use borrow.Author.Tests.{eq-eqb, ne-eqb}
+use lib.Dec.{eqb}
 use lib.ListN.{length, set}
 use lib.Ieee.{Float, nan}
 use Rattle.numbers.specs.Numbers.{at, nth, tab, _⊕_, _⊖_}
@@ -15,14 +17,12 @@ use Rattle.workspace.proofs.Readings.{length-vec}
 use Rattle.search.specs.Setup.{Setup, Point, Report, exhausted, nonfinite, isFinite}
 use Rattle.search.specs.Turn.{moveOf, raise, lower}
 use Rattle.search.specs.Written.{Goal, reportFor, pay}
-use Rattle.search.specs.Machine.{Machine, ended, moveNext, slopesNext}
-use Rattle.search.specs.Layout.{schemeOf, fronted, laid, setupIn, newIn, goalIn, known, machineFloats, machineWords}
+use Rattle.search.specs.Machine.{Machine, ended, sloping, moveNext, slopesNext}
+use Rattle.search.specs.Layout.{schemeOf, fronted, laid, setupIn, newIn, goalIn, known, goalFloats, machineFloats, machineWords}
 use Rattle.search.specs.inner.Work.{Ready, Turned}
-use Rattle.search.proofs.Laying.{laid-again}
 use Rattle.search.proofs.Layouts.{bounds, known-few}
-use Rattle.search.proofs.Relaid.{more}
 use Rattle.search.proofs.Parts.{copied}
-use Rattle.search.proofs.Rereads.{due-again}
+use Rattle.search.proofs.Rereads.{goal-vec, goal-more, due-again}
 use Rattle.search_next.specs.inner.Next.{movedTo, movedState, movedIn, phaseOf, priceOf, goalWords, Ends, askMoved, askedIn, slopedIn}
 use Rattle.search_next.proofs.Read.{as-read}
 
@@ -87,21 +87,25 @@ paid (suc w) b r k h = let e : b ≡ b - 0 = omega arith in ap k e
 -- ---- a value at a moved point is due
 
 -- the state that asks for it, whose parts are read
-moved-here : (p : Setup) (n m : ℕ) (f : List Float) (u : List ℕ) (down : Bool) (c rows cols : ℕ) → n ≤ 16 → m ≤ 16 → length f ≡ 1024 →
-    let i = p .n - suc cols in
-    laid 976 (set (vec 112 n f) i (movedTo down (at (vec 112 n f) i))) f
+moved-here : (p : Setup) (f : List Float) (u : List ℕ) (down : Bool) (c rows cols : ℕ) → p .n ≤ 16 → p .m ≤ 16 → length f ≡ 1024 →
+    let n = p .n in let m = p .m in let i = n - suc cols in
+    laid 976 (set (vec 112 n f) i (movedTo down (at (vec 112 n f) i))) (goalFloats p (goalIn n m f u) (newIn n m f) f)
     ≡ machineFloats p (movedState down c (goalIn n m f u) (newIn n m f) rows cols (vec 448 (known n m rows cols) f) (at f 4)) f
 unfolding machineFloats vec tab
-moved-here p n m f u false c rows cols l k z =
-    let X = set (vec 112 n f) (p .n - suc cols) (movedTo false (at (vec 112 n f) (p .n - suc cols))) in
+moved-here p f u false c rows cols l k z =
+    let n = p .n in let m = p .m in let t = eqb (nth u 4) 0 in
+    let X = set (vec 112 n f) (n - suc cols) (movedTo false (at (vec 112 n f) (n - suc cols))) in
     let B = bounds n m l k in
     let h = known-few n m rows cols (B .0) in
-    sym (ap (λ (t : List Float). laid 976 X t) (more 448 (known n m rows cols) f _ (due-again n m f u l k z) (omega arith)))
-moved-here p n m f u true c rows cols l k z =
-    let X = set (vec 112 n f) (p .n - suc cols) (movedTo true (at (vec 112 n f) (p .n - suc cols))) in
+    sym (ap (λ (g : List Float). laid 976 X g) (goal-more p f u l k z t 448 (known n m rows cols) _ (due-again p f u l k z t) (inr (omega arith)) (inr (omega arith)) (inr (omega arith)) (omega arith)))
+moved-here p f u true c rows cols l k z =
+    let n = p .n in let m = p .m in let t = eqb (nth u 4) 0 in
+    let X = set (vec 112 n f) (n - suc cols) (movedTo true (at (vec 112 n f) (n - suc cols))) in
     let B = bounds n m l k in
     let h = known-few n m rows cols (B .0) in
-    sym (ap (λ (t : List Float). laid 976 X t) (ap (λ (t : List Float). laid 4 (at f 4 ∷ []) t) (more 448 (known n m rows cols) f _ (due-again n m f u l k z) (omega arith)) ∙ laid-again 4 1 f (omega arith)))
+    sym (ap (λ (g : List Float). laid 976 X g) (goal-more p f u l k z t 4 1 _
+    (goal-more p f u l k z t 448 (known n m rows cols) _ (due-again p f u l k z t) (inr (omega arith)) (inr (omega arith)) (inr (omega arith)) (omega arith))
+    (inl (omega arith)) (inl (omega arith)) (inl (omega arith)) (omega arith)))
 
 moved-words : (down : Bool) (c : ℕ) (goal : Goal) (q : Point) (rows cols : ℕ) (g : List Float) (v : Float) (u : List ℕ) → goalWords goal (phaseOf down) c rows cols u ≡ machineWords (movedState down c goal q rows cols g v) u
 unfolding machineWords
@@ -136,42 +140,57 @@ ask-unpaid-here f f′ u u′ down rows cols i price y r h l e b c d t =
 pub ask-unpaid : (n m : ℕ) (f f′ : List Float) (u u′ : List ℕ) (down : Bool) (rows cols i price : ℕ) (y : Float) → Ready n m f u → AskUnpaid n m f f′ u u′ down rows cols i price y
 ask-unpaid n m f f′ u u′ down rows cols i price y r = as-read (λ n m. AskUnpaid n m f f′ u u′ down rows cols i price y) n m f u r (ask-unpaid-here f f′ u u′ down rows cols i price y)
 
-abbrev AskMade : (n m : ℕ) (f f′ : List Float) (u u′ : List ℕ) (down : Bool) (rows cols i price phase : ℕ) (y : Float) → Type 0
-AskMade n m f f′ u u′ down rows cols i price phase y =
+abbrev AskMade : (n m : ℕ) (f g f′ : List Float) (u u′ : List ℕ) (down : Bool) (rows cols i price phase : ℕ) (y : Float) → Type 0
+AskMade n m f g f′ u u′ down rows cols i price phase y =
     i + suc cols ≡ n → rows ≤ m → y ≡ movedTo down (at f (112 + i)) → isFinite y ≡ true → price ≡ priceOf rows m → price ≤ nth u 1 → phase ≡ phaseOf down
-    → f′ ≡ laid 976 (movedIn n i y f) f → u′ ≡ goalWords (goalIn n m f u) phase (nth u 1 - price) rows cols u → Turned (setupIn f u) (askedIn n m f u down rows cols) f f′ u u′
+    → g ≡ goalFloats (setupIn f u) (goalIn n m f u) (newIn n m f) f → f′ ≡ laid 976 (movedIn n i y g) g → u′ ≡ goalWords (goalIn n m f u) phase (nth u 1 - price) rows cols u
+    → Turned (setupIn f u) (askedIn n m f u down rows cols) f f′ u u′
 
-ask-made-here : (f f′ : List Float) (u u′ : List ℕ) (down : Bool) (rows cols i price phase : ℕ) (y : Float) → Ready (nth u 8) (nth u 9) f u → AskMade (nth u 8) (nth u 9) f f′ u u′ down rows cols i price phase y
-ask-made-here f f′ u u′ down rows cols i price phase y r h l e b c d q ef eu =
+ask-made-here : (f g f′ : List Float) (u u′ : List ℕ) (down : Bool) (rows cols i price phase : ℕ) (y : Float) → Ready (nth u 8) (nth u 9) f u → AskMade (nth u 8) (nth u 9) f g f′ u u′ down rows cols i price phase y
+ask-made-here f g f′ u u′ down rows cols i price phase y r h l e b c d q eg ef eu =
     let n = nth u 8 in let m = nth u 9 in
     let x = coordinate n i cols f h in
     let a : isFinite (movedTo down (at (vec 112 n f) (n - suc cols))) ≡ true = ap (λ (t : Float). isFinite (movedTo down t)) x ∙ ap isFinite (sym e) ∙ b in
     let w : priceOf rows m ≡ priceBy (m - rows) = price-is (m - rows) rows m (omega arith) in
     let s : nth u 1 - price ≡ nth u 1 - priceBy (m - rows) = ap (λ (t : ℕ). nth u 1 - t) (c ∙ w) in
     let j : i ≡ n - suc cols = omega arith in
-    let v : movedIn n i y f ≡ set (vec 112 n f) (n - suc cols) (movedTo down (at (vec 112 n f) (n - suc cols))) = ap₂ (λ (t : ℕ) (k : Float). set (vec 112 n f) t k) j (e ∙ ap (λ (t : Float). movedTo down t) (sym x)) in
+    let X = set (vec 112 n f) (n - suc cols) (movedTo down (at (vec 112 n f) (n - suc cols))) in
+    let G = goalFloats (setupIn f u) (goalIn n m f u) (newIn n m f) f in
+    let o : vec 112 n G ≡ vec 112 n f = goal-vec (setupIn f u) f u (r .few) (r .constraints) (r .floats) (eqb (nth u 4) 0) 112 n (inr (omega (arith, r .constraints))) (inr (omega (arith, r .few))) (inl (omega (arith, r .few))) in
+    let v : movedIn n i y g ≡ X =
+    ap (λ (t : List Float). movedIn n i y t) eg ∙ ap (λ (t : List Float). set t i y) o ∙ ap₂ (λ (t : ℕ) (k : Float). set (vec 112 n f) t k) j (e ∙ ap (λ (t : Float). movedTo down t) (sym x)) in
     rw (a, paid (m - rows) (nth u 1) (reportFor (setupIn f u) (goalIn n m f u) (newIn n m f)) (λ c. movedState down c (goalIn n m f u) (newIn n m f) rows cols (vec 448 (known n m rows cols) f) (at f 4)) (omega arith))
     (record {
-      floats = ef ∙ ap (λ (t : List Float). laid 976 t f) v ∙ moved-here (setupIn f u) n m f u down _ rows cols (r .few) (r .constraints) (r .floats);
+      floats = ef ∙ ap₂ (λ (t k : List Float). laid 976 t k) v eg ∙ moved-here (setupIn f u) f u down _ rows cols (r .few) (r .constraints) (r .floats);
       words = eu ∙ ap₂ (λ (t k : ℕ). goalWords (goalIn n m f u) t k rows cols u) q s ∙ moved-words down _ (goalIn n m f u) (newIn n m f) rows cols _ _ u;
     })
 
-pub ask-made : (n m : ℕ) (f f′ : List Float) (u u′ : List ℕ) (down : Bool) (rows cols i price phase : ℕ) (y : Float) → Ready n m f u → AskMade n m f f′ u u′ down rows cols i price phase y
-ask-made n m f f′ u u′ down rows cols i price phase y r = as-read (λ n m. AskMade n m f f′ u u′ down rows cols i price phase y) n m f u r (ask-made-here f f′ u u′ down rows cols i price phase y)
+pub ask-made : (n m : ℕ) (f g f′ : List Float) (u u′ : List ℕ) (down : Bool) (rows cols i price phase : ℕ) (y : Float) → Ready n m f u → AskMade n m f g f′ u u′ down rows cols i price phase y
+ask-made n m f g f′ u u′ down rows cols i price phase y r = as-read (λ n m. AskMade n m f g f′ u u′ down rows cols i price phase y) n m f u r (ask-made-here f g f′ u u′ down rows cols i price phase y)
 
 -- ---- slopes are due
 
-abbrev SlopesTold : (n m : ℕ) (f f′ : List Float) (u u′ : List ℕ) → Type 0
-SlopesTold n m f f′ u u′ =
-    nth u 10 ≡ 0 → f′ ≡ laid 976 (vec 112 n f) f → u′ ≡ goalWords (goalIn n m f u) 3 (nth u 1) 0 0 u → Turned (setupIn f u) (slopedIn n m f u) f f′ u u′
+abbrev SlopesTold : (n m : ℕ) (f g f′ : List Float) (u u′ : List ℕ) → Type 0
+SlopesTold n m f g f′ u u′ =
+    nth u 10 ≡ 0 → g ≡ goalFloats (setupIn f u) (goalIn n m f u) (newIn n m f) f → f′ ≡ laid 976 (vec 112 n g) g → u′ ≡ goalWords (goalIn n m f u) 3 (nth u 1) 0 0 u → Turned (setupIn f u) (slopedIn n m f u) f f′ u u′
 
-slopes-told-here : (f f′ : List Float) (u u′ : List ℕ) → Ready (nth u 8) (nth u 9) f u → SlopesTold (nth u 8) (nth u 9) f f′ u u′
+slopes-told-here : (f g f′ : List Float) (u u′ : List ℕ) → Ready (nth u 8) (nth u 9) f u → SlopesTold (nth u 8) (nth u 9) f g f′ u u′
 unfolding machineFloats machineWords
-slopes-told-here f f′ u u′ r e ef eu =
-    rw e (record { floats = ef ∙ sym (ap (λ (t : List Float). laid 976 (vec 112 (nth u 8) f) t) (due-again (nth u 8) (nth u 9) f u (r .few) (r .constraints) (r .floats))); words = eu })
+slopes-told-here f g f′ u u′ r e eg ef eu =
+    let n = nth u 8 in let m = nth u 9 in
+    let p = setupIn f u in let goal = goalIn n m f u in let q = newIn n m f in
+    let t = eqb (nth u 4) 0 in
+    let M : slopedIn n m f u ≡ sloping (nth u 1) goal q = ap (λ (j : ℕ). slopesNext (schemeOf j) p goal (nth u 1) q) e in
+    let l = r .few in let k = r .constraints in
+    let o : vec 112 n g ≡ vec 112 n f = ap (λ (y : List Float). vec 112 n y) eg ∙ goal-vec p f u l k (r .floats) t 112 n (inr (omega arith)) (inr (omega arith)) (inl (omega arith)) in
+    subst (λ (N : Machine). Turned p N f f′ u u′) (sym M)
+    (record {
+      floats = ef ∙ ap₂ (λ (y w : List Float). laid 976 y w) o eg ∙ sym (ap (λ (y : List Float). laid 976 (vec 112 n f) y) (due-again p f u l k (r .floats) t));
+      words = eu;
+    })
 
-pub slopes-told : (n m : ℕ) (f f′ : List Float) (u u′ : List ℕ) → Ready n m f u → SlopesTold n m f f′ u u′
-slopes-told n m f f′ u u′ r = as-read (λ n m. SlopesTold n m f f′ u u′) n m f u r (slopes-told-here f f′ u u′)
+pub slopes-told : (n m : ℕ) (f g f′ : List Float) (u u′ : List ℕ) → Ready n m f u → SlopesTold n m f g f′ u u′
+slopes-told n m f g f′ u u′ r = as-read (λ n m. SlopesTold n m f g f′ u u′) n m f u r (slopes-told-here f g f′ u u′)
 
 -- a coordinate that is moved next
 pub move-asks : (p : Setup) (goal : Goal) (q : Point) (rows cols b : ℕ) (g : List Float) (v : Float) → moveNext p goal q rows (suc cols) b g ≡ askMoved p false b goal q rows cols g v

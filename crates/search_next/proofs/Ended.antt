@@ -13,10 +13,11 @@ use Rattle.workspace.proofs.Readings.{length-vec}
 use Rattle.search.specs.Turn.{blank}
 use Rattle.search.specs.Written.{reportFor}
 use Rattle.search.specs.Machine.{ended}
-use Rattle.search.specs.Layout.{fronted, laid, emptied, setupIn, newIn, goalIn, reportIn, pointFloats, machineWords}
+use Rattle.search.specs.Layout.{fronted, laid, emptied, setupIn, newIn, goalIn, reportIn, pointFloats, goalFloats, machineWords}
 use Rattle.search.specs.inner.Work.{Ready, Turned}
 use Rattle.search.proofs.Laying.{size, vec-below, vec-above, vec-laid}
 use Rattle.search.proofs.Layouts.{bounds}
+use Rattle.search.proofs.Relaid.{iterate-again}
 use Rattle.search.proofs.Parts.{blanked}
 use Rattle.search.proofs.Turns.{FitsReport, covered, ended-iterate}
 use Rattle.search.proofs.Rereads.{words-same, problem-same, problem-laid, setup-after, turned-after, ended-here, bit-word}
@@ -64,20 +65,32 @@ end-turned k f f′ u u′ z l m e d =
     λ x h. record { floats = e ∙ sym (ended-here (setupIn f u) x (nth u 8) (nth u 9) f l m z); words = d ∙ ap (λ (t : ℕ). sevenWords t 0 0 0 0 0 0 u) h }
 
 -- the new point, with multipliers +0, where the accepted one stands
-abbrev BegunEnd : (n m k : ℕ) (f g h f″ : List Float) (u u″ : List ℕ) → Type 0
-BegunEnd n m k f g h f″ u u″ =
-    g ≡ pointFloats (newIn n m f) f → length h ≡ length g → Block 96 m (λ t. +0) g h → Ends k (reportIn (nth u 8) (nth u 9) h) h f″ u u″
+pub new-reported : (n m : ℕ) (f g h : List Float) → length f ≡ 1024 → m ≤ 16 → g ≡ pointFloats (newIn n m f) f → length h ≡ length g → Block 96 m (λ t. +0) g h
+    → h ≡ laid 96 (replicate m +0) (pointFloats (newIn n m f) f)
+new-reported n m f g h z l e y b =
+    let zg : length (pointFloats (newIn n m f) f) ≡ 1024 = size 48 _ _ 1024 (size 128 _ f 1024 z) in
+    let zh : length g ≡ 1024 = ap length e ∙ zg in
+    blanked 96 m g h y (omega arith) b ∙ ap (λ (t : List Float). laid 96 (replicate m +0) t) e
+
+pub goal-reported : (n m : ℕ) (f g : List Float) (u : List ℕ) → Ready n m f u → eqb (nth u 4) 0 ≡ true → g ≡ laid 96 (replicate m +0) (pointFloats (newIn n m f) f)
+    → g ≡ goalFloats (setupIn f u) (goalIn n m f u) (newIn n m f) f
+goal-reported n m f g u r e h = rw (e, r .functions) h
+
+pub goal-stays : (n m : ℕ) (f : List Float) (u : List ℕ) → Ready n m f u → eqb (nth u 4) 0 ≡ false → f ≡ goalFloats (setupIn f u) (goalIn n m f u) (newIn n m f) f
+goal-stays n m f u r e = let B = bounds n m (r .few) (r .constraints) in rw e (sym (iterate-again n m f u (r .few) (r .constraints) (B .0) (B .1) (r .floats)))
+
+abbrev BegunEnd : (n m k : ℕ) (f h f″ : List Float) (u u″ : List ℕ) → Type 0
+BegunEnd n m k f h f″ u u″ =
+    h ≡ laid 96 (replicate m +0) (pointFloats (newIn n m f) f) → Ends k (reportIn (nth u 8) (nth u 9) h) h f″ u u″
     → Ends k (blank (setupIn f u) (newIn n m f)) f f″ u u″
 
-begun-end-here : (k : ℕ) (f g h f″ : List Float) (u u″ : List ℕ) → Ready (nth u 8) (nth u 9) f u → BegunEnd (nth u 8) (nth u 9) k f g h f″ u u″
-begun-end-here k f g h f″ u u″ r eg z bl E e q =
+begun-end-here : (k : ℕ) (f h f″ : List Float) (u u″ : List ℕ) → Ready (nth u 8) (nth u 9) f u → BegunEnd (nth u 8) (nth u 9) k f h f″ u u″
+begun-end-here k f h f″ u u″ r eh E e q =
     let n = nth u 8 in let m = nth u 9 in
     let zf = r .floats in let l₁ = r .few in let l₂ = r .constraints in
     let zp : length (laid 128 (vec 152 (suc m) f) f) ≡ 1024 = size 128 _ f 1024 zf in
     let zg : length (pointFloats (newIn n m f) f) ≡ 1024 = size 48 _ _ 1024 zp in
-    let zh : length g ≡ 1024 = ap length eg ∙ zg in
     let H = laid 96 (replicate m +0) (pointFloats (newIn n m f) f) in
-    let eh : h ≡ H = blanked 96 m g h z (omega arith) bl ∙ ap (λ (t : List Float). laid 96 (replicate m +0) t) eg in
     let T : Turned (setupIn H u) (ended e (reportIn n m H)) H f″ u u″ = subst (λ (t : List Float). Turned (setupIn t u) (ended e (reportIn n m t)) t f″ u u″) eh (E e q) in
     let lm : length (replicate m +0) ≡ m = length-replicate m +0 in
     let lx : length (vec 112 n f) ≡ n = length-vec 112 n f in
@@ -95,8 +108,8 @@ begun-end-here k f g h f″ u u″ r eg z bl E e q =
     (covered (setupIn f u) M 96 m _ _ fit lm (k .multipliers) ∙ covered (setupIn f u) M 48 n _ _ fit lx (k .x) ∙ covered (setupIn f u) M 128 (suc m) _ _ fit (length-vec 152 (suc m) f) (k .values))
     refl
 
-pub begun-end : (n m k : ℕ) (f g h f″ : List Float) (u u″ : List ℕ) → Ready n m f u → BegunEnd n m k f g h f″ u u″
-begun-end n m k f g h f″ u u″ r = as-read (λ n m. BegunEnd n m k f g h f″ u u″) n m f u r (begun-end-here k f g h f″ u u″)
+pub begun-end : (n m k : ℕ) (f h f″ : List Float) (u u″ : List ℕ) → Ready n m f u → BegunEnd n m k f h f″ u u″
+begun-end n m k f h f″ u u″ r = as-read (λ n m. BegunEnd n m k f h f″ u u″) n m f u r (begun-end-here k f h f″ u u″)
 
 -- on the way to slopes
 pub goal-begun : (n m k : ℕ) (f f′ : List Float) (u u′ : List ℕ) → eqb (nth u 4) 0 ≡ true → Ends k (blank (setupIn f u) (newIn n m f)) f f′ u u′

@@ -21,11 +21,11 @@ use Rattle.search.specs.Written.{Goal, reportFor, rowDone}
 use Rattle.search.specs.Machine.{Machine, ended, raised, lowered, moveNext, lowerNext}
 use Rattle.search.specs.Layout.{schemeOf, laid, setupIn, newIn, goalIn, known, machineFloats}
 use Rattle.search.specs.inner.Work.{Ready, Turned}
-use Rattle.search.proofs.Laying.{laid-in, vec-below}
+use Rattle.search.proofs.Laying.{laid-in, vec-below, vec-apart}
 use Rattle.search.proofs.Layouts.{bounds, known-few}
 use Rattle.search.proofs.Lent.{set-laid}
 use Rattle.search.proofs.Turns.{FitsReport, covered, ended-slope, ended-value, raised-slope, lowered-value, by-reach, by-row, by-ask, by-first}
-use Rattle.search.proofs.Rereads.{words-same, problem-same, problem-laid, problem-low, setup-after, ready-after, turned-after, iterate-apart, goal-apart, new-apart, vec-apart}
+use Rattle.search.proofs.Rereads.{words-same, problem-same, problem-laid, problem-low, setup-after, ready-after, turned-after, iterate-apart, goal-apart, new-apart}
 use Rattle.search_next.specs.inner.Next.{Ends, askMoved, askedIn, addedIn, rowIn, rowStands, raisedIn, secondIn, singleIn, arrivedIn}
 use Rattle.search_next.proofs.Read.{fits-new, fits-goal, fits-report, as-read}
 use Rattle.search_next.proofs.Asked.{coordinate, move-asks}

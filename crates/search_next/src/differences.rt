@@ -10,6 +10,7 @@ ghost use Rattle.search.specs.Turn.{quotient};
 ghost use Rattle.search.specs.inner.Work.{Ready, Turned};
 ghost use Rattle.search_next.specs.inner.Next.{movedTo, askedIn, addedIn, rowIn, rowStands, slopedIn, movedIn, phaseOf, priceOf};
 use crate::ends::end_goal;
+use crate::ends::report_goal;
 use crate::ends::set_goal_words;
 use crate::trials::arrive_next;
 use search_turn::are_finite;
@@ -87,6 +88,7 @@ pub fn ask_moved(
         end_goal(f, u, n, m, 8);
         return;
     }
+    report_goal(f, u, n, m);
     point_moved(f, n, i, y);
     let phase = phase_of(down);
     set_goal_words(u, phase, budget - price, rows, cols);
@@ -190,6 +192,7 @@ pub fn slopes_next(f: &mut [f64], u: &mut [u32], n: usize, m: usize)
     ensures { λ _. ⌜ Turned (setupIn (now (f .entry)) (now (u .entry))) (slopedIn n m (now (f .entry)) (now (u .entry))) (now (f .entry)) (now (f .exit)) (now (u .entry)) (now (u .exit)) ⌝ }
 {
     if u[10] == 0 {
+        report_goal(f, u, n, m);
         workspace::copy_up(f, 112, 976, n);
         let budget = u[1];
         set_goal_words(u, 3, budget, 0, 0);

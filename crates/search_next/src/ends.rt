@@ -2,12 +2,12 @@
 ghost use mathlib.Core.Path.{_≡_};
 ghost use Prim.Native.Nat.{ℕ, _≤_};
 ghost use mathlib.Core.List.{List};
-ghost use lib.ListN.{length};
+ghost use lib.ListN.{length, replicate};
 ghost use lib.Ieee.{Float};
-ghost use Rattle.numbers.specs.Numbers.{nth};
+ghost use Rattle.numbers.specs.Numbers.{+0, nth};
 ghost use Rattle.search.specs.Turn.{blank};
 ghost use Rattle.search.specs.Written.{reportFor};
-ghost use Rattle.search.specs.Layout.{setupIn, newIn, goalIn, reportIn, emptied};
+ghost use Rattle.search.specs.Layout.{setupIn, newIn, goalIn, reportIn, laid, emptied, pointFloats, goalFloats};
 ghost use Rattle.search.specs.inner.Work.{Ready};
 ghost use Rattle.search_next.specs.inner.Next.{sevenWords, goalWords, Ends};
 use search_move::accept;
@@ -68,13 +68,32 @@ pub fn end_with(f: &mut [f64], u: &mut [u32], ending: u32)
     set_words(u, ending, 0, 0, 0, 0, 0, 0);
 }
 
+// The new point where the accepted one stands, with multipliers +0.
+fn report_new(f: &mut [f64], n: usize, m: usize)
+    requires { ⌜ (length (now f) ≡ 1024) × (n ≤ 16) × (m ≤ 16) ⌝ }
+    ensures { λ _. ⌜ now (f .exit) ≡ laid 96 (replicate m +0) (pointFloats (newIn n m (now (f .entry))) (now (f .entry))) ⌝ }
+{
+    accept(f, n, m);
+    workspace::blank(f, 96, m);
+}
+
+// What slopes at the new point are for: before the first turn that point is reported.
+pub fn report_goal(f: &mut [f64], u: &[u32], n: usize, m: usize)
+    requires { ⌜ Ready n m (now f) (now u) ⌝ }
+    ensures { λ _. ⌜ now (f .exit) ≡ goalFloats (setupIn (now (f .entry)) (now (u .entry))) (goalIn n m (now (f .entry)) (now (u .entry))) (newIn n m (now (f .entry))) (now (f .entry)) ⌝ }
+{
+    if u[4] == 0 {
+        report_new(f, n, m);
+        return;
+    }
+}
+
 // The run has ended before a first turn, and the new point is reported.
 pub fn end_begun(f: &mut [f64], u: &mut [u32], n: usize, m: usize, ending: u32)
     requires { ⌜ Ready n m (now f) (now u) ⌝ }
     ensures { λ _. ⌜ Ends ending (blank (setupIn (now (f .entry)) (now (u .entry))) (newIn n m (now (f .entry)))) (now (f .entry)) (now (f .exit)) (now (u .entry)) (now (u .exit)) ⌝ }
 {
-    accept(f, n, m);
-    workspace::blank(f, 96, m);
+    report_new(f, n, m);
     end_with(f, u, ending);
 }
 

@@ -16,7 +16,7 @@ use Rattle.step.specs.declared.Tried.{Tried}
 use Rattle.step.specs.declared.Tried.the-variants.{Done, Refused}
 use Rattle.step.specs.declared.Stage.the-variants.{Passed, Failed}
 use Rattle.step.specs.declared.Stepped.the-variants as Stepped
-use Rattle.step.specs.inner.Work.{triedStep, later, IsLate, Tries, steppedAnswer, steppedReport, IsLateStep, EndsStep}
+use Rattle.step.specs.inner.Work.{triedStep, unrelaxed, later, IsLate, Tries, steppedAnswer, steppedReport, IsLateStep, EndsStep}
 
 -- ---- the relaxed problem's answer after counts a and b of the exact one
 
@@ -56,11 +56,10 @@ module _ (n m : ℕ) (factor gradient : List Float) (kinds : List ℕ) (values w
   p = problemOf n m factor gradient kinds values widths jacobian lower upper
 
   -- the exact problem is done
-  pub step-first : (x : Float) (a b : ℕ) (w w′ : List Float) → vec 0 n w ≡ map neg (downward n (transposed n n factor) n gradient)
-      → Tries (exact (problemOf n m factor [] kinds values widths jacobian lower upper) (vec 0 n w)) n m (Done x a b) w w′
-      → EndsStep n m (Stepped.Done x (record { exact = Passed; relaxed = Passed; rounds = a; factorings = b })) w′ p
-  unfolding step reportOf
-  step-first x a b w w′ e t =
+  step-done : (x : Float) (a b : ℕ) (w w′ : List Float) → vec 0 n w ≡ map neg (downward n (transposed n n factor) n gradient)
+      → Tries (exact (problemOf n m factor [] kinds values widths jacobian lower upper) (vec 0 n w)) n m (Done x a b) w w′ → EndsStep n m (unrelaxed (Done x a b)) w′ p
+  unfolding step reportOf unrelaxed
+  step-done x a b w w′ e t =
       let first = triedStep (Done x a b) (vec 18 n w′) (vec 36 m w′) in
       let q : first ≡ exact p (target p) = t .answer ∙ exact-bare (vec 0 n w) ∙ ap (exact p) (e ∙ target-is) in
       record {
@@ -68,6 +67,10 @@ module _ (n m : ℕ) (factor gradient : List Float) (kinds : List ℕ) (values w
         the-report = ap (λ (c : Counted Step). reported (c .answer) c (relaxed p (target p))) q;
         late = tt;
       }
+
+  pub step-first : (r : Tried) (x : Float) (a b : ℕ) (w w′ : List Float) → r ≡ Done x a b → vec 0 n w ≡ map neg (downward n (transposed n n factor) n gradient)
+      → Tries (exact (problemOf n m factor [] kinds values widths jacobian lower upper) (vec 0 n w)) n m r w w′ → EndsStep n m (unrelaxed r) w′ p
+  step-first r x a b w w′ h e t = rw h (step-done x a b w w′ e (rw h at t))
 
   -- it is refused, and the relaxed one answers
   pub step-second : (k : Refusal) (a b : ℕ) (r : Tried) (w w′ w″ : List Float) → vec 0 n w ≡ map neg (downward n (transposed n n factor) n gradient)

@@ -13,7 +13,7 @@ ghost use Rattle.nnls.specs.Counted.{Counted};
 ghost use Rattle.step.specs.Step.{inOrder, paired, clamped, exact, relaxed, stageNumber, stagePlace};
 ghost use Rattle.step_rows.specs.inner.Work.{equalitiesAmong, floorsAmong, relaxedAmong};
 ghost use Rattle.step_rows.specs.Problem.{problemOf};
-ghost use Rattle.step.specs.inner.Work.{StepReady, ExactIn, RelaxedIn, Readable, Left, Tries, roundsOf, factoringsOf, later, EndsStep};
+ghost use Rattle.step.specs.inner.Work.{StepReady, ExactIn, RelaxedIn, Readable, Left, Tries, roundsOf, factoringsOf, unrelaxed, later, EndsStep};
 ghost use Rattle.step.specs.inner.Places.{EXACT_EQUALITY_MULTIPLIERS, EXACT_MULTIPLIERS, EXACT_X, RELAXED_MULTIPLIERS, RELAXED_X, STEP_WORDS};
 use workspace::Outcome;
 use workspace::Refusal;
@@ -298,6 +298,33 @@ fn try_relaxed(
 
 // ---- the step
 
+// What the exact problem answered, with nothing after it.
+fn alone(first: Tried) -> Stepped
+    requires { ⌜ (roundsOf first ≤ 198) × (factoringsOf first ≤ 13334) ⌝ }
+    ensures { λ r. ⌜ r ≡ unrelaxed first ⌝ }
+{
+    match first {
+        Tried::Done(relaxation, r, f) => Stepped::Done(
+            relaxation,
+            Report {
+                exact: Stage::Passed,
+                relaxed: Stage::Passed,
+                rounds: r as u32,
+                factorings: f as u32,
+            },
+        ),
+        Tried::Refused(why, r, f) => Stepped::Refused(
+            why,
+            Report {
+                exact: Stage::Failed(why),
+                relaxed: Stage::Passed,
+                rounds: r as u32,
+                factorings: f as u32,
+            },
+        ),
+    }
+}
+
 // What the relaxed problem answered, after the exact one was refused, with the counts of both.
 fn after(why: Refusal, rounds: usize, factorings: usize, second: Tried) -> Stepped
     requires { ⌜ (rounds ≤ 198) × (factorings ≤ 13334) × (roundsOf second ≤ 198) × (factoringsOf second ≤ 13334) ⌝ }
@@ -357,31 +384,21 @@ pub fn solve_step(
         n,
         m,
     );
-    match first {
-        Tried::Done(relaxation, rounds, factorings) => Stepped::Done(
-            relaxation,
-            Report {
-                exact: Stage::Passed,
-                relaxed: Stage::Passed,
-                rounds: rounds as u32,
-                factorings: factorings as u32,
-            },
-        ),
-        Tried::Refused(why, rounds, factorings) => {
-            let second = try_relaxed(
-                factor,
-                kinds,
-                values,
-                widths,
-                jacobian,
-                lower,
-                upper,
-                w,
-                iw,
-                n,
-                m,
-            );
-            after(why, rounds, factorings, second)
-        }
-    }
+    let Tried::Refused(why, rounds, factorings) = first else {
+        return alone(first);
+    };
+    let second = try_relaxed(
+        factor,
+        kinds,
+        values,
+        widths,
+        jacobian,
+        lower,
+        upper,
+        w,
+        iw,
+        n,
+        m,
+    );
+    after(why, rounds, factorings, second)
 }

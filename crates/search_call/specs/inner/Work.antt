@@ -30,14 +30,18 @@ pub record Begins (p : Setup) (x f : List Float) (u : List ℕ) : Type 0 where
   pub floats : length f ≡ 1024
   pub words : length u ≡ 32
 
--- the run is over before a value was told: the clipped start with values that are not known; k is the number of how
+-- the clipped start with values that are not known
+abbrev pub unknownFloats : (m : ℕ) → (y f : List Float) → List Float
+unknownFloats m y f = laid 48 y (laid 128 (replicate (suc m) nan) f)
+
+-- the run is over before a value was told; k is the number of how
 pub record Unknown (k n m : ℕ) (y : List Float) (f f′ : List Float) (u u′ : List ℕ) : Type 0 where
-  pub floats : f′ ≡ laid 48 y (laid 128 (replicate (suc m) nan) f)
+  pub floats : f′ ≡ unknownFloats m y f
   pub words : u′ ≡ set u 0 k
 
 -- the values at y are asked for, with b left
-pub record Asks (b : ℕ) (y : List Float) (f f′ : List Float) (u u′ : List ℕ) : Type 0 where
-  pub floats : f′ ≡ laid 976 y (laid 112 y f)
+pub record Asks (b m : ℕ) (y : List Float) (f f′ : List Float) (u u′ : List ℕ) : Type 0 where
+  pub floats : f′ ≡ laid 976 y (laid 112 y (unknownFloats m y f))
   pub words : u′ ≡ set (set u 0 1) 1 b
 
 -- the search of p from x with a budget of b has begun

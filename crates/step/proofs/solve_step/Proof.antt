@@ -20,18 +20,11 @@ try-exact-requires c κs = let s = c .before .before .before .before .before .be
 enum-known-first : tie.Need-enum-known-first
 enum-known-first c = search needs
 
-cast-t31 : tie.Need-cast-t31
-cast-t31 c = let x = c .before .before .before .before .before .before .before .try-exact .ensures in
-    let q = c .before .first .given .1 in
-    omega (arith, rw q at (x .rounds))
+enum-told : tie.Need-enum-told
+enum-told c = search needs
 
-cast-t32 : tie.Need-cast-t32
-cast-t32 c = let x = c .before .before .before .before .before .before .before .try-exact .ensures in
-    let q = c .before .first .given .1 in
-    omega (arith, rw q at (x .factorings))
-
-enum-known-first-2 : tie.Need-enum-known-first-2
-enum-known-first-2 c = search needs
+alone-requires : tie.Need-alone-requires
+alone-requires c κs = let x = c .before .before .before .before .before .before .try-exact .ensures in (x .rounds, x .factorings)
 
 try-relaxed-requires : tie.Need-try-relaxed-requires
 try-relaxed-requires c κs = let s = c .before .before .before .before .before .before .before .before .before .before .before .before .before .before .before .before .before .before .before .before .before .before .before .before .before .before in
@@ -42,7 +35,7 @@ try-relaxed-requires c κs = let s = c .before .before .before .before .before .
 after-requires : tie.Need-after-requires
 after-requires c κs = let x = c .before .before .before .before .before .before .before .before .before .before .before .before .before .before .try-exact .ensures in
     let y = c .before .before .before .before .try-relaxed .ensures in
-    let q = c .before .before .before .before .before .before .before .before .first2 .given .1 in
+    let q = c .before .before .before .before .before .before .before .before .first .given .1 in
     (rw q at (x .rounds), rw q at (x .factorings), y .rounds, y .factorings)
 
 same-length : tie.Need-same-length
@@ -55,7 +48,8 @@ returns : tie.Need-returns
 returns c = let a = c .before .before .before .before .before .before .before .before .before .before .before .before .before .before .before .before .before .before .before .before .before .before .before .before .args in
     let t = c .before .before .before .before .before .before .before .before .before .before .before .before .write-target in
     let x = c .before .before .before .before .before .before .before .try-exact in
-    step-first (a .n) (a .m) (a .factor .now) (a .gradient .now) (a .kinds .now) (a .values .now) (a .widths .now) (a .jacobian .now) (a .lower .now) (a .upper .now) _ _ _ _ _ (t .ensures) (rw (c .before .first .given .1) at (x .ensures))
+    rw (c .alone .ensures)
+    (step-first (a .n) (a .m) (a .factor .now) (a .gradient .now) (a .kinds .now) (a .values .now) (a .widths .now) (a .jacobian .now) (a .lower .now) (a .upper .now) (x .result) _ _ _ _ _ (c .before .enum-told .given .1) (t .ensures) (x .ensures))
 
 same-length-3 : tie.Need-same-length-3
 same-length-3 c = omega (arith, c .before .before .before .before .before .before .before .before .before .before .before .before .before .before .before .try-exact .kept, c .before .before .before .before .before .before .before .before .before .before .before .before .before .before .before .before .before .before .before .before .write-target .kept, c .before .before .before .before .before .try-relaxed .kept)
@@ -68,7 +62,7 @@ returns-2 c = let a = c .before .before .before .before .before .before .before 
     let t = c .before .before .before .before .before .before .before .before .before .before .before .before .before .before .before .before .before .before .before .before .write-target in
     let x = c .before .before .before .before .before .before .before .before .before .before .before .before .before .before .before .try-exact in
     let y = c .before .before .before .before .before .try-relaxed in
-    let q = c .before .before .before .before .before .before .before .before .before .first2 .given .1 in
+    let q = c .before .before .before .before .before .before .before .before .before .first .given .1 in
     rw (c .after .ensures)
     (step-second (a .n) (a .m) (a .factor .now) (a .gradient .now) (a .kinds .now) (a .values .now) (a .widths .now) (a .jacobian .now) (a .lower .now) (a .upper .now) _ _ _ (y .result) _ _ _ (t .ensures) (rw q at (x .ensures)) (y .ensures))
 
@@ -79,14 +73,13 @@ solve-step-spec =
     write-target-requires
     try-exact-requires
     enum-known-first
-    cast-t31
-    cast-t32
-    enum-known-first-2
-    try-relaxed-requires
-    after-requires
+    enum-told
+    alone-requires
     same-length
     same-length-2
     returns
+    try-relaxed-requires
+    after-requires
     same-length-3
     same-length-4
     returns-2)

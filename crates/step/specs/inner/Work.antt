@@ -91,6 +91,11 @@ abbrev pub factoringsOf : Tried → ℕ
 factoringsOf (Done relaxation rounds factorings) = factorings
 factoringsOf (Refused r rounds factorings) = factorings
 
+-- the exact problem's answer as the step's, where the relaxed one is not tried
+unfoldable pub unrelaxed : Tried → Stepped
+unrelaxed (Done relaxation r f) = Stepped.Done relaxation (record { exact = Passed; relaxed = Passed; rounds = r; factorings = f })
+unrelaxed (Refused k r f) = Stepped.Refused k (record { exact = Failed k; relaxed = Passed; rounds = r; factorings = f })
+
 -- the relaxed problem's answer as the step's, after the exact one was refused and took its counts
 unfoldable pub later : Refusal → (rounds factorings : ℕ) → Tried → Stepped
 later why rounds factorings (Done relaxation r f) =

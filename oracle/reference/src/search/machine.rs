@@ -83,12 +83,31 @@ impl Reading {
         arrival.from.as_ref().map_or_else(|| self.blank(&arrival.point), Iterate::report)
     }
 
+    /// A point of which nothing was told.
+    fn unknown(&self, x: &[f64]) -> Report {
+        self.blank(&Point { x: x.to_vec(), values: vec![f64::NAN; 1 + self.setup.m] })
+    }
+
+    /// What is reported in a state, at the end and before, if anything is.
+    pub fn reported(&self, state: &State) -> Option<Report> {
+        match state {
+            State::Ended(_, report) => Some(report.clone()),
+            State::Starting(_, x) => {
+                (self.slip != Slip::StartUnreported).then(|| self.unknown(x))
+            }
+            State::Trying(_, iterate, ..) => Some(iterate.report()),
+            State::Sloping(_, arrival) | State::Moving(_, arrival) => {
+                let known = arrival.from.is_some() || self.slip != Slip::SlopesUnreported;
+                known.then(|| self.report(arrival))
+            }
+        }
+    }
+
     /// A run begins at a start.
     pub fn start(&self, x: &[f64], budget: u32) -> State {
         let clipped = self.clipped(x);
-        let unknown = Point { x: clipped.clone(), values: vec![f64::NAN; 1 + self.setup.m] };
         let looked_at = if self.slip == Slip::StartClippedFirst { &clipped[..] } else { x };
-        let report = self.blank(&unknown);
+        let report = self.unknown(&clipped);
         match budget {
             0 if self.slip == Slip::BudgetBeforeStart => State::Ended(Ending::Exhausted, report),
             _ if !finite(looked_at) => State::Ended(Ending::Nonfinite, report),

@@ -150,10 +150,16 @@ impl Page {
         }
     }
 
-    /// Writes a state: the parts that it uses, its words, and the point that it asks about.
+    /// Writes a state: what is reported of it, the parts that it uses, its words, and the point that
+    /// it asks about.
     pub fn write(&mut self, reading: &Reading, state: &State) {
+        if let Some(report) = reading.reported(state) {
+            self.lay(X, &report.x);
+            self.lay(VALUES, &report.values);
+            self.lay(MULTIPLIERS, &report.multipliers);
+        }
         match state {
-            State::Ended(_, report) => self.lay_report(report, reading.slip),
+            State::Ended(..) => self.empty(reading.slip),
             State::Starting(_, x) => self.lay(NEW_X, x),
             State::Trying(_, iterate, line, _) => {
                 self.lay_iterate(iterate);
@@ -168,7 +174,8 @@ impl Page {
         self.lay(ASKED, &x);
     }
 
-    fn lay_report(&mut self, report: &Report, slip: Slip) {
+    /// All but the problem and the report.
+    fn empty(&mut self, slip: Slip) {
         let emptied = match slip {
             Slip::NotEmptied => &[][..],
             Slip::PenaltiesNotEmptied => &[(ALPHA, LOWER), (D, PENALTIES), (NEW_X, VALUES), REST],
@@ -177,18 +184,12 @@ impl Page {
         for &(from, to) in emptied {
             self.lay(from, &vec![0.0; to - from]);
         }
-        self.lay(X, &report.x);
-        self.lay(VALUES, &report.values);
-        self.lay(MULTIPLIERS, &report.multipliers);
     }
 
     fn lay_iterate(&mut self, iterate: &Iterate) {
-        self.lay(X, &iterate.point.x);
-        self.lay(VALUES, &iterate.point.values);
         self.lay(SLOPES, &iterate.slopes);
         self.lay(B, &iterate.b);
         self.lay(PENALTIES, &iterate.penalties);
-        self.lay(MULTIPLIERS, &iterate.multipliers);
     }
 
     fn lay_arrival(&mut self, arrival: &Arrival) {

@@ -31,6 +31,8 @@ slips! {
     GradientWithAll "the gradient looked at with the Jacobian";
     FirstValuesLost "values of a first answer that is not finite lost";
     TrialReported "a trial that is not finite reported";
+    StartUnreported "nothing reported before the start's values are told";
+    SlopesUnreported "the start's values not reported before its slopes are known";
     NotEmptied "an ended machine not emptied";
     PenaltiesNotEmptied "an ended machine with its penalties";
     BeginKeeps "workspaces kept by a beginning";

@@ -42,6 +42,8 @@ pub const ROWS: &[Row] = &[
     }),
     ("crossing floors", Share::Weight(6), &[Number(0), Named, Blocked], floors),
     ("balance twice", Share::Weight(5), &[Number(11), Place(11)], twice),
+    ("digits lost", Share::All(2), &[Number(0)], |op, index, _| lost(op, index)),
+    ("pinned", Share::Weight(4), &[Number(0), Named], pinned),
     ("dependent", Share::Weight(4), &[Number(11), Place(11)], dependent),
     ("too many", Share::Weight(2), &[Number(11), Place(11)], |op, _, draw| {
         let n = draw.between(0, 15);
@@ -188,6 +190,34 @@ fn twice(op: Op, _: u64, draw: &mut Draw) -> Call {
     let to = (from + draw.between(1, m - 1)) % m;
     let factor = draw.pick(&[1.0, 1.0, -1.0, 2.0]);
     put_row(&mut call.inputs[3], n, from, to, factor);
+    call
+}
+
+/// The two days of docs/MANUAL.md that close and are wrong (examples/pinned.sheet, examples/twice.sheet).
+fn lost(op: Op, index: u64) -> Call {
+    let (volumes, spreads, balances): (&[u32], &[f64], &[f64]) = match index {
+        0 => (
+            &[1338, 5681, 5680, 0],
+            &[40.0, 40.0, 10.0, 0.5],
+            &[0.0, -1.0, 1.0, -1.0, 0.0, -1.0, 1.0, 0.0],
+        ),
+        _ => (&[470, 3532, 3232], &[47.0, 353.0, 323.0], &[0.2, -5.7, 6.2, 0.2, -5.7, 6.2]),
+    };
+    let new = volumes.iter().map(|volume| stored(*volume)).collect();
+    let old = volumes.iter().map(|_| stored(0)).collect();
+    Call::new(op, &[volumes.len(), 2], vec![old, new, spreads.to_vec(), balances.to_vec()])
+}
+
+/// A network with a meter at rest that the balances alone hold at zero: one of them stands twice, with and without it.
+fn pinned(op: Op, _: u64, draw: &mut Draw) -> Call {
+    let n = draw.size(3, 16);
+    let m = draw.between(1, n.min(4) - 1);
+    let mut rows: Vec<f64> = (0..m * n).map(|at| if at % n == n - 1 { 0.0 } else { draw.pick(&[1.0, -1.0, 0.0]) }).collect();
+    let mut again = rows[..n].to_vec();
+    again[n - 1] = draw.pick(&[1.0, -1.0]);
+    rows.extend(again);
+    let mut call = day(op, draw, &[n, m + 1], rows, near);
+    call.inputs[1][n - 1] = call.inputs[0][n - 1];
     call
 }
 

@@ -58,7 +58,7 @@ sub-ask-first : tie.Need-sub-ask-first
 sub-ask-first c = omega arith
 
 ask-first-requires : tie.Need-ask-first-requires
-ask-first-requires c κs = let b = c .before .before .before .before .before .before .before .before .before .before .before .before .before .before .before .before .before .before .before .pre .0 in let q = b .posed in (omega (arith, b .start, b .floats, b .words, q .few, q .constraints, q .kinds, q .lower, q .upper), omega (arith, b .start, b .floats, b .words, q .few, q .constraints, q .kinds, q .lower, q .upper), omega (arith, b .start, b .floats, b .words, q .few, q .constraints, q .kinds, q .lower, q .upper), omega (arith, b .start, b .floats, b .words, q .few, q .constraints, q .kinds, q .lower, q .upper), omega (arith, b .start, b .floats, b .words, q .few, q .constraints, q .kinds, q .lower, q .upper), omega (arith, b .start, b .floats, b .words, q .few, q .constraints, q .kinds, q .lower, q .upper))
+ask-first-requires c κs = let b = c .before .before .before .before .before .before .before .before .before .before .before .before .before .before .before .before .before .before .before .pre .0 in let q = b .posed in (omega (arith, b .start, b .floats, b .words, q .few, q .constraints, q .kinds, q .lower, q .upper), omega (arith, b .start, b .floats, b .words, q .few, q .constraints, q .kinds, q .lower, q .upper), omega (arith, b .start, b .floats, b .words, q .few, q .constraints, q .kinds, q .lower, q .upper), omega (arith, b .start, b .floats, b .words, q .few, q .constraints, q .kinds, q .lower, q .upper), omega (arith, b .start, b .floats, b .words, q .few, q .constraints, q .kinds, q .lower, q .upper), omega (arith, b .start, b .floats, b .words, q .few, q .constraints, q .kinds, q .lower, q .upper), omega (arith, b .start, b .floats, b .words, q .few, q .constraints, q .kinds, q .lower, q .upper))
 
 same-length-5 : tie.Need-same-length-5
 same-length-5 c = search needs

@@ -58,6 +58,9 @@ same-length-4 c = search needs
 returns-2 : tie.Need-returns-2
 returns-2 c = let a = c .before .before .before .before .before .before .before .before .before .before .before .before .before .before .before .before .args in let r = c .before .before .before .before .before .before .before .before .before .before .before .before .before .before .before .before .pre in ask-unpaid (a .n) (a .m) (a .f .now) _ (a .u .now) _ (a .down) (a .rows) (a .cols) (a .n - 1 - a .cols) (c .before .before .before .before .before .before .before .before .price-of .result) (c .before .before .before .before .before .before .before .before .before .before .before .before .moved-to .result) (r .0) (omega arith) (r .1) (c .before .before .before .before .before .before .before .before .before .before .before .before .moved-to .ensures) (sym (c .before .before .before .before .before .before .before .before .before .before .before .is-finite .ensures) ∙ not-false _ (c .before .before .before .before .before .before .before .before .before .before .if1 .left)) (c .before .before .before .before .before .before .before .before .price-of .ensures) (omega arith) (c .before .before .before .before .end-goal2 .ensures)
 
+report-goal-requires : tie.Need-report-goal-requires
+report-goal-requires c κs = search needs
+
 point-moved-requires : tie.Need-point-moved-requires
 point-moved-requires c κs = search needs
 
@@ -74,7 +77,11 @@ same-length-6 : tie.Need-same-length-6
 same-length-6 c = search needs
 
 returns-3 : tie.Need-returns-3
-returns-3 c = let a = c .before .before .before .before .before .before .before .before .before .before .before .before .before .before .before .before .before .before .args in let r = c .before .before .before .before .before .before .before .before .before .before .before .before .before .before .before .before .before .before .pre in ask-made (a .n) (a .m) (a .f .now) _ (a .u .now) _ (a .down) (a .rows) (a .cols) (a .n - 1 - a .cols) (c .before .before .before .before .before .before .before .before .before .before .price-of .result) (c .before .before .before .before .phase-of .result) (c .before .before .before .before .before .before .before .before .before .before .before .before .before .before .moved-to .result) (r .0) (omega arith) (r .1) (c .before .before .before .before .before .before .before .before .before .before .before .before .before .before .moved-to .ensures) (sym (c .before .before .before .before .before .before .before .before .before .before .before .before .before .is-finite .ensures) ∙ not-false _ (c .before .before .before .before .before .before .before .before .before .before .before .before .if1 .left)) (c .before .before .before .before .before .before .before .before .before .before .price-of .ensures) (omega arith) (c .before .before .before .before .phase-of .ensures) (c .before .before .before .before .before .before .before .point-moved .ensures) (c .before .before .set-goal-words .ensures (a .n) (a .m) (a .f .now))
+returns-3 c =
+    let s = c .before .before .before .before .before .before .before .before .before .before .before .before .before .before .before .before .before .before .before .before .before .before .before in
+    let a = s .args in
+    let r = s .pre in
+    ask-made (a .n) (a .m) (a .f .now) (c .before .before .before .before .before .before .before .before .before .before .before .report-goal .last .0) _ (a .u .now) _ (a .down) (a .rows) (a .cols) (a .n - 1 - a .cols) (c .before .before .before .before .before .before .before .before .before .before .before .before .before .before .before .price-of .result) (c .before .before .before .before .phase-of .result) (c .before .before .before .before .before .before .before .before .before .before .before .before .before .before .before .before .before .before .before .moved-to .result) (r .0) (omega arith) (r .1) (c .before .before .before .before .before .before .before .before .before .before .before .before .before .before .before .before .before .before .before .moved-to .ensures) (sym (c .before .before .before .before .before .before .before .before .before .before .before .before .before .before .before .before .before .before .is-finite .ensures) ∙ not-false _ (c .before .before .before .before .before .before .before .before .before .before .before .before .before .before .before .before .before .if1 .left)) (c .before .before .before .before .before .before .before .before .before .before .before .before .before .before .before .price-of .ensures) (omega arith) (c .before .before .before .before .phase-of .ensures) (c .before .before .before .before .before .before .before .before .before .before .before .report-goal .ensures) (c .before .before .before .before .before .before .before .point-moved .ensures) (c .before .before .set-goal-words .ensures (a .n) (a .m) (a .f .now))
 
 pub ask-moved-spec : {M : Type 1} → statement M
 ask-moved-spec =
@@ -97,6 +104,7 @@ ask-moved-spec =
     same-length-3
     same-length-4
     returns-2
+    report-goal-requires
     point-moved-requires
     phase-of-requires
     set-goal-words-requires

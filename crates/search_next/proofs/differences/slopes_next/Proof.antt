@@ -9,6 +9,9 @@ use Rattle.search_next.proofs.differences.slopes_next.Tie as tie
 slice-read-if1 : tie.Need-slice-read-if1
 slice-read-if1 c = search needs
 
+report-goal-requires : tie.Need-report-goal-requires
+report-goal-requires c κs = search needs
+
 copy-up-requires : tie.Need-copy-up-requires
 copy-up-requires c κs = search needs
 
@@ -25,7 +28,12 @@ same-length-2 : tie.Need-same-length-2
 same-length-2 c = search needs
 
 returns : tie.Need-returns
-returns c = let a = c .before .before .before .before .before .before .before .before .before .before .before .before .before .args in let r = c .before .before .before .before .before .before .before .before .before .before .before .before .before .pre in slopes-told (a .n) (a .m) (a .f .now) _ (a .u .now) _ r (c .before .before .before .before .before .before .before .before .before .if1 .taken) (copied 976 112 (a .n) (a .f .now) (c .before .before .before .before .before .before .before .copy-up .last .0) (omega arith) (omega (arith, r .floats, r .few)) (c .before .before .before .before .before .before .before .copy-up .ensures)) (c .before .before .set-goal-words .ensures (a .n) (a .m) (a .f .now))
+returns c =
+    let s = c .before .before .before .before .before .before .before .before .before .before .before .before .before .before .before .before .before .before in
+    let a = s .args in
+    let r = s .pre in
+    let g = c .before .before .before .before .before .before .before .before .before .before .before .report-goal .last .0 in
+    slopes-told (a .n) (a .m) (a .f .now) g _ (a .u .now) _ r (c .before .before .before .before .before .before .before .before .before .before .before .before .before .before .if1 .taken) (c .before .before .before .before .before .before .before .before .before .before .before .report-goal .ensures) (copied 976 112 (a .n) g (c .before .before .before .before .before .before .before .copy-up .last .0) (omega arith) (omega (arith, r .floats, r .few)) (c .before .before .before .before .before .before .before .copy-up .ensures)) (c .before .before .set-goal-words .ensures (a .n) (a .m) (a .f .now))
 
 sub-ask-moved : tie.Need-sub-ask-moved
 sub-ask-moved c = search needs
@@ -47,6 +55,7 @@ slopes-next-spec =
     tie.close
     (tie.spec
     slice-read-if1
+    report-goal-requires
     copy-up-requires
     slice-read-budget
     set-goal-words-requires
