@@ -15,11 +15,11 @@ use Rattle.exact.specs.Exact.{ℚ, _≤ℚ_, _<ℚ_, _≈ℚ_, over, who
 use Rattle.exact.proofs.Laws as laws
 use Rattle.exact.specs.Claims.{LessIsLess, NotLessIsAtLeast, SizeIsValue, UnitsAreValue, NegIsNeg}
 
-told : (b : Bool) → T b → b ≡ true
+pub told : (b : Bool) → T b → b ≡ true
 told true t = refl
 told false t = absurd t
 
-asked : (b : Bool) → b ≡ true → T b
+pub asked : (b : Bool) → b ≡ true → T b
 asked b h = subst T (sym h) tt
 
 -- the four pairs of signs, in whole numbers multiplied across
@@ -98,7 +98,7 @@ zero-value : value +0 ≈ℚ whole 0
 unfolding value signed _≈ℚ_
 zero-value = refl
 
-lt-left : (a a' b : ℚ) → a ≈ℚ a' → a <ℚ b → a' <ℚ b
+pub lt-left : (a a' b : ℚ) → a ≈ℚ a' → a <ℚ b → a' <ℚ b
 unfolding _<ℚ_ _≈ℚ_
 lt-left a a' b h l = go (a .plus) (a .minus) (a .den) (a' .plus) (a' .minus) (a' .den) (b .plus) (b .minus) (b .den) (a' .above) h l
   where
@@ -106,6 +106,16 @@ lt-left a a' b h l = go (a .plus) (a .minus) (a .den) (a' .plus) (a' .minus) (a'
     go p m d p' m' d' q n e pd h l =
         let k : (p * d' + m' * d) * e ≡ (p' * d + m * d') * e = ap (λ (x : ℕ). x * e) h in
         let w : (p * e + n * d) * d' < (q * d + m * e) * d' = mul-lt-mul-of-pos-right l pd in
+        lt-of-mul-lt-mul-right d (omega arith)
+
+pub lt-right : (a b b' : ℚ) → b ≈ℚ b' → a <ℚ b → a <ℚ b'
+unfolding _<ℚ_ _≈ℚ_
+lt-right a b b' h l = go (b .plus) (b .minus) (b .den) (b' .plus) (b' .minus) (b' .den) (a .plus) (a .minus) (a .den) (b' .above) h l
+  where
+    go : (p m d p' m' d' q n e : ℕ) → 0 < d' → p * d' + m' * d ≡ p' * d + m * d' → q * d + m * e < p * e + n * d → q * d' + m' * e < p' * e + n * d'
+    go p m d p' m' d' q n e pd h l =
+        let k : (p * d' + m' * d) * e ≡ (p' * d + m * d') * e = ap (λ (x : ℕ). x * e) h in
+        let w : (q * d + m * e) * d' < (p * e + n * d) * d' = mul-lt-mul-of-pos-right l pd in
         lt-of-mul-lt-mul-right d (omega arith)
 
 pub above-zero : (x : Float) → Finite x → lt +0 x ≡ true → whole 0 <ℚ value x
