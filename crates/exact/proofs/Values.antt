@@ -1,19 +1,20 @@
 -- A float's value: the claims of `specs/Claims.antt`. Assumes nothing.
 use Prim.Native.Nat.{ℕ, zero, suc, _+_, _*_, _^_, _≤_, _<_}
 use mathlib.Core.Path.{_≡_, refl, sym, ap, _∙_, subst}
-use mathlib.Core.Bool.{Bool, true, false, not, true≢false}
-use native.Mathlib.Nat.{mul-lt-mul-of-pos-right, lt-of-mul-lt-mul-right}
+use mathlib.Core.Bool.{Bool, true, false, not, _&&_, _||_, true≢false}
+use mathlib.Core.Logic.{_⊎_, inl, inr}
+use native.Mathlib.Nat.{le-of-lt, le-of-eq, eq-or-lt-of-le, eq-zero-or-pos, mul-lt-mul-of-pos-right, lt-of-mul-lt-mul-right}
 use native.Mathlib.Omega.{arith}
 use lib.IntN.{ℤ}
-use lib.Dec.{T, ltb, ltb→lt, lt→ltb, nltb→le}
+use lib.Dec.{T, ltb, eqb, ltb→lt, lt→ltb, nltb→le, eqb→eq}
 use lib.Pow.{pow-pos}
-use lib.Ieee.{Float, nan, inf, fin, up, down, lt, neg, below}
-use lib.Ieee.Fits.{down-pos}
+use lib.Ieee.{Float, nan, inf, fin, up, down, lt, le, neg, below, level}
+use lib.Ieee.Fits.{down-pos, and-l, and-r, eq→eqb}
 use lib.Ieee.Exact.{HasValue}
 use Rattle.numbers.specs.Numbers.{+0}
 use Rattle.exact.specs.Exact.{ℚ, _≤ℚ_, _<ℚ_, _≈ℚ_, over, whole, negℚ, Finite, signed, value}
 use Rattle.exact.proofs.Laws as laws
-use Rattle.exact.specs.Claims.{LessIsLess, NotLessIsAtLeast, SizeIsValue, UnitsAreValue, NegIsNeg}
+use Rattle.exact.specs.Claims.{LessIsLess, NotLessIsAtLeast, AtMostIsAtMost, SizeIsValue, UnitsAreValue, NegIsNeg}
 
 pub told : (b : Bool) → T b → b ≡ true
 told true t = refl
@@ -75,6 +76,69 @@ not-less-is-at-least x y fx fy = (
     go : (b : Bool) → (b ≡ true → ⊥) → b ≡ false
     go true f = absurd (f refl)
     go false f = refl
+
+-- the four pairs of signs for `le`, which is `lt` or the same size and, but for zeros, the same sign
+pub or-split : (a b : Bool) → T (a || b) → T a ⊎ T b
+or-split true b t = inl tt
+or-split false b t = inr t
+
+or-left : (a b : Bool) → T a → T (a || b)
+or-left true b t = tt
+or-left false b t = absurd t
+
+or-right : (a b : Bool) → T b → T (a || b)
+or-right true b t = tt
+or-right false b t = t
+
+and-both : (a b : Bool) → T a → T b → T (a && b)
+and-both true b t u = u
+and-both false b t u = absurd t
+
+pub at-most : (a b : ℕ) → T (ltb a b || (eqb a b && true)) → a ≤ b
+at-most a b t = elim (or-split (ltb a b) (eqb a b && true) t) [ inl u ↦ le-of-lt (ltb→lt a b u) | inr u ↦ le-of-eq (eqb→eq a b (and-l (eqb a b) true u)) ]
+
+of-at-most : (a b : ℕ) → a ≤ b → T (ltb a b || (eqb a b && true))
+of-at-most a b h = elim (eq-or-lt-of-le h) [ inl e ↦ or-right (ltb a b) (eqb a b && true) (and-both (eqb a b) true (eq→eqb e) tt) | inr l ↦ or-left (ltb a b) (eqb a b && true) (lt→ltb a b l) ]
+
+both-zero : (a b : ℕ) → T (eqb a b && (false || eqb a 0)) → (a ≡ b) × (a ≡ 0)
+both-zero a b t = (eqb→eq a b (and-l (eqb a b) (eqb a 0) t), eqb→eq a 0 (and-r (eqb a b) (eqb a 0) t))
+
+no-more : (s t : Bool) (m n : ℕ) (e d : ℤ) → T (below s (m * up e * down d) t (n * up d * down e) || level s (m * up e * down d) t (n * up d * down e)) → signed s m e ≤ℚ signed t n d
+unfolding _≤ℚ_ signed negℚ
+no-more false false m n e d h = let k = at-most (m * up e * down d) (n * up d * down e) h in omega arith
+no-more false true m n e d h = let k = both-zero (m * up e * down d) (n * up d * down e) h in omega arith
+no-more true false m n e d h = omega arith
+no-more true true m n e d h = let k = at-most (n * up d * down e) (m * up e * down d) (turn (n * up d * down e) (m * up e * down d) h) in omega arith
+  where
+    turn : (a b : ℕ) → T (ltb a b || (eqb b a && true)) → T (ltb a b || (eqb a b && true))
+    turn a b t = elim (or-split (ltb a b) (eqb b a && true) t) [ inl u ↦ or-left (ltb a b) (eqb a b && true) u | inr u ↦ or-right (ltb a b) (eqb a b && true) (and-both (eqb a b) true (eq→eqb (sym (eqb→eq b a (and-l (eqb b a) true u)))) tt) ]
+
+no-more-of : (s t : Bool) (m n : ℕ) (e d : ℤ) → signed s m e ≤ℚ signed t n d → T (below s (m * up e * down d) t (n * up d * down e) || level s (m * up e * down d) t (n * up d * down e))
+unfolding _≤ℚ_ signed negℚ
+no-more-of false false m n e d h = of-at-most (m * up e * down d) (n * up d * down e) (omega arith)
+no-more-of false true m n e d h = zeros (m * up e * down d) (n * up d * down e) (omega arith) (omega arith)
+  where
+    zeros : (a b : ℕ) → a ≡ 0 → b ≡ 0 → T (eqb a b && (false || eqb a 0))
+    zeros a b i j = and-both (eqb a b) (eqb a 0) (eq→eqb (i ∙ sym j)) (eq→eqb i)
+no-more-of true false m n e d h = either (m * up e * down d) (n * up d * down e)
+  where
+    either : (a b : ℕ) → T (ltb 0 (a + b) || (eqb a b && (false || eqb a 0)))
+    either a b = elim (eq-zero-or-pos (a + b)) [
+      | inl z ↦ or-right (ltb 0 (a + b)) (eqb a b && (false || eqb a 0)) (let i : a ≡ b = omega arith in let j : a ≡ 0 = omega arith in and-both (eqb a b) (eqb a 0) (eq→eqb i) (eq→eqb j))
+      | inr l ↦ or-left (ltb 0 (a + b)) (eqb a b && (false || eqb a 0)) (lt→ltb 0 (a + b) l)
+    ]
+no-more-of true true m n e d h = turn (m * up e * down d) (n * up d * down e) (of-at-most (n * up d * down e) (m * up e * down d) (omega arith))
+  where
+    turn : (a b : ℕ) → T (ltb b a || (eqb b a && true)) → T (ltb b a || (eqb a b && true))
+    turn a b t = elim (or-split (ltb b a) (eqb b a && true) t) [ inl u ↦ or-left (ltb b a) (eqb a b && true) u | inr u ↦ or-right (ltb b a) (eqb a b && true) (and-both (eqb a b) true (eq→eqb (sym (eqb→eq b a (and-l (eqb b a) true u)))) tt) ]
+
+pub at-most-is-at-most : AtMostIsAtMost
+unfolding value le
+at-most-is-at-most nan y fx fy = absurd fx
+at-most-is-at-most (inf s) y fx fy = absurd fx
+at-most-is-at-most (fin s m e) nan fx fy = absurd fy
+at-most-is-at-most (fin s m e) (inf t) fx fy = absurd fy
+at-most-is-at-most (fin s m e) (fin t n d) fx fy = (λ h. no-more s t m n e d (subst T (sym h) tt), λ h. told (le (fin s m e) (fin t n d)) (no-more-of s t m n e d h))
 
 pub size-is-value : SizeIsValue
 unfolding value signed negℚ _≈ℚ_

@@ -4,7 +4,7 @@ use mathlib.Core.Path.{_≡_}
 use mathlib.Core.Bool.{Bool, true, false}
 use mathlib.Core.Logic.{_↔_}
 use lib.Pow.{pow-pos}
-use lib.Ieee.{Float, lt, neg}
+use lib.Ieee.{Float, lt, le, neg}
 use lib.Ieee.Exact.{HasValue}
 use Rattle.numbers.specs.Rounded.{IsUnits}
 use Rattle.exact.specs.Exact.{ℚ, _≤ℚ_, _<ℚ_, _≈ℚ_, over, negℚ, Finite, value}
@@ -15,6 +15,9 @@ LessIsLess = (x y : Float) → Finite x → Finite y → (lt x y ≡ true) ↔ (
 
 abbrev pub NotLessIsAtLeast : Type 0
 NotLessIsAtLeast = (x y : Float) → Finite x → Finite y → (lt x y ≡ false) ↔ (value y ≤ℚ value x)
+
+abbrev pub AtMostIsAtMost : Type 0
+AtMostIsAtMost = (x y : Float) → Finite x → Finite y → (le x y ≡ true) ↔ (value x ≤ℚ value y)
 
 -- A float that is a / c in size, with a clear sign or a set one (lib.Ieee.Exact), has that value.
 abbrev pub SizeIsValue : Type 0

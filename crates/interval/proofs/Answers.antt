@@ -42,10 +42,10 @@ no-nan-any b h =
     over : (c : ℕ) → c ≤ 9218868437227405312 → 9218868437227405312 < c → ⊥
     over c h u = omega arith
 
-abbrev TOP : Float
+abbrev pub TOP : Float
 TOP = div binary64 (ofBits binary64 4607182418800017408) (ofBits binary64 0)
 
-abbrev BOTTOM : Float
+abbrev pub BOTTOM : Float
 BOTTOM = div binary64 (neg (ofBits binary64 4607182418800017408)) (ofBits binary64 0)
 
 -- ---- ends

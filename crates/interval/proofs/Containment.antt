@@ -167,7 +167,7 @@ zero-held : (lo hi : Float) → Held lo hi (value +0) → Held lo hi (whole 0)
 unfolding value signed _≤ℚ_
 zero-held lo hi h = record { low = at-least-through (whole 0) (value +0) lo (omega arith) (h .low); high = at-most-through (whole 0) (value +0) hi (omega arith) (h .high) }
 
-nothing : AtMost (whole 0) +0
+pub nothing : AtMost (whole 0) +0
 unfolding value signed _≤ℚ_
 nothing = omega arith
 

@@ -15,7 +15,7 @@ use lib.Ieee.Order.{drop, kept, round-mono}
 use Rattle.numbers.specs.Rounded.{IsUnits}
 use Rattle.numbers.proofs.Correct.{in-units, all-in-units}
 use Rattle.exact.specs.Exact.{ℚ, _≤ℚ_, _≈ℚ_, over, negℚ, value, Finite, signed}
-use Rattle.exact.proofs.Values.{size-is-value, neg-is-neg}
+use Rattle.exact.proofs.Values.{at-most, size-is-value, neg-is-neg}
 use Rattle.exact.proofs.Laws as laws
 use Rattle.interval.specs.Held.{AtMost, AtLeast}
 use Rattle.interval.proofs.Signs.{neg-neg, lt-neg, round-neg, at-least-neg, at-most-neg}
@@ -61,13 +61,6 @@ itself m e h =
     )
 
 -- ---- the order of two values that are not negative, as an order of fractions
-or-split : (a b : Bool) → T (a || b) → T a ⊎ T b
-or-split true b t = inl tt
-or-split false b t = inr t
-
-lt-or-eq : (a b : ℕ) → T (ltb a b || (eqb a b && true)) → a ≤ b
-lt-or-eq a b t = elim (or-split (ltb a b) (eqb a b && true) t) [ inl u ↦ le-of-lt (ltb→lt a b u) | inr u ↦ le-of-eq (eqb→eq a b (and-l (eqb a b) true u)) ]
-
 -- x / p is a / L, y / q is b / L
 units-le : (x y p q a b L : ℕ) → 0 < L → x * L ≡ a * p → y * L ≡ b * q → 0 < p → 0 < q → x * q ≤ y * p → a ≤ b
 units-le x y p q a b L l e f P Q h =
@@ -90,7 +83,7 @@ le-units (fin false m e) nan a b v w h = absurd w
 le-units (fin false m e) (inf t) a b v w h = absurd w
 le-units (fin false m e) (fin true n d) a b v w h = absurd (true≢false (w .0))
 le-units (fin false m e) (fin false n d) a b v w h =
-    units-le (m * up e) (n * up d) (down e) (down d) a b (2 ^ 1074) (pow-pos 1074) (v .1) (w .1) (down-pos e) (down-pos d) (lt-or-eq (m * up e * down d) (n * up d * down e) h)
+    units-le (m * up e) (n * up d) (down e) (down d) a b (2 ^ 1074) (pow-pos 1074) (v .1) (w .1) (down-pos e) (down-pos d) (at-most (m * up e * down d) (n * up d * down e) h)
 
 pub lt-units : (x y : Float) (a b : ℕ) → IsUnits x a → IsUnits y b → T (lt x y) → a < b
 unfolding lt
