@@ -14,7 +14,7 @@ use Rattle.numbers.specs.Root.{sqrtOf}
 use Rattle.exact.specs.Exact.{ℚ, _≤ℚ_, _<ℚ_, whole, negℚ, _+ℚ_, _-ℚ_, _*ℚ_, squared, absℚ, Σℚ, value, signed, Finite}
 use Rattle.exact.proofs.Laws as laws
 use Rattle.exact.proofs.Monotone.{sum-mono}
-use Rattle.exact.proofs.Values.{above-zero, at-most-is-at-most}
+use Rattle.exact.proofs.Values.{above-zero, at-most-is-at-most, and-left, and-right}
 use Rattle.interval.specs.Next.{nextUp}
 use Rattle.interval.specs.Held.{AtMost, Holds}
 use Rattle.interval.specs.Intervals.{isFinite, isPositive, larger, divUp, point, plus, minus, times, magnitude, product, sumWithin, addUp, mulUp, sumUp}
@@ -67,14 +67,6 @@ slack-bounds z b a q h = go (le +0 z) refl
     go false e = tt
 
 -- ---- tests of all
-and-left : (a b : Bool) → (a && b) ≡ true → a ≡ true
-and-left true b h = refl
-and-left false b h = absurd (false≢true h)
-
-and-right : (a b : Bool) → (a && b) ≡ true → b ≡ true
-and-right true b h = h
-and-right false b h = absurd (false≢true h)
-
 all-at : (n : ℕ) (f : ℕ → Bool) → allBelow n f ≡ true → (i : ℕ) → i < n → f i ≡ true
 unfolding allBelow
 all-at zero f h i l = absurd (omega arith)

@@ -23,6 +23,14 @@ told false t = absurd t
 pub asked : (b : Bool) → b ≡ true → T b
 asked b h = subst T (sym h) tt
 
+pub and-left : (a b : Bool) → (a && b) ≡ true → a ≡ true
+and-left true b h = refl
+and-left false b h = absurd (true≢false (sym h))
+
+pub and-right : (a b : Bool) → (a && b) ≡ true → b ≡ true
+and-right true b h = h
+and-right false b h = absurd (true≢false (sym h))
+
 -- the four pairs of signs, in whole numbers multiplied across
 less : (s t : Bool) (m n : ℕ) (e d : ℤ) → T (below s (m * up e * down d) t (n * up d * down e)) → signed s m e <ℚ signed t n d
 unfolding _<ℚ_ signed negℚ

@@ -27,7 +27,7 @@ use Rattle.interval.proofs.Bounds.{at-most-through, at-least-through, e
 use Rattle.interval.proofs.Operations.{rounded-mul}
 
 -- what is at least zero is at most no float below zero
-no-negative : (t : ℚ) (n : ℕ) (d : ℤ) → whole 0 ≤ℚ t → t ≤ℚ value (fin true (suc n) d) → ⊥
+pub no-negative : (t : ℚ) (n : ℕ) (d : ℤ) → whole 0 ≤ℚ t → t ≤ℚ value (fin true (suc n) d) → ⊥
 unfolding _≤ℚ_ value signed negℚ
 no-negative t n d h k =
     let p : 0 < suc n * up d * t .den = mul-pos (mul-pos (zero-lt-suc n) (up-pos d)) (t .above) in
@@ -65,7 +65,7 @@ mul-up-at-most (fin s m e) (fin u l d) z n q t a b h k =
     at-most-through (q *ℚ t) (value x *ℚ value y) z (product-both q (value x) t (value y) a b h k) (lift-up (value x *ℚ value y) (mul binary64 x y) z (rounded-mul x y tt tt) n)
 
 -- ---- quotients, by a float above zero
-pub quotient : (s : Bool) (m : ℕ) (e : ℤ) (n : ℕ) (d : ℤ) → ℚ
+unfoldable pub quotient : (s : Bool) (m : ℕ) (e : ℤ) (n : ℕ) (d : ℤ) → ℚ
 unfolding signed
 quotient false m e n d = record { plus = m * up e * down d; minus = 0; den = suc n * up d * down e; above = mul-pos (mul-pos (zero-lt-suc n) (up-pos d)) (down-pos e) }
 quotient true m e n d = record { plus = 0; minus = m * up e * down d; den = suc n * up d * down e; above = mul-pos (mul-pos (zero-lt-suc n) (up-pos d)) (down-pos e) }
@@ -74,7 +74,7 @@ div-is : (s : Bool) (m : ℕ) (e : ℤ) (n : ℕ) (d : ℤ) → div binary64 (fi
 unfolding div
 div-is s m e n d = ap (λ (b : Bool). cond b (cond (eqb m 0) nan (inf (unlike s false))) (round binary64 (unlike s false) (m * up e * down d) (suc n * up d * down e))) (eqb·suc-zero n)
 
-rounded-div : (s : Bool) (m : ℕ) (e : ℤ) (n : ℕ) (d : ℤ) → Rounded (quotient s m e n d) (div binary64 (fin s m e) (fin false (suc n) d))
+pub rounded-div : (s : Bool) (m : ℕ) (e : ℤ) (n : ℕ) (d : ℤ) → Rounded (quotient s m e n d) (div binary64 (fin s m e) (fin false (suc n) d))
 unfolding quotient
 rounded-div false m e n d = subst (Rounded (quotient false m e n d)) (sym (div-is false m e n d)) (rounded-plus (quotient false m e n d) (m * up e * down d) (omega arith))
 rounded-div true m e n d = subst (Rounded (quotient true m e n d)) (sym (div-is true m e n d)) (rounded-minus (quotient true m e n d) (m * up e * down d) (omega arith))
@@ -178,7 +178,7 @@ no-more p m l = go (leb p m) (leb→le p m) (nleb→lt p m)
     go true y n = y tt
     go false y n = let g = n tt in absurd (over (p - m) (omega arith) (omega arith))
 
-no-square : (q : ℚ) (s : Bool) (e : ℤ) → q *ℚ q ≤ℚ value (fin s 0 e) → q ≤ℚ value (fin s 0 e)
+pub no-square : (q : ℚ) (s : Bool) (e : ℤ) → q *ℚ q ≤ℚ value (fin s 0 e) → q ≤ℚ value (fin s 0 e)
 unfolding _≤ℚ_ _*ℚ_ value signed negℚ
 no-square q s e h = by-sign s h
   where
