@@ -1,5 +1,5 @@
 -- A float's value: the claims of `specs/Claims.antt`. Assumes nothing.
-use Prim.Native.Nat.{ℕ, zero, suc, _+_, _*_, _^_, _≤_, _<_}
+use Prim.Native.Nat.{ℕ, _+_, _*_, _^_, _≤_, _<_}
 use mathlib.Core.Path.{_≡_, refl, sym, ap, _∙_, subst}
 use mathlib.Core.Bool.{Bool, true, false, not, _&&_, _||_, true≢false}
 use mathlib.Core.Logic.{_⊎_, inl, inr}
@@ -9,10 +9,9 @@ use lib.IntN.{ℤ}
 use lib.Dec.{T, ltb, eqb, ltb→lt, lt→ltb, nltb→le, eqb→eq}
 use lib.Pow.{pow-pos}
 use lib.Ieee.{Float, nan, inf, fin, up, down, lt, le, neg, below, level}
-use lib.Ieee.Fits.{down-pos, and-l, and-r, eq→eqb}
-use lib.Ieee.Exact.{HasValue}
+use lib.Ieee.Fits.{and-l, and-r, eq→eqb}
 use Rattle.numbers.specs.Numbers.{+0}
-use Rattle.exact.specs.Exact.{ℚ, _≤ℚ_, _<ℚ_, _≈ℚ_, over, whole, negℚ, Finite, signed, value}
+use Rattle.exact.specs.Exact.{ℚ, _≤ℚ_, _<ℚ_, _≈ℚ_, whole, negℚ, Finite, signed, value}
 use Rattle.exact.proofs.Laws as laws
 use Rattle.exact.specs.Claims.{LessIsLess, NotLessIsAtLeast, AtMostIsAtMost, SizeIsValue, UnitsAreValue, NegIsNeg}
 

@@ -1,6 +1,6 @@
 -- How tight an interval is where the exact result is an f64: its ends are that f64's neighbours.
 use mathlib.Core.Path.{_≡_, refl, sym, ap, ap₂, _∙_, subst}
-use mathlib.Core.Bool.{Bool, true, false, not, cond, _&&_, false≢true}
+use mathlib.Core.Bool.{Bool, true, false, not, false≢true}
 use Prim.Native.Nat.{ℕ, zero, suc, _+_, _*_, _^_, _≤_, _<_}
 use native.Mathlib.Nat.{le-antisymm, le-of-lt, le-of-eq, mul-pos, zero-lt-suc, mul-le-mul-left, mul-le-mul-right, le-of-mul-le-mul-right}
 use native.Mathlib.Omega.{arith}
@@ -14,11 +14,11 @@ use Rattle.numbers.specs.Root.{sqrtOf}
 use Rattle.numbers.specs.Rounded.{IsUnits}
 use Rattle.numbers.proofs.Correct.{correctly-rounded, all-in-units}
 use Rattle.numbers.proofs.Order.{lt-irrefl}
-use Rattle.exact.specs.Exact.{ℚ, _≤ℚ_, _<ℚ_, _≈ℚ_, over, whole, negℚ, _+ℚ_, _-ℚ_, _*ℚ_, value, signed, Finite}
+use Rattle.exact.specs.Exact.{ℚ, _≤ℚ_, _≈ℚ_, over, whole, negℚ, _+ℚ_, _-ℚ_, _*ℚ_, value, signed, Finite}
 use Rattle.exact.proofs.Laws as laws
 use Rattle.exact.proofs.Values.{less-is-less, at-most-is-at-most, units-are-value, neg-is-neg, lt-left, lt-right, told, asked, and-left, and-right}
 use Rattle.interval.specs.Next.{nextUp, nextDown}
-use Rattle.interval.specs.Intervals.{isFinite, isPositive, larger, smaller, addUp, mulUp, divUp, rootUp, line, point, plus, minus, times, product}
+use Rattle.interval.specs.Intervals.{isFinite, isPositive, larger, smaller, addUp, mulUp, divUp, rootUp, point, plus, minus, times, product}
 use Rattle.interval.specs.Claims.{TightAbove, TightBelow, Tight}
 use Rattle.interval.proofs.Signs.{neg-neg}
 use Rattle.interval.proofs.Rounding.{Rounded, neg-finite}

@@ -2,28 +2,27 @@
 use mathlib.Core.Path.{_≡_, refl, sym, ap, _∙_, subst}
 use mathlib.Core.Logic.{_⊎_, inl, inr, ⊎-elim}
 use Prim.Native.Nat.{ℕ, zero, suc, _+_, _-_, _*_, _^_, _≤_, _<_}
-use native.Mathlib.Nat.{mul-pos, le-of-lt, le-of-eq, lt-irrefl, lt-of-lt-of-le, lt-of-le-of-lt, zero-lt-suc, zero-mul, mul-le-mul, mul-le-mul-right, mul-lt-mul-of-pos-right, le-of-mul-le-mul-right, lt-of-mul-lt-mul-right, eq-zero-or-pos}
+use native.Mathlib.Nat.{mul-pos, le-of-lt, zero-lt-suc, mul-le-mul, mul-le-mul-right, mul-lt-mul-of-pos-right, le-of-mul-le-mul-right}
 use native.Mathlib.Omega.{arith}
-use mathlib.Core.Bool.{Bool, true, false, not, _&&_, cond, true≢false}
+use mathlib.Core.Bool.{Bool, true, false, not, cond, true≢false}
 use lib.IntN.{ℤ, pos}
-use lib.Dec.{T, ltb, leb, eqb, ltb→lt, nltb→le, eqb→eq, leb→le, nleb→lt, eqb·suc-zero}
+use lib.Dec.{T, ltb, leb, eqb, ltb→lt, leb→le, nleb→lt, eqb·suc-zero}
 use lib.Pow.{pow-pos}
-use lib.Ieee.{Float, nan, inf, fin, binary64, up, down, round, fits, neg, mul, div, lt, unlike, ofBits}
+use lib.Ieee.{Float, nan, inf, fin, binary64, up, down, round, fits, mul, div, lt, unlike}
 use lib.Ieee.Fits.{down-pos, up-pos}
-use lib.Ieee.Exact.{HasValue}
 use Rattle.numbers.specs.Root.{sqrtOf}
 use Rattle.numbers.specs.Rounded.{IsUnits, NearestRoot}
 use Rattle.numbers.proofs.Correct.{correctly-rounded, all-in-units}
-use Rattle.exact.specs.Exact.{ℚ, _≤ℚ_, _<ℚ_, _≈ℚ_, whole, negℚ, _+ℚ_, _*ℚ_, _/ℚ_, inverse, leℚ, maxℚ, absℚ, value, signed, Finite}
+use Rattle.exact.specs.Exact.{ℚ, _≤ℚ_, _<ℚ_, _≈ℚ_, whole, negℚ, _*ℚ_, _/ℚ_, inverse, leℚ, maxℚ, absℚ, value, signed, Finite}
 use Rattle.exact.proofs.Laws as laws
-use Rattle.interval.specs.Held.{AtMost, AtLeast, Held}
+use Rattle.interval.specs.Held.{AtMost, AtLeast}
 use Rattle.interval.specs.Next.{nextUp}
 use Rattle.interval.specs.Claims.{DivUp, RootUp}
-use Rattle.interval.proofs.Ends.{NextUp, NextDown}
+use Rattle.interval.proofs.Ends.{NextUp}
 use Rattle.exact.proofs.Laws.{le-refl, le-trans, same-le}
 use Rattle.exact.proofs.Monotone.{product-mono, product-both, turned, either-sign, not-negative}
 use Rattle.interval.proofs.Rounding.{Rounded, rounded-plus, rounded-minus, lt-units, not-under}
-use Rattle.interval.proofs.Bounds.{at-most-through, at-least-through, exact-rounded, lift-up, open-up}
+use Rattle.interval.proofs.Bounds.{at-most-through, exact-rounded, lift-up, open-up}
 use Rattle.interval.proofs.Operations.{rounded-mul}
 
 -- what is at least zero is at most no float below zero

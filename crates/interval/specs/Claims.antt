@@ -7,7 +7,7 @@ use lib.Ieee.{Float, nan, inf, binary64, fits, lt, round}
 use Rattle.exact.specs.Exact.{ℚ, _≤ℚ_, _≈ℚ_, over, whole, negℚ, absℚ, _+ℚ_, _-ℚ_, _*ℚ_, _/ℚ_, Σℚ, value, Finite}
 use Rattle.interval.specs.Next.{nextUp, nextDown}
 use Rattle.interval.specs.Held.{AtMost, AtLeast, Held, Holds}
-use Rattle.interval.specs.Intervals.{isPositive, point, plus, minus, times, product, magnitude, addUp, addDown, mulUp, divUp, rootUp, sumWithin, sumUp}
+use Rattle.interval.specs.Intervals.{isPositive, point, plus, minus, times, product, magnitude, addUp, mulUp, divUp, rootUp, sumWithin, sumUp}
 use Rattle.interval.specs.declared.Interval.{Interval}
 
 -- ---- the next float

@@ -1,8 +1,6 @@
-use Prim.Native.Nat.{ℕ, _+_, _-_, _*_, _≤_, _<_}
+use Prim.Native.Nat.{_-_, _≤_}
 use mathlib.Core.Path.{_≡_}
 use native.Mathlib.Omega.{arith}
-use denote.Ref.{now}
-use lib.ListN.{length}
 use Rattle.numbers.specs.Numbers.{at}
 use Rattle.interval.specs.Intervals.{sumWithin, product}
 use Rattle.interval.proofs.Answers.{sum-none, sum-more, sum-done}
