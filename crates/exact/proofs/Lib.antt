@@ -1,0 +1,5 @@
+pub mod Laws
+pub mod Monotone
+pub mod Numbers
+pub mod Ring
+pub mod Values

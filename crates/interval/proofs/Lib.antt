@@ -1,0 +1,13 @@
+pub mod Ends
+pub mod Signs
+pub mod Next
+pub mod Rounding
+pub mod Bounds
+pub mod Operations
+pub mod Upper
+pub mod Least
+pub mod Neighbours
+pub mod Containment
+pub mod Tightness
+pub mod Claims
+pub mod Answers
