@@ -13,7 +13,7 @@
 #include <string.h>
 #include "gritstrut.h"
 
-/* ------------------------------------------------------------------------------------ the problem */
+/* ---------------------------------------------------------------------------------- the problem */
 
 enum { VARIABLES = 3, CONSTRAINTS = 3, FUNCTIONS = 1 + CONSTRAINTS };
 
@@ -32,11 +32,11 @@ enum { DISTANCE, BALANCE, SPARE_FIRST, SPARE_SECOND };
 
 static const uint8_t kinds[CONSTRAINTS] = {GRITSTRUT_EQUALITY, GRITSTRUT_FLOOR, GRITSTRUT_FLOOR};
 
-static const double demand = 520.0;               /* m3/h */
-static const double least_flows[] = {150.0, 190.0}; /* m3/h, of the compressors behind the valves */
-static const double sizes[] = {900.0, 700.0};     /* m3/h through an open valve, at 1 bar across it */
-static const double supplies[] = {8.0, 7.2};      /* bar, before the valves */
-static const double range = 50.0;                 /* a valve's flow when open over that when closed */
+static const double demand = 520.0;                 /* m3/h */
+static const double least_flows[] = {150.0, 190.0}; /* m3/h, of the compressors before the valves */
+static const double sizes[] = {900.0, 700.0};       /* m3/h, fully open with 1 bar across */
+static const double supplies[] = {8.0, 7.2};        /* bar, before the valves */
+static const double range = 50.0;                   /* the flow when open over that when closed */
 
 /* The flow through a valve, FIRST or SECOND, at x. */
 static double flow(int valve, const double *x) {
@@ -81,7 +81,7 @@ static double slope(int function, int variable, const double *x) {
     }
 }
 
-/* ------------------------------------------------------------------------------------- the search */
+/* ----------------------------------------------------------------------------------- the search */
 
 /* All that the search knows, and the workspaces that it is lent. */
 static double machine[GRITSTRUT_SEARCH_MACHINE];
@@ -154,8 +154,8 @@ static const char *ending(void) {
 
 int main(int argc, char **argv) {
     const double *x = machine + GRITSTRUT_SEARCH_X;
-    /* by bench/valves.py, with 60 digits */
-    static const double exact[VARIABLES] = {0.6541058292025478, 0.6419612970802866, 5.9868761104890575};
+    /* bench/valves.py has the answer with 60 digits */
+    const double exact[VARIABLES] = {0.6541058292025478, 0.6419612970802866, 5.9868761104890575};
     const double ftol = 1e-9;
     const uint32_t budget = 200;
     uint32_t scheme = GRITSTRUT_SEARCH_TOLD, place = 0, number;
@@ -167,14 +167,16 @@ int main(int argc, char **argv) {
 
     number = gritstrut_search_begin(VARIABLES, CONSTRAINTS, kinds, CONSTRAINTS, lower, VARIABLES,
                                     upper, VARIABLES, set_points, VARIABLES, ftol, budget, scheme,
-                                    machine, GRITSTRUT_SEARCH_MACHINE, words, GRITSTRUT_SEARCH_WORDS,
-                                    &place, w, GRITSTRUT_FLOATS, iw, GRITSTRUT_WORDS);
+                                    machine, GRITSTRUT_SEARCH_MACHINE,
+                                    words, GRITSTRUT_SEARCH_WORDS, &place,
+                                    w, GRITSTRUT_FLOATS, iw, GRITSTRUT_WORDS);
     if (number == GRITSTRUT_BOUND) printf("the bounds of the %s mean nothing\n", names[place]);
 
     puts("evaluations     objective    violation");
     while (number == GRITSTRUT_DONE && (count = answer(told)) > 0) {
-        number = gritstrut_search_tell(told, count, machine, GRITSTRUT_SEARCH_MACHINE, words,
-                                       GRITSTRUT_SEARCH_WORDS, w, GRITSTRUT_FLOATS, iw, GRITSTRUT_WORDS);
+        number = gritstrut_search_tell(told, count, machine, GRITSTRUT_SEARCH_MACHINE,
+                                       words, GRITSTRUT_SEARCH_WORDS,
+                                       w, GRITSTRUT_FLOATS, iw, GRITSTRUT_WORDS);
         show_accepted();
     }
     if (number != GRITSTRUT_DONE && number != GRITSTRUT_NONFINITE) {

@@ -22,8 +22,8 @@
  * - w is a workspace of at least GRITSTRUT_FLOATS doubles (64 KiB) and iw one of at least
  *   GRITSTRUT_WORDS uint32_t (2 KiB). What they hold before a call does not matter.
  * - The result is a number of the table below. Tests are made in the order 1, 2, 3, 4, 14, 10, 15,
- *   16, 18, 17, 20, 19; of a day's meters 12 and 13 come after 3, the lowest meter first. 5, 6, 7, 8
- *   and 11 are of the arithmetic, which comes after them; 17 may be of it too.
+ *   16, 18, 17, 20, 19; of a day's meters 12 and 13 come after 3, the lowest meter first. 5, 6, 7,
+ *   8 and 11 are of the arithmetic, which comes after them; 17 may be of it too.
  *
  *     number                                 outputs      workspaces
  *     0  GRITSTRUT_DONE                      all written  first 8192 and 512 entries zero
@@ -418,9 +418,9 @@ uint32_t gritstrut_write_problem(size_t n, size_t m, const uint64_t *factor, siz
 #define GRITSTRUT_SEARCH_BUDGET 10000 /* the most objective values that a run may cost */
 
 /* Where in machine the report stands, at the end of a run and before: the last accepted point (n),
- * which is the start, clipped into its bounds, before any other is; the multipliers of the last step
- * (m), +0 before the first; and the values at that point (1 + m, the objective first), NaN before
- * the start's are told. And, while a question stands, the point that it asks about (n). */
+ * which is the start, clipped into its bounds, before any other is; the multipliers of the last
+ * step (m), +0 before the first; and the values at that point (1 + m, the objective first), NaN
+ * before the start's are told. And, while a question stands, the point that it asks about (n). */
 #define GRITSTRUT_SEARCH_X 48
 #define GRITSTRUT_SEARCH_MULTIPLIERS 96
 #define GRITSTRUT_SEARCH_VALUES 128
