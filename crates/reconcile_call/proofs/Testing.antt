@@ -20,7 +20,7 @@ use Rattle.reconcile_call.specs.inner.Work.{testedOutcome}
 
 -- ---- a spread
 
-pub infinite : div binary64 (ofBits binary64 0x3ff0_0000_0000_0000) (ofBits binary64 0) ≡ inf false
+infinite : div binary64 (ofBits binary64 0x3ff0_0000_0000_0000) (ofBits binary64 0) ≡ inf false
 unfolding div ofBits
 infinite = refl
 

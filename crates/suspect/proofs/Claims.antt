@@ -6,18 +6,17 @@ use mathlib.Core.Logic.{⊎-elim}
 use Prim.Native.Nat.{ℕ, zero, suc, _+_, _-_, _≤_, _<_}
 use native.Mathlib.Omega.{arith}
 use lib.Dec.{ltb}
-use lib.ListN.{length}
-use lib.Seq.{getD-set-same, getD-set-other}
-use lib.Ieee.{Float, nan, inf, fin, neg, add, sub, mul, div, lt, eq, le, units, odd, round, size, span, climb}
+use lib.Ieee.{Float, nan, inf, fin, add, mul, lt, eq, le, units, odd, round, size, span, climb}
 use lib.Count.{trailingZeros}
 use borrow.Author.Tests.{eq-eqb, le-ltb}
 use Rattle.numbers.specs.Numbers.{+0, near, at, nth, tab, dot, entry, Σ, _⊕_, _⊖_, _⊗_, _⊘_}
-use Rattle.numbers.proofs.Cases.{lt-or-ge, last-or-before}
-use Rattle.numbers.proofs.Lists.{getD-tab, length-tab}
-use Rattle.householder.specs.Qr.{Factors, factor, downward, solveRt}
+use Rattle.numbers.proofs.Cases.{last-or-before}
+use Rattle.numbers.proofs.Lists.{getD-tab}
+use Rattle.householder.specs.Qr.{factor}
+use Rattle.householder.proofs.Rank.{factor-rank}
 use Rattle.suspect.specs.declared.Finding.{Finding}
-use Rattle.suspect.specs.Suspect.{weights, gap, scaledGaps, directions, correction, tiny, isOutside, share, shares, squareOf, testOf, tieOf, groupOf, groups, tests, areWithin, isWithin, markOf, markUnless, marks, leadOf, limits, agrees, findingOf, testsFrom, suspect}
-use Rattle.suspect.specs.Claims.{ByPlantAlone, InNoBalance, StillInNone, NanMisfit, NanTest, NanValue, Increasing}
+use Rattle.suspect.specs.Suspect.{weights, gap, isFinite, areFinite, scaledGaps, directions, correction, tiny, isOutside, share, shares, squareOf, testOf, tieOf, groupOf, groups, tests, areWithin, isWithin, markOf, markUnless, marks, leadOf, limits, agrees, findingOf, testsFrom, suspect}
+use Rattle.suspect.specs.Claims.{ByPlantAlone, InNoBalance, StillInNone, NanMisfit, NanTest, NanValue, NanCoefficient, Increasing}
 
 -- ---- the plant alone
 
@@ -104,17 +103,13 @@ mul-nan nan = refl
 mul-nan (inf s) = refl
 mul-nan (fin s m e) = refl
 
+nan-mul : (x : Float) → nan ⊗ x ≡ nan
+unfolding mul
+nan-mul x = refl
+
 le-nan : (x : Float) → le nan x ≡ false
 unfolding le lt eq
 le-nan x = refl
-
-first-nan : (x d : Float) → (nan ⊖ x) ⊘ d ≡ nan
-unfolding sub add div
-first-nan x d = refl
-
-neg-nan : neg nan ≡ nan
-unfolding neg
-neg-nan = refl
 
 -- a sum with a NaN is NaN
 Σ-nan : (n : ℕ) (f : ℕ → Float) (i : ℕ) → i < n → f i ≡ nan → Σ n f ≡ nan
@@ -127,14 +122,14 @@ and-false : (a : Bool) → (a && false) ≡ false
 and-false true = refl
 and-false false = refl
 
-disagrees : (r : ℕ) (x : Float) (all : Bool) → x ≡ nan → agrees r x all ≡ false
-disagrees r x all e = rw (e, le-nan) (and-false (ltb 0 r))
+disagrees : (r : ℕ) (x : Float) (within finite : Bool) → x ≡ nan → agrees r x within finite ≡ false
+disagrees r x within finite e = rw (e, le-nan) (and-false (ltb 0 r))
 
 pub nan-misfit : NanMisfit
 unfolding suspect testsFrom findingOf
 nan-misfit n m v s c z e =
     let q = factor n m (weights n m s c z) in
-    disagrees (q .rank) (dot (q .rank) (scaledGaps n m q v c) (scaledGaps n m q v c)) (areWithin ((suspect n m v s c z) .shares) ((suspect n m v s c z) .tests) n) e
+    disagrees (q .rank) (dot (q .rank) (scaledGaps n m q v c) (scaledGaps n m q v c)) (areWithin ((suspect n m v s c z) .shares) ((suspect n m v s c z) .tests) n) (areFinite n v c m) e
 
 -- a test: it is one of a meter that is checked
 square-nan : (h : Float) → lt h tiny ≡ false → squareOf h nan ≡ nan
@@ -155,8 +150,8 @@ within-not h t (suc c) i l e =
     ⊎-elim (λ (q : i ≡ c). rw (ap (λ (k : ℕ). isWithin (at h k) (at t k)) (sym q) ∙ e) (and-false (areWithin h t c)))
     (λ (q : i < c). rw (within-not h t c i q e) refl) (last-or-before c i l)
 
-disagrees-all : (r : ℕ) (x : Float) (all : Bool) → all ≡ false → agrees r x all ≡ false
-disagrees-all r x all e = rw (e, and-false) (and-false (ltb 0 r))
+disagrees-all : (r : ℕ) (x : Float) (within finite : Bool) → within ≡ false → agrees r x within finite ≡ false
+disagrees-all r x within finite e = rw (e, and-false) (and-false (ltb 0 r))
 
 test-not : (n r : ℕ) (a y h : List Float) (i : ℕ) → i < n → at (tests n r a y h) i ≡ nan → areWithin h (tests n r a y h) n ≡ false
 unfolding tests
@@ -170,37 +165,42 @@ unfolding suspect testsFrom findingOf
 nan-test n m v s c z i l e =
     let q = factor n m (weights n m s c z) in
     let h = shares n m (q .rank) s c z (directions n q) in
-    disagrees-all (q .rank) (dot (q .rank) (scaledGaps n m q v c) (scaledGaps n m q v c)) (areWithin h (tests n (q .rank) (directions n q) (scaledGaps n m q v c) h) n)
+    disagrees-all (q .rank) (dot (q .rank) (scaledGaps n m q v c) (scaledGaps n m q v c)) (areWithin h (tests n (q .rank) (directions n q) (scaledGaps n m q v c) h) n) (areFinite n v c m)
     (test-not n (q .rank) (directions n q) (scaledGaps n m q v c) h i l e)
 
--- a value: every gap is NaN, so the first entry of y is, and the misfit
-gap-nan : (n : ℕ) (v c : List Float) (k i : ℕ) → i < n → at v i ≡ nan → gap n v c k ≡ nan
-gap-nan n v c k i l e = Σ-nan n (λ j. entry n c k j ⊗ at v j) i l (rw e (mul-nan (entry n c k i)))
+-- a gap
+not-finite : isFinite nan ≡ false
+unfolding lt
+not-finite = refl
 
-downward-nan : (n : ℕ) (r : List Float) (i : ℕ) (y : List Float) → 0 < length y → at y 0 ≡ nan → at (downward n r i y) 0 ≡ nan
-unfolding downward
-downward-nan n r zero y l e = e
-downward-nan n r (suc zero) y l e = getD-set-same y 0 _ nan l ∙ rw e (first-nan _ _)
-downward-nan n r (suc (suc i)) y l e = getD-set-other (downward n r (suc i) y) (suc i) 0 _ nan (λ h. omega arith) ∙ downward-nan n r (suc i) y l e
+finite-not : (n : ℕ) (v c : List Float) (m k : ℕ) → k < m → gap n v c k ≡ nan → areFinite n v c m ≡ false
+unfolding areFinite
+finite-not n v c zero k l e = absurd (omega arith)
+finite-not n v c (suc m) k l e =
+    ⊎-elim (λ (q : k ≡ m). rw (ap (gap n v c) (sym q) ∙ e, not-finite) (and-false (areFinite n v c m)))
+    (λ (q : k < m). rw (finite-not n v c m k q e) refl) (last-or-before m k l)
 
-gaps-nan : (n m : ℕ) (q : Factors) (v c : List Float) (i : ℕ) → i < n → at v i ≡ nan → 0 < q .rank → at (scaledGaps n m q v c) 0 ≡ nan
-unfolding scaledGaps solveRt
-gaps-nan n m q v c i l e h =
-    let f : ℕ → Float = λ t. neg (gap n v c (nth (q .perm) t)) in
-    downward-nan m (q .r) (q .rank) (tab (q .rank) f) (omega (arith, length-tab (q .rank) f))
-    (getD-tab (q .rank) f nan 0 h ∙ ap neg (gap-nan n v c (nth (q .perm) 0) i l e) ∙ neg-nan)
+disagrees-last : (r : ℕ) (x : Float) (within finite : Bool) → finite ≡ false → agrees r x within finite ≡ false
+disagrees-last r x within finite e = rw (e, and-false, and-false) (and-false (ltb 0 r))
 
-misfit-nan : (r : ℕ) (y : List Float) → 0 < r → at y 0 ≡ nan → dot r y y ≡ nan
-unfolding dot
-misfit-nan r y h e = Σ-nan r (λ k. at y k ⊗ at y k) 0 h (rw e (mul-nan nan))
+nan-gap : (n m : ℕ) (v s c : List Float) (z : List ℕ) (k : ℕ) → k < m → gap n v c k ≡ nan → (suspect n m v s c z) .finding .agree ≡ false
+unfolding suspect testsFrom findingOf
+nan-gap n m v s c z k l e =
+    let q = factor n m (weights n m s c z) in
+    let y = scaledGaps n m q v c in
+    disagrees-last (q .rank) (dot (q .rank) y y) (areWithin ((suspect n m v s c z) .shares) ((suspect n m v s c z) .tests) n) (areFinite n v c m) (finite-not n v c m k l e)
 
+pub nan-coefficient : NanCoefficient
+nan-coefficient n m v s c z i k l h e = nan-gap n m v s c z k h (Σ-nan n (λ j. entry n c k j ⊗ at v j) i l (rw e (nan-mul (at v i))))
+
+-- where there is no balance there is no freedom
 pub nan-value : NanValue
 unfolding suspect testsFrom findingOf
-nan-value n m v s c z i l e =
-    let q = factor n m (weights n m s c z) in
-    ⊎-elim (λ (h : 0 < q .rank). disagrees (q .rank) _ _ (misfit-nan (q .rank) (scaledGaps n m q v c) h (gaps-nan n m q v c i l e h)))
-    (λ (h : q .rank ≤ 0). rw (le-ltb 0 (q .rank) h))
-    (lt-or-ge 0 (q .rank))
+nan-value n zero v s c z i l e =
+    let q = factor n 0 (weights n 0 s c z) in
+    let h : q .rank ≤ 0 = omega (arith, factor-rank n 0 (weights n 0 s c z)) in
+    rw (le-ltb 0 (q .rank) h)
+nan-value n (suc m) v s c z i l e = nan-gap n (suc m) v s c z 0 (omega arith) (Σ-nan n (λ j. entry n c 0 j ⊗ at v j) i l (rw e (mul-nan (entry n c 0 i))))
 
 -- ---- the limits
 

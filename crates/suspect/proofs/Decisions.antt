@@ -7,12 +7,12 @@ use native.Mathlib.Numerals.{add-one}
 use native.Mathlib.Omega.{arith}
 use lib.Count.{trailingZeros}
 use lib.ListN.{getD}
-use lib.Ieee.{Float, nan, binary64, neg, ofBits, ofFields, units, odd, round, size, span, climb, lt, eq}
+use lib.Ieee.{Float, nan, inf, binary64, neg, div, ofBits, ofFields, units, odd, round, size, span, climb, lt, eq}
 use Rattle.numbers.specs.Numbers.{+0, -1, near, at, nth, entry, dot}
 use Rattle.householder.proofs.Leading.{lit--1}
 use Rattle.suspect.specs.declared.Lead.{Lead}
 use Rattle.suspect.specs.declared.Finding.{Finding}
-use Rattle.suspect.specs.Suspect.{weight, isOutside, tiny, squareOf, better, largest, isWithin, areWithin, isTied, groupOf, limits, agrees, explains, findingOf}
+use Rattle.suspect.specs.Suspect.{weight, gap, isFinite, areFinite, isOutside, tiny, squareOf, better, largest, isWithin, areWithin, isTied, groupOf, limits, agrees, explains, findingOf}
 
 -- ---- literals
 
@@ -54,6 +54,32 @@ within-none h t = refl
 pub within-more : (h t : List Float) (i : ℕ) (old new : Bool) (a b : Float) → a ≡ at h i → b ≡ at t i → old ≡ areWithin h t i → new ≡ (old && isWithin a b) → new ≡ areWithin h t (i + 1)
 unfolding areWithin
 within-more h t i old new a b ea eb eo en = en ∙ rw (ea, eb, eo, add-one)
+
+-- ---- finite
+
+infinite : div binary64 (ofBits binary64 0x3ff0_0000_0000_0000) (ofBits binary64 0) ≡ inf false
+unfolding div ofBits
+infinite = refl
+
+minus-infinite : div binary64 (neg (ofBits binary64 0x3ff0_0000_0000_0000)) (ofBits binary64 0) ≡ inf true
+unfolding div ofBits neg
+minus-infinite = refl
+
+pub finite-above : (x : Float) → lt (div binary64 (neg (ofBits binary64 0x3ff0_0000_0000_0000)) (ofBits binary64 0)) x ≡ true
+    → lt x (div binary64 (ofBits binary64 0x3ff0_0000_0000_0000) (ofBits binary64 0)) ≡ isFinite x
+finite-above x h = let e : lt (inf true) x ≡ true = ap (λ (z : Float). lt z x) (sym minus-infinite) ∙ h in rw (e, infinite) refl
+
+pub finite-not : (x : Float) → lt (div binary64 (neg (ofBits binary64 0x3ff0_0000_0000_0000)) (ofBits binary64 0)) x ≡ false
+    → lt (div binary64 (neg (ofBits binary64 0x3ff0_0000_0000_0000)) (ofBits binary64 0)) x ≡ isFinite x
+finite-not x h = let e : lt (inf true) x ≡ false = ap (λ (z : Float). lt z x) (sym minus-infinite) ∙ h in h ∙ rw e refl
+
+pub finite-none : (n : ℕ) (v c : List Float) → true ≡ areFinite n v c 0
+unfolding areFinite
+finite-none n v c = refl
+
+pub finite-more : (n : ℕ) (v c : List Float) (k : ℕ) (g : Float) (old new : Bool) → g ≡ gap n v c k → old ≡ areFinite n v c k → new ≡ (old && isFinite g) → new ≡ areFinite n v c (k + 1)
+unfolding areFinite
+finite-more n v c k g old new eg eo en = en ∙ rw (eg, eo, add-one)
 
 -- ---- no balance
 
@@ -102,17 +128,17 @@ lead-below h t (suc c) i l =
 
 -- ---- the finding
 
-pub finding-is : (n r : ℕ) (y h t : List Float) (misfit : Float) (best : Lead) (all agree one : Bool) → misfit ≡ dot r y y → best ≡ largest h t n → all ≡ areWithin h t n
-    → agree ≡ agrees r misfit all → one ≡ explains r misfit (best .square)
-    → _≡_ {A = Finding} (record { freedom = r; misfit = misfit; first = best .index; square = best .square; agree = agree; explained = one }) (findingOf n r y h t)
+pub finding-is : (n r : ℕ) (y h t : List Float) (misfit : Float) (best : Lead) (within finite agree explained : Bool) → misfit ≡ dot r y y → best ≡ largest h t n → within ≡ areWithin h t n
+    → agree ≡ agrees r misfit within finite → explained ≡ explains r misfit (best .square)
+    → _≡_ {A = Finding} (record { freedom = r; misfit = misfit; first = best .index; square = best .square; agree = agree; explained = explained }) (findingOf n r y h t finite)
 unfolding findingOf
-finding-is n r y h t misfit best all agree one em eb ea eg eo = rw (eg, eo, ea, eb, em)
+finding-is n r y h t misfit best within finite agree explained em eb ew eg eo = rw (eg, eo, ew, eb, em)
 
 -- the meter it names is one of them, where there is any
-pub first-most : (n r : ℕ) (y h t : List Float) (d : Finding) → d ≡ findingOf n r y h t → d .first ≤ n
+pub first-most : (n r : ℕ) (y h t : List Float) (finite : Bool) (d : Finding) → d ≡ findingOf n r y h t finite → d .first ≤ n
 unfolding findingOf
-first-most n r y h t d e = rw e (lead-most h t n)
+first-most n r y h t finite d e = rw e (lead-most h t n)
 
-pub first-below : (n r : ℕ) (y h t : List Float) (d : Finding) → d ≡ findingOf n r y h t → (i : ℕ) → i < n → d .first < n
+pub first-below : (n r : ℕ) (y h t : List Float) (finite : Bool) (d : Finding) → d ≡ findingOf n r y h t finite → (i : ℕ) → i < n → d .first < n
 unfolding findingOf
-first-below n r y h t d e i l = rw e (lead-below h t n i l)
+first-below n r y h t finite d e i l = rw e (lead-below h t n i l)

@@ -31,7 +31,7 @@ IsZero x = (x ≡ +0) ⊎ (x ≡ -0)
 abbrev pub ZeroInNone : Type 0
 ZeroInNone = (n m : ℕ) (s c : List Float) (z : List ℕ) (i : ℕ) (sign : Bool) (k : ℕ) (e : ℤ) → at s i ≡ fin sign k e → ((j : ℕ) → j < m → IsZero (entry n c j i)) → isOutside n s c z i m ≡ true
 
--- a misfit that is NaN disagrees, and so does a test, and a value of any meter, in a balance or not
+-- a misfit that is NaN disagrees, and so does a test, a value of any meter, in a balance or not, and a coefficient
 abbrev pub NanMisfit : Type 0
 NanMisfit = (n m : ℕ) (v s c : List Float) (z : List ℕ) → (suspect n m v s c z) .finding .misfit ≡ nan → (suspect n m v s c z) .finding .agree ≡ false
 
@@ -40,6 +40,9 @@ NanTest = (n m : ℕ) (v s c : List Float) (z : List ℕ) (i : ℕ) → i < n �
 
 abbrev pub NanValue : Type 0
 NanValue = (n m : ℕ) (v s c : List Float) (z : List ℕ) (i : ℕ) → i < n → at v i ≡ nan → (suspect n m v s c z) .finding .agree ≡ false
+
+abbrev pub NanCoefficient : Type 0
+NanCoefficient = (n m : ℕ) (v s c : List Float) (z : List ℕ) (i k : ℕ) → i < n → k < m → entry n c k i ≡ nan → (suspect n m v s c z) .finding .agree ≡ false
 
 -- where there is no freedom nothing is checked: the meters do not agree, and none is marked
 abbrev pub NoFreedom : Type 0

@@ -4,7 +4,7 @@ use Prim.Native.Nat.{ℕ, zero, suc, _+_, _-_, _*_, _^_}
 use mathlib.Core.Bool.{Bool, true, false, cond, _&&_, _||_}
 use mathlib.Core.List.{List, [], _∷_}
 use lib.Dec.{ltb, eqb}
-use lib.Ieee.{Float, eq, lt, le, neg}
+use lib.Ieee.{Float, inf, eq, lt, le, neg}
 use Rattle.numbers.specs.Numbers.{+0, -1, near, one, _⊕_, _⊖_, _⊗_, _⊘_, Σ, at, nth, tab, dot, entry, rows, grid}
 use Rattle.numbers.specs.Root.{sqrtOf}
 use Rattle.householder.specs.Qr.{Factors, factor, applyQt, solveRt}
@@ -24,6 +24,14 @@ weights n m s c z = grid n m (λ i k. weight (nth z i) (at s i) (entry n c k i))
 -- what balance k lacks
 abbrev pub gap : (n : ℕ) (v c : List Float) → ℕ → Float
 gap n v c k = Σ n (λ i. entry n c k i ⊗ at v i)
+
+abbrev pub isFinite : Float → Bool
+isFinite x = lt (inf true) x && lt x (inf false)
+
+-- what each of the first k balances lacks is finite: a coefficient that is NaN takes its balance out of the factors, and shows here alone
+unfoldable pub areFinite : (n : ℕ) (v c : List Float) → ℕ → Bool
+areFinite n v c zero = true
+areFinite n v c (suc k) = areFinite n v c k && isFinite (gap n v c k)
 
 -- y with R'y = -P'C v, of the first r rows: the gaps as r independent ones, each of spread one; r is the rank of K, the degrees of freedom
 unfoldable pub scaledGaps : (n m : ℕ) → Factors → (v c : List Float) → List Float
@@ -148,20 +156,20 @@ limits =
     +0 ∷ near 3841 1000 ∷ near 5991 1000 ∷ near 7815 1000 ∷ near 9488 1000 ∷ near 11070 1000 ∷ near 12592 1000 ∷ near 14067 1000 ∷ near 15507 1000
     ∷ near 16919 1000 ∷ near 18307 1000 ∷ near 19675 1000 ∷ near 21026 1000 ∷ near 22362 1000 ∷ near 23685 1000 ∷ near 24996 1000 ∷ near 26296 1000 ∷ []
 
--- the meters agree where there is freedom, the misfit is at most its limit, and each test is within 3; a NaN disagrees
-abbrev pub agrees : ℕ → Float → Bool → Bool
-agrees r misfit all = ltb 0 r && (le misfit (at limits r) && all)
+-- the meters agree where there is freedom, the misfit is at most its limit, each test is within 3 and each gap finite; a NaN disagrees
+abbrev pub agrees : ℕ → Float → (within finite : Bool) → Bool
+agrees r misfit within finite = ltb 0 r && (le misfit (at limits r) && (within && finite))
 
 -- one meter explains a disagreement where the misfit without it is at most the limit of one degree less
 abbrev pub explains : ℕ → Float → Float → Bool
 explains r misfit square = eqb r 1 || le (misfit ⊖ square) (at limits (r - 1))
 
--- what is found of all together; y are the gaps, h the shares and t the tests
-unfoldable pub findingOf : (n r : ℕ) (y h t : List Float) → Finding
-findingOf n r y h t =
+-- what is found of all together; y are the scaled gaps, h the shares, t the tests, and finite says whether each gap is
+unfoldable pub findingOf : (n r : ℕ) (y h t : List Float) (finite : Bool) → Finding
+findingOf n r y h t finite =
     let misfit = dot r y y in
     let best = largest h t n in
-    record { freedom = r; misfit = misfit; first = best .index; square = best .square; agree = agrees r misfit (areWithin h t n); explained = explains r misfit (best .square) }
+    record { freedom = r; misfit = misfit; first = best .index; square = best .square; agree = agrees r misfit (areWithin h t n) finite; explained = explains r misfit (best .square) }
 
 -- ---- which meters stand still
 
@@ -185,14 +193,14 @@ pub record Tests : Type 0 where
 abbrev pub leadOf : Finding → Lead
 leadOf d = record { index = d .first; square = d .square }
 
-unfoldable pub testsFrom : (n m r : ℕ) (s c : List Float) (z : List ℕ) (a y : List Float) → Tests
-testsFrom n m r s c z a y =
+unfoldable pub testsFrom : (n m r : ℕ) (s c : List Float) (z : List ℕ) (a y : List Float) (finite : Bool) → Tests
+testsFrom n m r s c z a y finite =
     let h = shares n m r s c z a in
     let t = tests n r a y h in
-    let d = findingOf n r y h t in
+    let d = findingOf n r y h t finite in
     record { finding = d; shares = h; newSpreads = newSpreads n r s z a; tests = t; groups = groups n r a h; marks = marks n r a h t (leadOf d) (d .agree) }
 
 unfoldable pub suspect : (n m : ℕ) (v s c : List Float) (z : List ℕ) → Tests
 suspect n m v s c z =
     let q = factor n m (weights n m s c z) in
-    testsFrom n m (q .rank) s c z (directions n q) (scaledGaps n m q v c)
+    testsFrom n m (q .rank) s c z (directions n q) (scaledGaps n m q v c) (areFinite n v c m)

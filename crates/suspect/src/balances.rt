@@ -6,11 +6,12 @@ ghost use lib.Ieee.{neg};
 ghost use Rattle.numbers.specs.Numbers.{at, nth, entry};
 ghost use Rattle.workspace.specs.inner.Readings.{mat, Block};
 ghost use Rattle.householder.specs.inner.Places.{QR_MATRIX};
-ghost use Rattle.suspect.specs.Suspect.{weight, weights, gap};
+ghost use Rattle.suspect.specs.Suspect.{weight, weights, gap, areFinite};
 ghost use Rattle.suspect.specs.inner.Places.{GAPS, SUSPECT_ROOM, SUSPECT_WORDS};
 ghost use Rattle.suspect.specs.inner.Work.{Sized, DirectionWritten, DirectionsWritten, Prepared};
 use crate::DIRECTIONS;
 use crate::GAPS;
+use crate::decide::finite_too;
 use crate::decide::weight_of;
 
 // Column k of K.
@@ -42,6 +43,19 @@ fn write_weights(spreads: &[f64], balances: &[f64], still: &[u8], w: &mut [f64],
     for k in 0..m {
         write_column(spreads, balances, still, w, n, m, k);
     }
+}
+
+// What each balance lacks is finite.
+pub fn all_finite(values: &[f64], balances: &[f64], n: usize, m: usize) -> bool
+    requires { ⌜ (n ≤ 16) × (m ≤ 16) × (length (now values) ≡ n) × (length (now balances) ≡ m * n) ⌝ }
+    ensures { λ x. ⌜ x ≡ areFinite n (now (values .entry)) (now (balances .entry)) m ⌝ }
+{
+    let mut all = true;
+    for k in 0..m {
+        let g = numbers::dot_strided(balances, k * n, 1, values, 0, 1, n);
+        all = finite_too(g, all);
+    }
+    all
 }
 
 // What r balances lack, in the order of the factors, with the other sign.

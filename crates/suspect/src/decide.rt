@@ -4,7 +4,7 @@ ghost use mathlib.Core.Bool.{cond, _&&_};
 ghost use Prim.Native.Nat.{_≤_};
 ghost use lib.Ieee.{eq};
 ghost use Rattle.numbers.specs.Numbers.{+0, at};
-ghost use Rattle.suspect.specs.Suspect.{weight, newSpread, testOf, squareOf, tieOf, better, isWithin, markOf, limits, agrees, explains, stillOf};
+ghost use Rattle.suspect.specs.Suspect.{weight, isFinite, newSpread, testOf, squareOf, tieOf, better, isWithin, markOf, limits, agrees, explains, stillOf};
 use crate::Lead;
 
 // The 95 % limits of chi-square, from 0 to 16 degrees of freedom.
@@ -47,6 +47,24 @@ pub fn weight_of(z: u8, s: f64, c: f64) -> f64
         return 0.0;
     }
     s * c
+}
+
+// Neither NaN nor infinite.
+pub fn is_finite(x: f64) -> bool
+    ensures { λ r. ⌜ r ≡ isFinite x ⌝ }
+{
+    -1.0 / 0.0 < x && x < 1.0 / 0.0
+}
+
+// Balance after balance: this gap is finite too.
+pub fn finite_too(gap: f64, old: bool) -> bool
+    ensures { λ r. ⌜ r ≡ (old && isFinite gap) ⌝ }
+{
+    let finite = is_finite(gap);
+    if old {
+        return finite;
+    }
+    false
 }
 
 // Balance after balance: the coefficient is zero too.
@@ -133,15 +151,18 @@ pub fn within_too(h: f64, t: f64, old: bool) -> bool
     false
 }
 
-// All meters agree, where every test is within 3 or not.
-pub fn agree_of(r: usize, misfit: f64, all: bool) -> bool
+// All meters agree; within says whether every test is within 3, finite whether every gap is finite.
+pub fn agree_of(r: usize, misfit: f64, within: bool, finite: bool) -> bool
     requires { ⌜ r ≤ 16 ⌝ }
-    ensures { λ b. ⌜ b ≡ agrees r misfit all ⌝ }
+    ensures { λ b. ⌜ b ≡ agrees r misfit within finite ⌝ }
 {
     let most = limit(r);
     if 0 < r {
         if misfit <= most {
-            return all;
+            if within {
+                return finite;
+            }
+            return false;
         }
         return false;
     }

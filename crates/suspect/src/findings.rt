@@ -48,15 +48,15 @@ fn all_within(w: &[f64], n: usize) -> bool
     all
 }
 
-// What is found of all meters together.
-pub fn judge(w: &[f64], n: usize, r: usize) -> Finding
+// What is found of all meters together; finite says whether every gap is.
+pub fn judge(w: &[f64], n: usize, r: usize, finite: bool) -> Finding
     requires { ⌜ (n ≤ 16) × (r ≤ n) × (SUSPECT_ROOM ≤ length (now w)) ⌝ }
-    ensures { λ x. ⌜ x ≡ findingOf n r (vec GAPS r (now (w .entry))) (vec SHARES n (now (w .entry))) (vec TESTS n (now (w .entry))) ⌝ }
+    ensures { λ x. ⌜ x ≡ findingOf n r (vec GAPS r (now (w .entry))) (vec SHARES n (now (w .entry))) (vec TESTS n (now (w .entry))) finite ⌝ }
 {
     let misfit = numbers::dot_within(w, GAPS, GAPS, r);
     let best = find_lead(w, n);
-    let all = all_within(w, n);
-    let agree = agree_of(r, misfit, all);
+    let within = all_within(w, n);
+    let agree = agree_of(r, misfit, within, finite);
     let explained = explained_of(r, misfit, best.square);
     let freedom = r as u32;
     let first = best.index as u32;

@@ -10,12 +10,14 @@ ghost use lib.ListN.{length};
 ghost use Rattle.suspect.specs.Suspect.{suspect, stills};
 ghost use Rattle.suspect.specs.inner.Places.{SUSPECT_ROOM, SUSPECT_WORDS};
 ghost use Rattle.suspect.specs.inner.Work.{Sized, testsIn};
+use crate::balances::all_finite;
 use crate::balances::prepare;
 use crate::decide::still_of;
 use crate::findings::judge;
 use crate::findings::write_groups;
 use crate::findings::write_marks;
 use crate::measure::measure_all;
+pub use decide::is_finite;
 
 // ---- where things stand in the part of the workspaces, which begins with a QR part for K
 
@@ -84,7 +86,8 @@ pub fn test_meters(
 {
     let r = prepare(values, spreads, balances, still, w, iw, n, m);
     measure_all(spreads, balances, still, w, n, m, r);
-    let d = judge(w, n, r);
+    let finite = all_finite(values, balances, n, m);
+    let d = judge(w, n, r, finite);
     let first = d.first as usize;
     let best = Lead {
         index: first,

@@ -1,33 +1,20 @@
 -- Laws of the tests of meters: one meter, the next, and what they come to before whatever follows.
 use mathlib.Core.Path.{_≡_, refl, sym, ap, _∙_}
-use mathlib.Core.Bool.{true, false}
+use mathlib.Core.Bool.{false}
 use mathlib.Core.List.{List}
 use Prim.Native.Nat.{ℕ, zero, suc, _+_, _-_, _<_, _≤_}
 use native.Mathlib.Omega.{arith}
-use lib.Ieee.{Float, inf, binary64, ofBits, div, neg, lt}
+use lib.Ieee.{Float}
 use Rattle.numbers.specs.Numbers.{at}
 use Rattle.workspace.specs.Tables.{Answer, done, refused, outcomeOf, isLate}
 use Rattle.workspace.specs.declared.Refusal.{Refusal}
 use Rattle.workspace.specs.declared.Refusal.the-variants.{Reading, Spread}
 use Rattle.workspace.specs.declared.Outcome.the-variants.{Done, Refused}
 use Rattle.reconcile_call.specs.Promise.{isSpread}
-use Rattle.reconcile_call.proofs.Testing.{infinite, never, passes, stops, first-passes, first-stops}
-use Rattle.suspect_call.specs.Promise.{isValue, meter, meters}
+use Rattle.reconcile_call.proofs.Testing.{never, passes, stops, first-passes, first-stops}
+use Rattle.suspect.specs.Suspect.{isFinite}
+use Rattle.suspect_call.specs.Promise.{meter, meters}
 use Rattle.suspect_call.specs.inner.Work.{testedOutcome}
-
--- ---- a value
-
-minus-infinite : div binary64 (neg (ofBits binary64 0x3ff0_0000_0000_0000)) (ofBits binary64 0) ≡ inf true
-unfolding div ofBits neg
-minus-infinite = refl
-
-pub value-above : (v : Float) → lt (div binary64 (neg (ofBits binary64 0x3ff0_0000_0000_0000)) (ofBits binary64 0)) v ≡ true
-    → lt v (div binary64 (ofBits binary64 0x3ff0_0000_0000_0000) (ofBits binary64 0)) ≡ isValue v
-value-above v h = let e : lt (inf true) v ≡ true = ap (λ (z : Float). lt z v) (sym minus-infinite) ∙ h in rw (e, infinite) refl
-
-pub value-not : (v : Float) → lt (div binary64 (neg (ofBits binary64 0x3ff0_0000_0000_0000)) (ofBits binary64 0)) v ≡ false
-    → lt (div binary64 (neg (ofBits binary64 0x3ff0_0000_0000_0000)) (ofBits binary64 0)) v ≡ isValue v
-value-not v h = let e : lt (inf true) v ≡ false = ap (λ (z : Float). lt z v) (sym minus-infinite) ∙ h in h ∙ rw e refl
 
 -- ---- meter after meter
 
@@ -42,7 +29,7 @@ module _ (v s : List Float) where
       let k : n - i ≡ suc (n - (i + 1)) = omega arith in
       let j : suc i ≡ i + 1 = omega arith in
       rw k
-      (ap outcomeOf (passes (isValue (at v i)) (isSpread (at s i)) (Reading i) (Spread i) (meters {A = Unit} v s (n - (i + 1)) (suc i) (done tt)) e .2)
+      (ap outcomeOf (passes (isFinite (at v i)) (isSpread (at s i)) (Reading i) (Spread i) (meters {A = Unit} v s (n - (i + 1)) (suc i) (done tt)) e .2)
       ∙ ap (λ (x : ℕ). testedOutcome v s (n - (i + 1)) x) j)
 
   -- one that does not ends it
@@ -50,7 +37,7 @@ module _ (v s : List Float) where
   unfolding meters
   tested-out n i k h e =
       let l : n - i ≡ suc (n - (i + 1)) = omega arith in
-      rw l (ap outcomeOf (stops (isValue (at v i)) (isSpread (at s i)) (Reading i) (Spread i) k (meters {A = Unit} v s (n - (i + 1)) (suc i) (done tt)) e))
+      rw l (ap outcomeOf (stops (isFinite (at v i)) (isSpread (at s i)) (Reading i) (Spread i) k (meters {A = Unit} v s (n - (i + 1)) (suc i) (done tt)) e))
 
   pub tested-all : (n i : ℕ) → n ≤ i → testedOutcome v s (n - i) i ≡ Done
   unfolding meters
@@ -63,7 +50,7 @@ module _ (v s : List Float) where
   unfolding meters
   all-pass zero i x e = refl
   all-pass (suc n) i x e =
-      let h = first-passes (isValue (at v i)) (isSpread (at s i)) (Reading i) (Spread i) (meters {A = Unit} v s n (suc i) (done tt)) e in
+      let h = first-passes (isFinite (at v i)) (isSpread (at s i)) (Reading i) (Spread i) (meters {A = Unit} v s n (suc i) (done tt)) e in
       rw (h .0, h .1) (all-pass n (suc i) x (h .2))
 
   -- the workspaces stay as they are
@@ -71,4 +58,4 @@ module _ (v s : List Float) where
   unfolding meters
   all-stop zero i k x e = never k (sym e)
   all-stop (suc n) i k x e =
-      first-stops (isValue (at v i)) (isSpread (at s i)) (Reading i) (Spread i) k (meters {A = Unit} v s n (suc i) (done tt)) (meters v s n (suc i) x) refl refl (all-stop n (suc i) k x) e
+      first-stops (isFinite (at v i)) (isSpread (at s i)) (Reading i) (Spread i) k (meters {A = Unit} v s n (suc i) (done tt)) (meters v s n (suc i) x) refl refl (all-stop n (suc i) k x) e

@@ -8,21 +8,21 @@ use lib.Ieee.{Float}
 use Rattle.workspace.specs.Tables.{Answer, refused}
 use Rattle.workspace.specs.declared.Refusal.the-variants.{Reading, Spread}
 use Rattle.reconcile_call.specs.Promise.{isSpread}
-use Rattle.suspect.specs.Suspect.{Tests}
+use Rattle.suspect.specs.Suspect.{isFinite, Tests}
 use Rattle.suspect_call.specs.declared.Tested.{Tested}
-use Rattle.suspect_call.specs.Promise.{isValue, meters, Suspects}
+use Rattle.suspect_call.specs.Promise.{meters, Suspects}
 
 -- ---- the tests of the meters
 
 -- the value of meter i is finite, and its spread is finite and positive
 abbrev pub Sound : (v s : List Float) → ℕ → Type 0
-Sound v s i = (isValue (at v i) ≡ true) × (isSpread (at s i) ≡ true)
+Sound v s i = (isFinite (at v i) ≡ true) × (isSpread (at s i) ≡ true)
 
 -- every meter is sound, and what follows the tests answers; or here is the lowest that is not, told by 12 where its value is wrong, else by 13
 pub data Lowest {A : Type 0} (v s : List Float) (n : ℕ) (a c : Answer A) : Type 0 where
   all-sound : ((i : ℕ) → i < n → Sound v s i) → c ≡ a → Lowest v s n a c
-  wrong-value : (i : ℕ) → i < n → ((j : ℕ) → j < i → Sound v s j) → isValue (at v i) ≡ false → c ≡ refused (Reading i) → Lowest v s n a c
-  wrong-spread : (i : ℕ) → i < n → ((j : ℕ) → j < i → Sound v s j) → isValue (at v i) ≡ true → isSpread (at s i) ≡ false → c ≡ refused (Spread i) → Lowest v s n a c
+  wrong-value : (i : ℕ) → i < n → ((j : ℕ) → j < i → Sound v s j) → isFinite (at v i) ≡ false → c ≡ refused (Reading i) → Lowest v s n a c
+  wrong-spread : (i : ℕ) → i < n → ((j : ℕ) → j < i → Sound v s j) → isFinite (at v i) ≡ true → isSpread (at s i) ≡ false → c ≡ refused (Spread i) → Lowest v s n a c
 
 abbrev pub LowestFirst : Type 1
 LowestFirst = (A : Type 0) (v s : List Float) (n : ℕ) (a : Answer A) → Lowest {A = A} v s n a (meters v s n 0 a)

@@ -1,14 +1,14 @@
 -- What a call of the tests of meters answers and leaves. Definitions only.
 use Prim.Native.Nat.{ℕ, zero, suc, _*_}
 use mathlib.Core.Path.{_≡_}
-use mathlib.Core.Bool.{Bool, true, false, _&&_}
+use mathlib.Core.Bool.{Bool, true, _&&_}
 use mathlib.Core.List.{List, [], _++_}
-use lib.Ieee.{Float, inf, lt}
+use lib.Ieee.{Float}
 use Rattle.numbers.specs.Numbers.{at}
 use Rattle.workspace.specs.Tables.{Answer, done, refused, call, test, output, floats, words, isEqualities, isRoom, has}
 use Rattle.workspace.specs.declared.Refusal.the-variants.{Reading, Spread}
 use Rattle.reconcile_call.specs.Promise.{isMeters, isSpread}
-use Rattle.suspect.specs.Suspect.{Tests, suspect}
+use Rattle.suspect.specs.Suspect.{isFinite, Tests, suspect}
 use Rattle.suspect_call.specs.declared.Tested.{Tested}
 use Rattle.suspect_call.specs.declared.Tested.the-variants as T
 
@@ -20,13 +20,9 @@ areInputs n m v s c z = has v n && has s n && has c (m * n) && has z n
 abbrev pub areOutputs : (n : ℕ) → List Float → (groups marks : List ℕ) → Bool
 areOutputs n x groups marks = has x (3 * n) && has groups n && has marks n
 
--- a value that is finite
-abbrev pub isValue : Float → Bool
-isValue v = lt (inf true) v && lt v (inf false)
-
 -- the tests of one meter: its value, then its spread
 abbrev pub meter : {A : Type 0} → (v s : List Float) → ℕ → Answer A → Answer A
-meter v s i a = test (isValue (at v i)) (Reading i) (test (isSpread (at s i)) (Spread i) a)
+meter v s i a = test (isFinite (at v i)) (Reading i) (test (isSpread (at s i)) (Spread i) a)
 
 -- those of n meters from meter i on, the lowest first
 unfoldable pub meters : {A : Type 0} → (v s : List Float) → (n i : ℕ) → Answer A → Answer A

@@ -7,7 +7,7 @@ ghost use lib.ListN.{length};
 ghost use Rattle.workspace.specs.Tables.{done, test, outcomeOf};
 ghost use Rattle.workspace.specs.declared.Refusal.the-variants.{Reading, Spread};
 ghost use Rattle.reconcile_call.specs.Promise.{isSpread};
-ghost use Rattle.suspect_call.specs.Promise.{isValue};
+ghost use Rattle.suspect.specs.Suspect.{isFinite};
 ghost use Rattle.suspect_call.specs.inner.Work.{testedOutcome};
 use workspace::Outcome;
 use workspace::Refusal;
@@ -50,18 +50,11 @@ pub fn are_outputs(n: usize, numbers: usize, groups: usize, marks: usize) -> boo
     marks == n
 }
 
-// A value that is finite.
-fn is_value(v: f64) -> bool
-    ensures { λ r. ⌜ r ≡ isValue v ⌝ }
-{
-    -1.0 / 0.0 < v && v < 1.0 / 0.0
-}
-
 // One meter: a wrong value is told before a wrong spread.
 fn test_meter(value: f64, spread: f64, i: u32) -> Outcome
-    ensures { λ r. ⌜ r ≡ outcomeOf {A = Unit} (test (isValue value) (Reading i) (test (isSpread spread) (Spread i) (done tt))) ⌝ }
+    ensures { λ r. ⌜ r ≡ outcomeOf {A = Unit} (test (isFinite value) (Reading i) (test (isSpread spread) (Spread i) (done tt))) ⌝ }
 {
-    let read = is_value(value);
+    let read = suspect::is_finite(value);
     let spreads = reconcile_call::is_spread(spread);
     if !read {
         return Outcome::Refused(Refusal::Reading(i));

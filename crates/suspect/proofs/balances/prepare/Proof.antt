@@ -1,4 +1,4 @@
--- `turn`: K, its factors, the gaps, y, and Q.
+-- `prepare`: K, its factors, the gaps, y, and Q.
 use mathlib.Core.Path.{_∙_}
 use Prim.Native.Nat.{_-_}
 use native.Mathlib.Omega.{arith}

@@ -1,4 +1,4 @@
--- `face`: e_i, and the reflectors.
+-- `write_direction`: e_i, and the reflectors.
 use mathlib.Core.Path.{_∙_}
 use Prim.Native.Nat.{_-_}
 use native.Mathlib.Omega.{arith}

@@ -1,4 +1,4 @@
--- `face_all`: after i turns i rows are there.
+-- `write_directions`: after i turns i rows are there.
 use mathlib.Core.Path.{_≡_, refl, _∙_}
 use Prim.Native.Nat.{_-_, _≤_}
 use native.Mathlib.Omega.{arith}

@@ -1,4 +1,4 @@
--- `one_of`: one degree of freedom, none, or more.
+-- `explained_of`: one degree of freedom, none, or more.
 use Prim.Native.Nat.{_-_}
 use native.Mathlib.Omega.{arith}
 use borrow.Author.Tests.{eq-eqb, ne-eqb}

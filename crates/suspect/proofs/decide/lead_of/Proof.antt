@@ -1,4 +1,4 @@
--- `more`: a larger square, or not.
+-- `lead_of`: a larger square, or not.
 use Prim.Native.Nat.{_-_}
 use Rattle.numbers.specs.Numbers.{at}
 use Rattle.suspect.proofs.decide.lead_of.Statement.{statement}

@@ -1,4 +1,4 @@
--- `blind_too`: the others are, or not.
+-- `outside_too`: the others are, or not.
 use Prim.Native.Nat.{_+_, _-_}
 use Rattle.workspace.proofs.Readings.{lit-+0}
 use Rattle.suspect.proofs.decide.outside_too.Statement.{statement}

@@ -1,4 +1,4 @@
--- `small`: all before it are, or not.
+-- `within_too`: all before it are, or not.
 use Prim.Native.Nat.{_-_}
 use Rattle.suspect.proofs.Decisions.{lit-nine}
 use Rattle.suspect.proofs.decide.within_too.Statement.{statement}

@@ -1,4 +1,4 @@
--- `all_small`: after i turns it speaks of i meters.
+-- `all_within`: after i turns it speaks of i meters.
 use mathlib.Core.Path.{_≡_, sym}
 use Prim.Native.Nat.{_-_, _≤_}
 use native.Mathlib.Omega.{arith}

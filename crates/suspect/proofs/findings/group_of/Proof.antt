@@ -1,4 +1,4 @@
--- `leader_of`: after d turns it is the least of the d meters before i that is tied to i, or i.
+-- `group_of`: after d turns it is the least of the d meters before i that is tied to i, or i.
 use mathlib.Core.Path.{_≡_, ap, _∙_}
 use Prim.Native.Nat.{ℕ, _+_, _-_, _≤_}
 use native.Mathlib.Omega.{arith}

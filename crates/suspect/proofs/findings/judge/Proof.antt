@@ -33,7 +33,7 @@ cast-first c = let a = c .before .before .before .before .before .before .before
 
 returns : tie.Need-returns
 returns c = let a = c .before .before .before .before .before .before .before .args in
-    finding-is (a .n) (a .r) (vec 714 (a .r) (a .w .now)) (vec 1020 (a .n) (a .w .now)) (vec 1056 (a .n) (a .w .now)) (c .before .before .before .before .before .dot-within .result) (c .before .before .before .before .find-lead .result) (c .before .before .before .all-within .result) (c .before .before .agree-of .result) (c .before .explained-of .result)
+    finding-is (a .n) (a .r) (vec 714 (a .r) (a .w .now)) (vec 1020 (a .n) (a .w .now)) (vec 1056 (a .n) (a .w .now)) (c .before .before .before .before .before .dot-within .result) (c .before .before .before .before .find-lead .result) (c .before .before .before .all-within .result) (a .finite) (c .before .before .agree-of .result) (c .before .explained-of .result)
     (c .before .before .before .before .before .dot-within .ensures ∙ misfit-in (a .r) (a .w .now)) (c .before .before .before .before .find-lead .ensures) (c .before .before .before .all-within .ensures) (c .before .before .agree-of .ensures) (c .before .explained-of .ensures)
 
 pub judge-spec : {M : Type 1} → statement M

@@ -1,4 +1,4 @@
--- `write_groups`: after i turns i leaders are written.
+-- `write_groups`: after i turns i groups are written.
 use mathlib.Core.Path.{_≡_, refl}
 use Prim.Native.Nat.{_-_, _≤_}
 use native.Mathlib.Omega.{arith}

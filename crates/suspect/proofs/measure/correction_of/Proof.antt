@@ -1,4 +1,4 @@
--- `lean_of`: a sum.
+-- `correction_of`: a sum.
 use mathlib.Core.Path.{_∙_}
 use Prim.Native.Nat.{_-_}
 use native.Mathlib.Omega.{arith}

@@ -1,4 +1,4 @@
--- `blind`: after k turns it speaks of k balances.
+-- `is_outside`: after k turns it speaks of k balances.
 use mathlib.Core.Path.{_≡_}
 use Prim.Native.Nat.{_-_, _≤_}
 use native.Mathlib.Omega.{arith}

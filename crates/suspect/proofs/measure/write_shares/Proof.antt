@@ -1,4 +1,4 @@
--- `fill_shares`: after i turns i shares are written.
+-- `write_shares`: after i turns i shares are written.
 use mathlib.Core.Path.{_≡_, refl, ap, _∙_}
 use mathlib.Core.List.{List}
 use Prim.Native.Nat.{_-_, _≤_}

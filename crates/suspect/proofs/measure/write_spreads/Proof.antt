@@ -1,4 +1,4 @@
--- `fill_spreads`: after i turns i spreads are written.
+-- `write_spreads`: after i turns i spreads are written.
 use mathlib.Core.Path.{_≡_, refl, ap, _∙_}
 use mathlib.Core.List.{List}
 use Prim.Native.Nat.{_-_, _≤_}

@@ -1,4 +1,4 @@
--- `fill_tests`: after i turns i tests are written.
+-- `write_tests`: after i turns i tests are written.
 use mathlib.Core.Path.{_≡_, refl, sym, ap₂, _∙_}
 use mathlib.Core.List.{List}
 use Prim.Native.Nat.{_+_, _-_, _≤_}
