@@ -14,7 +14,7 @@
  *   for its type and valid for the length passed with it (a length of 0 goes with any pointer that
  *   is not null and is aligned); a slice that is written overlaps no other slice of the call; and
  *   the pointers of single results (rank, rounds, factorings, place, relaxation, tally,
- *   kept_bytes, meters, written) are distinct and overlap nothing. The processor rounds to
+ *   misfit, finding, kept_bytes, meters, written) are distinct and overlap nothing. The processor rounds to
  *   nearest and keeps subnormal numbers, as a C program begins (some that are linked with
  *   -ffast-math do not).
  *   Everything else is taken: any size and length, and any bit pattern as a double, NaN and
@@ -47,7 +47,8 @@
  *     11 GRITSTRUT_DEPENDENT: the rank of    untouched    first 8192 and 512 entries zero
  *        the equalities too low
  *     12 GRITSTRUT_TOTALISER: a reading over untouched    untouched
- *        999,999
+ *        999,999; of gritstrut_suspect a
+ *        value that is not finite
  *     13 GRITSTRUT_SPREAD: a spread that is  untouched    untouched
  *        not finite and positive
  *     14 GRITSTRUT_WIDTH: a band's width     untouched    untouched
@@ -203,6 +204,47 @@ uint32_t gritstrut_reconcile(size_t n, size_t m, const uint32_t *before, size_t 
                              const double *balances, size_t balances_len,
                              double *volumes, size_t volumes_len, uint8_t *named, size_t named_len,
                              uint32_t *place, double *w, size_t w_len, uint32_t *iw, size_t iw_len);
+
+/* What the tests find of all meters together. */
+typedef struct gritstrut_finding {
+    uint32_t freedom;   /* the degrees of freedom: how many balances are independent */
+    uint32_t first;     /* the meter of the largest test, the first of equal ones; 0 if none is
+                         * checked */
+    uint32_t agree;     /* 1 where the meters agree, else 0; 0 where the freedom is 0 */
+    uint32_t explained; /* 1 where that one meter explains a disagreement, else 0 */
+} gritstrut_finding;
+
+/* The mark of a meter, where the meters disagree. */
+enum {
+    GRITSTRUT_UNSUSPECTED, /* nothing speaks against it, or it is unchecked */
+    GRITSTRUT_SUSPECTED,   /* the square of its test is at most 6 below the largest */
+    GRITSTRUT_LOOK_FIRST   /* its test is the largest, or it is not told apart from that meter */
+};
+
+/* Which meter may be wrong: the tests of n meters, from 0 to 16, against each other, by m balances,
+ * from 0 to 16, as VDI 2048 has them. In: values as measured (n), spreads (n), balances (m * n, a
+ * row of coefficients each), still (n): 1 for a meter that stands still, whose value is zero and
+ * whose corrected volume is at most 0x1p-20 of its spread; else 0. Out: numbers (3 * n): n shares,
+ * then n new spreads, then n tests; groups (n): the lowest meter that is not told apart from this
+ * one, or itself; marks (n), as above, all 0 where the meters agree; misfit and finding.
+ * A share is what shows in the balances of a meter's error: 0 where no balance sees it (below
+ * 0x1p-20 it is unchecked: its test is 0, and no mark names it), 1 where the others determine it. A
+ * new spread is that of the corrected volume. A test is the correction over its own deviation; the
+ * misfit is the sum of the squares of all corrections in spreads. They agree where the misfit is at
+ * most the 95 % limit of chi-square for the freedom and every test is within 3; a NaN disagrees.
+ * A meter's error of 4 * spread / sqrt(share) is found five days in six; one sound day in twenty
+ * disagrees. Limits, as that no volume is below zero, are not seen. docs/RULES.md, "Tests of
+ * meters", has all of it. After 1, 2 and 3 the meters are tested, the lowest first, each for 12
+ * (its value is not finite) and then 13. place: the meter with 12 and 13, stored with these two
+ * alone. */
+uint32_t gritstrut_suspect(size_t n, size_t m, const double *values, size_t values_len,
+                           const double *spreads, size_t spreads_len,
+                           const double *balances, size_t balances_len,
+                           const uint8_t *still, size_t still_len,
+                           double *numbers, size_t numbers_len,
+                           uint32_t *groups, size_t groups_len, uint32_t *marks, size_t marks_len,
+                           double *misfit, gritstrut_finding *finding, uint32_t *place,
+                           double *w, size_t w_len, uint32_t *iw, size_t iw_len);
 
 /* The approximation B of the Hessian, of dimension n from 1 to 16, square and row-major (n * n).
  * identity writes 1 on the diagonal of b and +0 elsewhere. times writes B v (n) to out. cholesky

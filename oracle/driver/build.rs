@@ -8,7 +8,7 @@ use std::path::Path;
 const LIBRARY: &str = "GRITSTRUT_LIBRARY";
 
 /// The C interface's names after `gritstrut_`.
-const NAMES: [&str; 23] = [
+const NAMES: [&str; 24] = [
     "sqrt",
     "sum",
     "norm",
@@ -32,6 +32,7 @@ const NAMES: [&str; 23] = [
     "write_problem",
     "search_begin",
     "search_tell",
+    "suspect",
 ];
 
 fn main() {

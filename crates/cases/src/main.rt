@@ -5,6 +5,7 @@
 mod calls;
 mod days;
 mod lines;
+mod meters;
 mod searches;
 mod table;
 
@@ -60,6 +61,7 @@ fn answer_all(bundle: &[u8]) {
 fn main() {
     table::tell_all();
     days::tell_days();
+    meters::tell_plants();
     searches::tell_searches();
     let mut input = io::large_buffer();
     let n = io::read_full(STDIN_FILENO, &mut input);

@@ -1,6 +1,7 @@
 // The C interface: every public operation, each slice a pointer and a length. include/gritstrut.h declares it.
 mod check;
 mod day;
+mod meters;
 pub mod problems;
 pub mod readings;
 mod runs;
@@ -24,6 +25,7 @@ use householder_call::Qr;
 use lsei_call::Ldp;
 use lsei_call::Lsei;
 use lsei_call::Lsi;
+pub use meters::gritstrut_suspect;
 use nnls_call::Nnls;
 pub use runs::gritstrut_search_begin;
 pub use runs::gritstrut_search_tell;

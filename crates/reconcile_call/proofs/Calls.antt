@@ -38,7 +38,7 @@ all-passed n s t r a c k x x′ marks marks′ w w′ iw iw′ hs ht hr e h = rw
 pub sizes : (n m : ℕ) → (isMeters n && isEqualities m) ≡ true → (n ≤ 16) × (m ≤ 16)
 sizes n m h = let p = and-true (isMeters n) (isEqualities m) h in (leb-true n 16 (p .0), equalities-le m (p .1))
 
-last-of : (a : Bool) (k n : ℕ) → (a && eqb k n) ≡ true → (a ≡ true) × (k ≡ n)
+pub last-of : (a : Bool) (k n : ℕ) → (a && eqb k n) ≡ true → (a ≡ true) × (k ≡ n)
 last-of a k n h = let p = and-true a (eqb k n) h in (p .0, eqb-true k n (p .1))
 
 pub lengths : (n m : ℕ) (b a : List ℕ) (s c x : List Float) (marks : List ℕ) → (has b n && has a n && has s n && has c (m * n) && has x n && has marks n) ≡ true

@@ -32,17 +32,17 @@ spread-not s h = let e : lt +0 s ≡ false = ap (λ (z : Float). lt z s) (sym li
 
 -- ---- one meter
 
-never : {A : Type 0} (r : Refusal) → Refused r ≡ Done → A
+pub never : {A : Type 0} (r : Refusal) → Refused r ≡ Done → A
 never r e = let z : _≡_ {A = ℕ} 0 1 = cc in absurd (let y : ⊥ = omega arith in y)
 
 -- its tests pass, and what follows answers
-passes : {A : Type 0} (p q : Bool) (r s : Refusal) (a : Answer A) → outcomeOf {A = Unit} (test p r (test q s (done tt))) ≡ Done → (p ≡ true) × (q ≡ true) × (test p r (test q s a) ≡ a)
+pub passes : {A : Type 0} (p q : Bool) (r s : Refusal) (a : Answer A) → outcomeOf {A = Unit} (test p r (test q s (done tt))) ≡ Done → (p ≡ true) × (q ≡ true) × (test p r (test q s a) ≡ a)
 passes true true r s a e = (refl, refl, refl)
 passes true false r s a e = never s e
 passes false q r s a e = never r e
 
 -- one of them fails, and nothing that follows counts
-stops : {A : Type 0} (p q : Bool) (r s k : Refusal) (a : Answer A) → outcomeOf {A = Unit} (test p r (test q s (done tt))) ≡ Refused k → test p r (test q s a) ≡ refused k
+pub stops : {A : Type 0} (p q : Bool) (r s k : Refusal) (a : Answer A) → outcomeOf {A = Unit} (test p r (test q s (done tt))) ≡ Refused k → test p r (test q s a) ≡ refused k
 stops true true r s k a e = never k (sym e)
 stops true false r s k a e = ap refused (told e)
   where
@@ -83,7 +83,7 @@ module _ (b a : List ℕ) (s : List Float) where
 -- ---- what the tests come to, before whatever follows
 
 -- the first meter of several
-first-passes : (p q : Bool) (r s : Refusal) (rest : Answer Unit) → outcomeOf (test p r (test q s rest)) ≡ Done → (p ≡ true) × (q ≡ true) × (outcomeOf rest ≡ Done)
+pub first-passes : (p q : Bool) (r s : Refusal) (rest : Answer Unit) → outcomeOf (test p r (test q s rest)) ≡ Done → (p ≡ true) × (q ≡ true) × (outcomeOf rest ≡ Done)
 first-passes true true r s rest e = (refl, refl, e)
 first-passes true false r s rest e = never s e
 first-passes false q r s rest e = never r e
@@ -91,7 +91,7 @@ first-passes false q r s rest e = never r e
 same-refusal : (r k : Refusal) → Refused r ≡ Refused k → r ≡ k
 same-refusal r k e = cc
 
-first-stops : {A : Type 0} (p q : Bool) (r s k : Refusal) (rest : Answer Unit) (x : Answer A) → isLate r ≡ false → isLate s ≡ false → (outcomeOf rest ≡ Refused k → (x ≡ refused k) × (isLate k ≡ false))
+pub first-stops : {A : Type 0} (p q : Bool) (r s k : Refusal) (rest : Answer Unit) (x : Answer A) → isLate r ≡ false → isLate s ≡ false → (outcomeOf rest ≡ Refused k → (x ≡ refused k) × (isLate k ≡ false))
     → outcomeOf (test p r (test q s rest)) ≡ Refused k → (test p r (test q s x) ≡ refused k) × (isLate k ≡ false)
 first-stops true true r s k rest x lr ls h e = h e
 first-stops true false r s k rest x lr ls h e = let z = same-refusal s k e in (ap refused z, ap isLate (sym z) ∙ ls)

@@ -13,8 +13,9 @@ ghost use Rattle.reconcile.specs.inner.Work.{Readable};
 ghost use Rattle.reconcile_call.specs.Promise.{dayCall, Reconciles};
 ghost use Rattle.reconcile_call.specs.inner.Work.{DayGiven};
 use crate::tests::are_lengths;
-use crate::tests::are_sizes;
 use crate::tests::test_meters;
+pub use tests::are_sizes;
+pub use tests::is_spread;
 use workspace::Outcome;
 use workspace::Refusal;
 

@@ -58,7 +58,7 @@ fn are_readings(old: u32, new: u32) -> bool
 }
 
 // A spread that is finite and positive.
-fn is_spread(s: f64) -> bool
+pub fn is_spread(s: f64) -> bool
     ensures { λ r. ⌜ r ≡ isSpread s ⌝ }
 {
     0.0 < s && s < 1.0 / 0.0

@@ -2,6 +2,7 @@
 // digest of all that it left. The stored lines are the answers of the Rust.
 mod check;
 mod day;
+mod meters;
 mod run;
 mod runs;
 mod step;
@@ -59,7 +60,7 @@ fn no_call() -> Call
 // Reads a call of an operation and n bytes and replays it, if it is one.
 fn replay_next(operation: u64, n: usize) -> bool {
     let mut call = no_call();
-    if 21 < operation {
+    if 22 < operation {
         return false;
     }
     if 12288 < n {

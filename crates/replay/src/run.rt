@@ -1,6 +1,7 @@
 // Runs a stored call through the C interface on memory full of junk.
 use crate::check::run_check;
 use crate::day::run_day;
+use crate::meters::run_suspect;
 use crate::runs::run_begin;
 use crate::runs::run_tell;
 use crate::step::run_step;
@@ -203,6 +204,7 @@ fn run_any(
         19 => run_check(call, values, w, iw),
         20 => run_begin(call, values, x, w, iw),
         21 => run_tell(call, values, x, w, iw),
+        22 => run_suspect(call, values, x, w, iw),
         _ => run_hessian(operation, call, values, x, w, iw),
     }
 }

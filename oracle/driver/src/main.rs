@@ -206,7 +206,7 @@ fn check_list(arguments: &Arguments) -> Result<bool, String> {
     let found = replay::verify(&list, &library)?;
     println!("{:<16}{:>7} {:?}", "op", "calls", "by number, from 0");
     for op in OPS {
-        let numbers = found.numbers[op.code()];
+        let numbers = found.numbers[op.place()];
         println!("{:<16}{:>7} {numbers:?}", op.name(), numbers.iter().sum::<u64>());
     }
     println!(

@@ -1,11 +1,13 @@
 //! Slips around the Rust files: in part 1, in the tests, in the round limit, in what is cleared, in
-//! places and reports, in the reading of a day and of the check.
+//! places and reports, in the reading of a day, of the check and of the tests of
+//! meters.
 
 use peer::{Library, library};
 use reference::Rust;
 use reference::call::{Call, Edge, Sound, WIDTHS, passes};
 use reference::check::{Slip, TOLERANCE, VERDICT};
 use reference::shape::{Op, REPORT, WORKSPACES};
+use reference::suspect;
 use reference::tally::{NOWHERE, Tally};
 
 /// Whether a call passes a test with a report of the right length.
@@ -433,5 +435,24 @@ edges! {
     }
     CheckCleared "check: workspaces cleared after 10" {
         fn clears(number: u32) -> bool { number == 10 || Sound::clears(number) }
+    }
+    SuspectCancelled "suspect: the new spread by 1 - share" { const SUSPECT: suspect::Slip = suspect::Slip::Cancelled; }
+    SuspectInSpreads "suspect: the correction in spreads for the test" { const SUSPECT: suspect::Slip = suspect::Slip::InSpreads; }
+    SuspectDegree "suspect: the limit of one degree too many" { const SUSPECT: suspect::Slip = suspect::Slip::Degree; }
+    SuspectKept "suspect: a meter that stands still kept" { const SUSPECT: suspect::Slip = suspect::Slip::Kept; }
+    SuspectLastOfTies "suspect: the last of equal tests first" { const SUSPECT: suspect::Slip = suspect::Slip::LastOfTies; }
+    SuspectNanAgrees "suspect: a NaN agrees" { const SUSPECT: suspect::Slip = suspect::Slip::NanAgrees; }
+    SuspectGapAgrees "suspect: a gap that is not finite agrees" { const SUSPECT: suspect::Slip = suspect::Slip::GapAgrees; }
+    SuspectNoRule "suspect: the share of a meter in no balance by its sum" { const SUSPECT: suspect::Slip = suspect::Slip::NoRule; }
+    SuspectUnchecked "suspect: a test of an unchecked meter" { const SUSPECT: suspect::Slip = suspect::Slip::Unchecked; }
+    SuspectNearest "suspect: the nearest meter of a group" { const SUSPECT: suspect::Slip = suspect::Slip::Nearest; }
+    SuspectMarksAgreed "suspect: marks where the meters agree" { const SUSPECT: suspect::Slip = suspect::Slip::MarksAgreed; }
+    SuspectNarrow "suspect: suspects within 5" { const SUSPECT: suspect::Slip = suspect::Slip::Narrow; }
+    SuspectSign "suspect: gaps with their own sign" { const SUSPECT: suspect::Slip = suspect::Slip::Sign; }
+    SuspectOrder "suspect: gaps not permuted" { const SUSPECT: suspect::Slip = suspect::Slip::Order; }
+    SuspectStrict "suspect: a test of 3 disagrees" { const SUSPECT: suspect::Slip = suspect::Slip::Strict; }
+    SuspectSpreadFirst "suspect: 13 before 12" { const SUSPECT: suspect::Slip = suspect::Slip::SpreadFirst; }
+    SuspectCleared "suspect: workspaces cleared after 12" {
+        fn clears(number: u32) -> bool { number == 12 || Sound::clears(number) }
     }
 }

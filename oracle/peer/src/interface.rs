@@ -59,6 +59,10 @@ macro_rules! interface {
                 (lower lower_len read) (upper upper_len read) (d d_len read)
                 (multipliers l_len read) (lowers lowers_len read) (uppers uppers_len read)
                 {tolerance given} [verdict verdict_len index];
+            Suspect suspect "gritstrut_suspect" [n m]
+                (values values_len read) (spreads spreads_len read) (balances balances_len read)
+                (still still_len kind) (numbers numbers_len write) (groups groups_len index)
+                (marks marks_len second) {misfit real} {finding found} {place count};
         }
     };
 }
@@ -73,6 +77,8 @@ macro_rules! pointer {
     (write) => { *mut f64 };
     (both) => { *mut f64 };
     (index) => { *mut u32 };
+    (second) => { *mut u32 };
+    (found) => { *mut [u32; 4] };
     (count) => { *mut u32 };
     (real) => { *mut f64 };
     (given) => { f64 };
@@ -96,6 +102,8 @@ pub trait Lender {
     fn write(&mut self) -> (*mut f64, usize);
     fn both(&mut self) -> (*mut f64, usize);
     fn index(&mut self) -> (*mut u32, usize);
+    fn second(&mut self) -> (*mut u32, usize);
+    fn found(&mut self) -> *mut [u32; 4];
     fn count(&mut self) -> *mut u32;
     fn real(&mut self) -> *mut f64;
     fn given(&mut self) -> f64;
@@ -111,6 +119,8 @@ struct Arguments {
     kinds: Vec<u8>,
     outputs: Vec<(*mut f64, usize)>,
     words: Option<(*mut u32, usize)>,
+    seconds: Option<(*mut u32, usize)>,
+    found: Option<*mut [u32; 4]>,
     marks: Option<(*mut u8, usize)>,
     counts: Vec<*mut u32>,
     value: Option<*mut f64>,
@@ -141,6 +151,12 @@ impl Arguments {
     unsafe fn index(&mut self, data: *mut u32, len: usize) {
         self.words = Some((data, len));
     }
+    unsafe fn second(&mut self, data: *mut u32, len: usize) {
+        self.seconds = Some((data, len));
+    }
+    fn found(&mut self, place: *mut [u32; 4]) {
+        self.found = Some(place);
+    }
     fn count(&mut self, place: *mut u32) {
         self.counts.push(place);
     }
@@ -164,6 +180,7 @@ impl Arguments {
         let mut lent = Lent::new(&self.outputs, w, iw);
         lent.words = self.words.unwrap_or(lent.words);
         lent.marks = self.marks;
+        (lent.seconds, lent.found) = (self.seconds, self.found);
         (lent.counts, lent.value, lent.tally) = (self.counts, self.value, self.tally);
         unsafe { serve::<K, E>(op, sizes, self.inputs, self.kinds, lent) }
     }

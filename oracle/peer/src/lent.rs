@@ -13,6 +13,8 @@ pub struct Lent {
     pub outputs: Vec<(*mut f64, usize)>,
     pub words: (*mut u32, usize),
     pub marks: Option<(*mut u8, usize)>,
+    pub seconds: Option<(*mut u32, usize)>,
+    pub found: Option<*mut [u32; 4]>,
     pub counts: Vec<*mut u32>,
     pub value: Option<*mut f64>,
     pub tally: Option<*mut [u64; 2]>,
@@ -25,7 +27,18 @@ impl Lent {
     pub fn new(outputs: &[(*mut f64, usize)], w: (*mut f64, usize), iw: (*mut u32, usize)) -> Self {
         let words = (std::ptr::NonNull::dangling().as_ptr(), 0);
         let (outputs, counts) = (outputs.to_vec(), vec![]);
-        Self { outputs, words, marks: None, counts, value: None, tally: None, w, iw }
+        Self {
+            outputs,
+            words,
+            marks: None,
+            seconds: None,
+            found: None,
+            counts,
+            value: None,
+            tally: None,
+            w,
+            iw,
+        }
     }
 }
 
@@ -69,6 +82,7 @@ pub unsafe fn serve<K: Kernels, E: Edge>(
             _ => lent.outputs.iter().map(|output| output.1).collect(),
         },
         words: lent.marks.map_or(lent.words.1, |marks| marks.1),
+        seconds: lent.seconds.map_or(0, |seconds| seconds.1),
         work: [lent.w.1, lent.iw.1],
     };
     let run = panic::catch_unwind(|| answer::<K, E>(&call));
@@ -88,6 +102,12 @@ unsafe fn settle<E: Edge>(answer: &Answer, lent: &Lent) {
                 write(marks, &values);
             }
             None => write(lent.words, &answer.words),
+        }
+        if let Some(seconds) = lent.seconds {
+            write(seconds, &answer.seconds);
+        }
+        if let (Some(place), Some(found)) = (lent.found, answer.found) {
+            place.write(found);
         }
         for (place, count) in lent.counts.iter().zip(&answer.counts) {
             place.write(*count);

@@ -6,6 +6,7 @@ use crate::search::{Functions, Setup, Transcript};
 use crate::shape::{Lengths, Op, REPORT, WORKSPACES};
 use crate::stand_in::{self, Failure};
 use crate::strict;
+use crate::suspect;
 use crate::tally::{self, Spent, Tally};
 use crate::triangle;
 
@@ -21,13 +22,15 @@ pub struct Call {
     /// The slices of f64 that are read, in the order of the C interface; a day's readings among them
     /// (`day::stored`).
     pub inputs: Vec<Vec<f64>>,
-    /// The kinds of the constraints.
+    /// The kinds of the constraints; or which meters stand still.
     pub kinds: Vec<u8>,
     /// The lengths of the slices of f64 that are written.
     pub outputs: Vec<usize>,
     /// The length of the slice of u32 that is written: QR's permutation, a step's report, a check's
-    /// verdict; or of u8, a day's marks.
+    /// verdict, the groups of the tests of meters; or of u8, a day's marks.
     pub words: usize,
+    /// The length of the second slice of u32 that is written: the marks of the tests of meters.
+    pub seconds: usize,
     /// The lengths of the workspaces.
     pub work: [usize; 2],
 }
@@ -35,9 +38,9 @@ pub struct Call {
 impl Call {
     /// A call whose outputs and workspaces are as long as its sizes ask.
     pub fn new(op: Op, sizes: &[usize], inputs: Vec<Vec<f64>>) -> Self {
-        let Lengths { kinds, outputs, words, .. } = op.lengths(sizes);
+        let Lengths { kinds, outputs, words, seconds, .. } = op.lengths(sizes);
         let (sizes, kinds) = (sizes.to_vec(), vec![0; kinds]);
-        Self { op, sizes, inputs, kinds, outputs, words, work: WORKSPACES }
+        Self { op, sizes, inputs, kinds, outputs, words, seconds, work: WORKSPACES }
     }
 
     /// The bands of a step or a check: their constraints and widths.
@@ -54,6 +57,7 @@ impl Call {
             kinds: self.kinds.len(),
             outputs: self.outputs.clone(),
             words: self.words,
+            seconds: self.seconds,
         }
     }
 }
@@ -65,11 +69,16 @@ pub struct Answer {
     /// The slices of f64 that are written; for `update` the matrix afterwards.
     pub outputs: Vec<Vec<f64>>,
     /// The permutation, or the report of a step: exact number and place, relaxed number and place,
-    /// rounds, factorings; the verdict of a check; or the marks of a day.
+    /// rounds, factorings; the verdict of a check; the groups of the tests of meters; or the marks of
+    /// a day.
     pub words: Vec<u32>,
+    /// The marks of the tests of meters.
+    pub seconds: Vec<u32>,
+    /// What the tests of meters find of all together.
+    pub found: Option<suspect::Finding>,
     /// The rank; the rounds and the factorings; the place where rank was lost; or a meter.
     pub counts: Vec<u32>,
-    /// The relaxation, or the value of a root, sum or norm.
+    /// The relaxation, the misfit, or the value of a root, sum or norm.
     pub value: Option<f64>,
     /// What a step raises the tally by, that it is lent: rounds and factorings.
     pub spent: Option<[u32; 2]>,
@@ -102,7 +111,10 @@ impl Answer {
             let values = answer.outputs.iter().flatten().chain(&answer.value);
             values.map(|x| if x.is_nan() { u64::MAX } else { x.to_bits() }).collect()
         };
-        let told = |answer: &Answer| (answer.number, answer.counts.clone(), answer.words.clone());
+        let told = |answer: &Answer| {
+            let lists = [&answer.counts, &answer.words, &answer.seconds].map(Vec::clone);
+            (answer.number, lists, answer.found)
+        };
         told(self) == told(other) && bits(self) == bits(other)
     }
 
@@ -143,6 +155,8 @@ pub trait Edge: 'static {
     const TESTS: [u32; 7] = [1, 2, 3, 4, 14, 15, 10];
     /// How the check is read.
     const CHECK: check::Slip = check::Slip::None;
+    /// How the tests of meters are read.
+    const SUSPECT: suspect::Slip = suspect::Slip::None;
     /// How many f64 and u32 of the workspaces are cleared.
     const CLEARED: [usize; 2] = WORKSPACES;
     fn sqrt(x: f64) -> f64 {
@@ -286,7 +300,7 @@ pub fn passes(call: &Call, test: u32) -> bool {
         1 => call.op.sizes_fit(&call.sizes),
         2 => fits(call),
         3 => call.work[0] >= WORKSPACES[0] && call.work[1] >= WORKSPACES[1],
-        4 => call.kinds.iter().all(|&kind| kind <= 2),
+        4 => call.op == Op::Suspect || call.kinds.iter().all(|&kind| kind <= 2),
         10 => call.op != Op::Check || check::is_tolerance(call.inputs[check::TOLERANCE][0]),
         14 => call.bands().all(|(_, width)| (0.0..f64::INFINITY).contains(&width)),
         _ => strict::wrong(call, strict::bounded).is_empty(),
@@ -355,6 +369,10 @@ fn arithmetic<K: Kernels, E: Edge>(call: &Call) -> Answer {
             on_square::<K, E>(call)
         }
         Op::Reconcile => reconciled::<K, E>(call),
+        Op::Suspect => match suspect::refused(call, E::SUSPECT) {
+            Some((number, meter)) => Answer { counts: vec![meter], ..Answer::refused(number) },
+            None => suspect::tested::<K>(call, E::SUSPECT),
+        },
         Op::Check => Answer { words: check::verdict(call, E::CHECK), ..Answer::default() },
         Op::Step | Op::StrictStep => {
             let (kinds, rows) = floors::<E>(call);

@@ -11,6 +11,7 @@ pub mod search;
 pub mod shape;
 pub mod stand_in;
 pub mod strict;
+pub mod suspect;
 pub mod tally;
 pub mod triangle;
 

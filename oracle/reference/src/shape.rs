@@ -26,10 +26,11 @@ pub enum Op {
     Reconcile,
     StrictStep,
     Check,
+    Suspect,
 }
 
 /// Every public operation, in the order of the port.
-pub const OPS: [Op; 20] = [
+pub const OPS: [Op; 21] = [
     Op::Sqrt,
     Op::Sum,
     Op::Norm,
@@ -50,6 +51,7 @@ pub const OPS: [Op; 20] = [
     Op::Reconcile,
     Op::StrictStep,
     Op::Check,
+    Op::Suspect,
 ];
 
 /// How many f64 and u32 the workspaces hold at least.
@@ -64,19 +66,34 @@ pub struct Lengths {
     /// Slices of f64 that are read, and the readings of a day; the first of `update` is written too;
     /// a check's tolerance, a slice of one, is the last.
     pub inputs: Vec<usize>,
-    /// Kinds of constraints.
+    /// Kinds of constraints; or which meters stand still.
     pub kinds: usize,
     /// Slices of f64 that are written.
     pub outputs: Vec<usize>,
-    /// The slice of u32 that is written: QR's permutation, a step's report, a check's verdict; and of
-    /// u8, a day's marks.
+    /// The slice of u32 that is written: QR's permutation, a step's report, a check's verdict, the
+    /// groups of the tests of meters; and of u8, a day's marks.
     pub words: usize,
+    /// The second slice of u32 that is written: the marks of the tests of meters.
+    pub seconds: usize,
 }
 
 impl Op {
-    /// The operation's place in the port, from 0; the stored list names it so.
-    pub fn code(self) -> usize {
+    /// The operation's place in the table, from 0.
+    pub fn place(self) -> usize {
         self as usize
+    }
+
+    /// The number by which the stored list names it; 20 and 21 are a search's two calls.
+    pub fn code(self) -> usize {
+        match self {
+            Op::Suspect => 22,
+            _ => self.place(),
+        }
+    }
+
+    /// The operation of a code.
+    pub fn coded(code: usize) -> Option<Op> {
+        OPS.into_iter().find(|op| op.code() == code)
     }
 
     /// The name after `gritstrut_`.
@@ -102,6 +119,7 @@ impl Op {
             Op::Reconcile => "reconcile",
             Op::StrictStep => "strict_step",
             Op::Check => "check",
+            Op::Suspect => "suspect",
         }
     }
 
@@ -156,7 +174,7 @@ impl Op {
                 &[(1, 16)]
             }
             Op::Step | Op::StrictStep | Op::Check => &[(1, 16), (0, 16)],
-            Op::Reconcile => &[(0, 16), (0, 16)],
+            Op::Reconcile | Op::Suspect => &[(0, 16), (0, 16)],
         }
     }
 
@@ -200,19 +218,25 @@ impl Op {
                 (vec![n * n, n, m, m, m * n, n, n], vec![n, m])
             }
             Op::Reconcile => (vec![first, first, first, second * first], vec![first]),
+            Op::Suspect => (vec![first, first, second * first], vec![3 * first]),
             Op::Check => {
                 let (n, m) = (first, second);
                 (vec![n * n, n, m, m, m * n, n, n, n, m, n, n, 1], vec![])
             }
         };
-        let kinds = if self.has_kinds() { second } else { 0 };
+        let kinds = match self {
+            Op::Suspect => first,
+            _ if self.has_kinds() => second,
+            _ => 0,
+        };
         let words = match self {
             Op::Qr => second,
             Op::Step | Op::StrictStep => REPORT,
-            Op::Reconcile => first,
+            Op::Reconcile | Op::Suspect => first,
             Op::Check => VERDICT,
             _ => 0,
         };
-        Lengths { inputs, kinds, outputs, words }
+        let seconds = if self == Op::Suspect { first } else { 0 };
+        Lengths { inputs, kinds, outputs, words, seconds }
     }
 }

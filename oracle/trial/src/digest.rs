@@ -61,10 +61,10 @@ pub(crate) fn room(which: usize, clears: bool, before: u64) -> Vec<u64> {
     words
 }
 
-/// The memory of the permutation, of the report, of the verdict, or of the marks.
-fn places(owed: &Answer, mark: u32) -> Vec<u64> {
+/// The memory of the permutation, of the report, of the verdict, of groups or of marks.
+fn places(front: &[u32], mark: u32) -> Vec<u64> {
     let mut words = vec![u64::from(mark); ROOMS[1]];
-    for (to, &word) in words.iter_mut().zip(&owed.words) {
+    for (to, &word) in words.iter_mut().zip(front) {
         *to = u64::from(word);
     }
     words
@@ -82,7 +82,8 @@ fn tally(stored: &Stored, owed: &Answer) -> [u64; 2] {
 }
 
 /// The single results, the last output and the permutation of QR, the report and kinds of a step,
-/// the marks of a day, the verdict and kinds of a check.
+/// the marks of a day, the verdict and kinds of a check, all that the tests of meters tell beside
+/// their numbers.
 fn mix_own(digest: &mut Digest, stored: &Stored, owed: &Answer) {
     let Stored { call, fill: Fill { output, mark, .. } } = stored;
     let counts = |i: usize| u64::from(owed.counts.get(i).copied().unwrap_or(*mark));
@@ -90,23 +91,32 @@ fn mix_own(digest: &mut Digest, stored: &Stored, owed: &Answer) {
         Op::Qr => {
             digest.mix(counts(0));
             digest.mix_all(memory(written(owed, 2), *output, OUTPUT));
-            digest.mix_all(places(owed, *mark));
+            digest.mix_all(places(&owed.words, *mark));
         }
         Op::Nnls => digest.mix_all([counts(0), counts(1)]),
         Op::Lsi | Op::Lsei => digest.mix(counts(0)),
         Op::Reconcile => {
             digest.mix_all([counts(0), ROOMS[1] as u64]);
-            digest.mix_all(places(owed, mark % 128 + 128));
+            digest.mix_all(places(&owed.words, mark % 128 + 128));
         }
         Op::Step | Op::StrictStep => {
             digest.mix(owed.value.map_or(pattern(f64::from_bits(*output)), pattern));
             digest.mix_all(tally(stored, owed).map(halves).into_iter().flatten());
-            digest.mix_all(places(owed, *mark));
+            digest.mix_all(places(&owed.words, *mark));
             digest.mix(call.kinds.len() as u64);
             digest.mix_all(call.kinds.iter().map(|&kind| u64::from(kind)));
         }
+        Op::Suspect => {
+            digest.mix(counts(0));
+            digest.mix(owed.value.map_or(pattern(f64::from_bits(*output)), pattern));
+            digest.mix_all(owed.found.unwrap_or([*mark; 4]).map(u64::from));
+            digest.mix_all(places(&owed.words, *mark));
+            digest.mix_all(places(&owed.seconds, *mark));
+            digest.mix(call.kinds.len() as u64);
+            digest.mix_all(call.kinds.iter().map(|&still| u64::from(still)));
+        }
         Op::Check => {
-            digest.mix_all(places(owed, *mark));
+            digest.mix_all(places(&owed.words, *mark));
             digest.mix(call.kinds.len() as u64);
             digest.mix_all(call.kinds.iter().map(|&kind| u64::from(kind)));
         }

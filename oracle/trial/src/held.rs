@@ -135,6 +135,8 @@ struct Buffers {
     marks: Held<u8>,
     outputs: Vec<Held<f64>>,
     words: Held<u32>,
+    seconds: Held<u32>,
+    found: Held<u32>,
     counts: Vec<Held<u32>>,
     value: Held<f64>,
     tally: Held<u64>,
@@ -167,6 +169,8 @@ impl Buffers {
             marks: Held::junk(marks, junk, draw),
             outputs,
             words: Held::junk(words, junk, draw),
+            seconds: Held::junk(call.seconds, junk, draw),
+            found: Held::junk(4, junk, draw),
             counts,
             value: Held::junk(1, junk, draw),
             tally: Held::of(tally, junk, draw),
@@ -212,6 +216,12 @@ impl Lender for Buffers {
     }
     fn index(&mut self) -> (*mut u32, usize) {
         self.words.pointer()
+    }
+    fn second(&mut self) -> (*mut u32, usize) {
+        self.seconds.pointer()
+    }
+    fn found(&mut self) -> *mut [u32; 4] {
+        self.found.pointer().0.cast()
     }
     fn count(&mut self) -> *mut u32 {
         let next = self.next(3);
@@ -383,11 +393,17 @@ fn compare_outputs(buffers: &Buffers, op: Op, owed: &Answer, found: &mut Vec<Str
         let name = match op {
             Op::Step | Op::StrictStep => "report",
             Op::Check => "verdict",
+            Op::Suspect => "groups",
             _ => "perm",
         };
         found.push(format!("{name}: owed {:?}, found {:?}", owed.words, buffers.words.body()));
     }
-    compare_rest("perm, report or verdict", &buffers.words, reported, found);
+    compare_rest("perm, report, verdict or groups", &buffers.words, reported, found);
+    let marked = !owed.seconds.is_empty();
+    if marked && buffers.seconds.body() != owed.seconds {
+        found.push(format!("marks: owed {:?}, found {:?}", owed.seconds, buffers.seconds.body()));
+    }
+    compare_rest("marks", &buffers.seconds, marked, found);
 }
 
 /// The marks of a day: as owed where it is done, else untouched.
@@ -411,9 +427,13 @@ fn compare_single(buffers: &Buffers, owed: &Answer, found: &mut Vec<String>) {
     }
     let value = buffers.value.body()[0];
     if owed.value.is_some_and(|owed| !same(owed, value)) {
-        found.push(format!("relaxation: owed {:?}, found {}", owed.value, shown(value)));
+        found.push(format!("relaxation or misfit: owed {:?}, found {}", owed.value, shown(value)));
     }
-    compare_rest("relaxation", &buffers.value, owed.value.is_some(), found);
+    compare_rest("relaxation or misfit", &buffers.value, owed.value.is_some(), found);
+    if owed.found.is_some_and(|owed| buffers.found.body() != owed) {
+        found.push(format!("finding: owed {:?}, found {:?}", owed.found, buffers.found.body()));
+    }
+    compare_rest("finding", &buffers.found, owed.found.is_some(), found);
 }
 
 /// The tally: raised by what was spent, else untouched.

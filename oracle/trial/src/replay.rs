@@ -38,7 +38,7 @@ fn words(call: &Call, owed: &Answer) -> usize {
     let rooms = if call.op.is_lent() { 2 } else { 0 };
     let lengths = 1 + groups.iter().sum::<usize>() + single + rooms;
     let inputs = call.inputs.iter().map(Vec::len).sum::<usize>() + call.kinds.len();
-    let outputs = owed.outputs.iter().map(Vec::len).sum::<usize>() + owed.words.len();
+    let outputs = owed.outputs.iter().map(Vec::len).sum::<usize>() + owed.words.len() + owed.seconds.len();
     lengths + inputs + outputs + owed.counts.len() + usize::from(owed.value.is_some())
 }
 
@@ -47,7 +47,7 @@ fn fits(call: &Call) -> bool {
     let reals = call.inputs.iter().map(Vec::len).chain(call.outputs.iter().copied());
     let bytes = HEADER + 8 * call.inputs.iter().map(Vec::len).sum::<usize>() + call.kinds.len();
     let longest = reals.max().unwrap_or(0);
-    longest <= LONGEST[0] && call.kinds.len().max(call.words) <= LONGEST[1] && bytes <= BYTES
+    longest <= LONGEST[0] && call.kinds.len().max(call.words).max(call.seconds) <= LONGEST[1] && bytes <= BYTES
 }
 
 /// The next call of a kind from an index on that takes no more words than allowed.
@@ -93,7 +93,7 @@ fn seldom(kind: &Kind, seed: u64, had: &mut [[u64; NUMBERS]; OPS.len()]) -> Vec<
     } {
         let (call, _) = kind.call(seed, index);
         let owed = answer::<Rust, Sound>(&call);
-        let count = &mut had[call.op.code()][owed.number as usize];
+        let count = &mut had[call.op.place()][owed.number as usize];
         if *count < SELDOM && fits(&call) && words(&call, &owed) <= LONGEST[2] {
             *count += 1;
             taken.push((call, owed));
@@ -110,7 +110,7 @@ fn chosen(seed: u64, each: usize) -> Vec<Chosen> {
         calls.extend(sampled(place, kind, seed, each));
     }
     for (call, owed) in &calls {
-        had[call.op.code()][owed.number as usize] += 1;
+        had[call.op.place()][owed.number as usize] += 1;
     }
     for kind in &kinds {
         calls.extend(seldom(kind, seed, &mut had));
@@ -176,7 +176,7 @@ pub fn verify(list: &List, library: &Library) -> Result<Found, String> {
         let (code, bytes) = stored::next(&mut rest)?;
         found.calls += 1;
         found.longest = found.longest.max(before - rest.0.len());
-        let Some(&op) = OPS.get(code) else {
+        let Some(op) = Op::coded(code) else {
             found.searches += 1;
             lines.next();
             continue;
@@ -185,7 +185,7 @@ pub fn verify(list: &List, library: &Library) -> Result<Found, String> {
         let (call, owed) = (&stored.call, answer::<Rust, Sound>(&stored.call));
         let mut draw = Draw::new(1, call.op, "replay", index);
         let differs = !compare(library, call, &owed, &junk, &mut draw).is_empty();
-        found.numbers[call.op.code()][owed.number as usize] += 1;
+        found.numbers[call.op.place()][owed.number as usize] += 1;
         found.nan_ratios += u64::from(owed.tally.nan_ratios > 0);
         found.lines += u64::from(lines.next() != Some(&line(&stored, &owed)));
         found.different += u64::from(differs);

@@ -101,6 +101,9 @@ impl Stored {
         if call.op == Op::Check {
             lengths[2..4].copy_from_slice(&[MULTIPLIERS, LOWERS].map(|at| call.inputs[at].len()));
         }
+        if call.op == Op::Suspect {
+            lengths[3] = call.seconds;
+        }
         lengths[5] = call.words;
         lengths[6] = call.kinds.len();
         for (to, values) in lengths[BEFORE_INPUTS..].iter_mut().zip(&call.inputs) {
@@ -149,7 +152,8 @@ impl Stored {
         let sizes = sizes[..op.sizes().len()].to_vec();
         let outputs = lengths[2..2 + like.outputs.len()].to_vec();
         let (words, work) = (lengths[5], [lengths[0], lengths[1]]);
-        let call = Call { op, sizes, inputs, kinds, outputs, words, work };
+        let seconds = if op == Op::Suspect { lengths[3] } else { 0 };
+        let call = Call { op, sizes, inputs, kinds, outputs, words, seconds, work };
         if rest.0.is_empty() { Ok(Self { call, fill }) } else { Err("a call is too long".into()) }
     }
 }

@@ -35,6 +35,10 @@ pub enum Aim {
     Stages(u32, u32),
     /// A day in which a meter is named.
     Named,
+    /// Tests of meters that agree.
+    Agreed,
+    /// Tests of meters that mark one.
+    Marked,
     /// A check whose verdict is this test, or yes where it is 0.
     Verdict(u32),
 }
@@ -57,6 +61,9 @@ pub struct Counts {
     pub stages: [[u64; ENDS.len()]; ENDS.len()],
     /// Days in which a meter is named.
     pub named: u64,
+    /// Tests of meters that agree, and that mark a meter.
+    pub agreed: u64,
+    pub marked: u64,
     /// Checks by the test that failed first, 0 where none did.
     pub verdicts: [u64; 6],
     pub different: u64,
@@ -86,6 +93,8 @@ impl Counts {
             self.placed[owed.number as usize] += u64::from(owed.counts.first() > Some(&0));
         }
         self.named += u64::from(op == Op::Reconcile && owed.words.contains(&1));
+        self.agreed += u64::from(owed.found.is_some_and(|found| found[2] == 1));
+        self.marked += u64::from(owed.seconds.iter().any(|&mark| mark > 0));
         if op == Op::Check && done {
             self.verdicts[owed.words[0] as usize] += 1;
         }
@@ -120,6 +129,8 @@ impl Counts {
         self.moved += other.moved;
         self.ranked += other.ranked;
         self.named += other.named;
+        self.agreed += other.agreed;
+        self.marked += other.marked;
         self.different += other.different;
         for (mine, theirs) in self.placed.iter_mut().zip(other.placed) {
             *mine += theirs;
@@ -146,6 +157,8 @@ impl Counts {
             Aim::Ranked => self.ranked,
             Aim::Place(number) => self.placed[number as usize],
             Aim::Named => self.named,
+            Aim::Agreed => self.agreed,
+            Aim::Marked => self.marked,
             Aim::Verdict(test) => self.verdicts[test as usize],
             Aim::Stages(exact, relaxed) => self.stages[end(exact)][end(relaxed)],
         }

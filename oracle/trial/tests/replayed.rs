@@ -6,7 +6,7 @@ use peer::{Lender, Library, library};
 use reference::Rust;
 use reference::call::Sound;
 use reference::day;
-use reference::shape::{OPS, Op};
+use reference::shape::Op;
 use trial::digest::Digest;
 use trial::replay::list;
 use trial::search::SCHEMES;
@@ -17,6 +17,8 @@ struct Memory<'a> {
     stored: &'a Stored,
     outputs: [Vec<f64>; 3],
     words: Vec<u32>,
+    seconds: Vec<u32>,
+    found: [u32; 4],
     counts: [u32; 2],
     value: f64,
     tally: [u64; 2],
@@ -43,6 +45,8 @@ impl<'a> Memory<'a> {
             stored,
             outputs,
             words: vec![fill.mark; 551],
+            seconds: vec![fill.mark; 551],
+            found: [fill.mark; 4],
             counts: [fill.mark; 2],
             value: f64::from_bits(fill.output),
             tally: [fill.output, fill.room],
@@ -91,6 +95,12 @@ impl Lender for Memory<'_> {
     }
     fn index(&mut self) -> (*mut u32, usize) {
         (self.words.as_mut_ptr(), self.stored.call.words)
+    }
+    fn second(&mut self) -> (*mut u32, usize) {
+        (self.seconds.as_mut_ptr(), self.stored.call.seconds)
+    }
+    fn found(&mut self) -> *mut [u32; 4] {
+        &mut self.found
     }
     fn count(&mut self) -> *mut u32 {
         let next = self.next(3);
@@ -149,6 +159,15 @@ fn replay_lent(library: &Library, stored: &Stored, digest: &mut Digest) -> u32 {
             digest.mix(kinds.len() as u64);
             digest.mix_all(kinds.iter().map(|&kind| u64::from(kind)));
         }
+        Op::Suspect => {
+            digest.mix_all([u64::from(memory.counts[0]), pattern(memory.value)]);
+            digest.mix_all(longs(&memory.found));
+            digest.mix_all(longs(&memory.words));
+            digest.mix_all(longs(&memory.seconds));
+            let still = &stored.call.kinds;
+            digest.mix(still.len() as u64);
+            digest.mix_all(still.iter().map(|&mark| u64::from(mark)));
+        }
         Op::Check => {
             digest.mix_all(longs(&memory.words));
             let kinds = &stored.call.kinds;
@@ -186,7 +205,7 @@ fn lines_are_those_of_the_memory() {
     assert_eq!(calls, list.lines.lines().count() as u64);
     for line in list.lines.lines() {
         let (code, bytes) = next(&mut rest).expect("a stored call");
-        let Some(&op) = OPS.get(code) else { continue };
+        let Some(op) = Op::coded(code) else { continue };
         let stored = Stored::read(op, bytes).expect("a stored call");
         let mut digest = Digest::default();
         let run = if stored.call.op.is_lent() { replay_lent } else { replay_value };

@@ -12,6 +12,7 @@ mod qr;
 mod spoiled;
 mod step;
 mod strict;
+mod suspect;
 
 pub use nnls::{decides, overflow_numbered};
 
@@ -96,6 +97,7 @@ fn own(op: Op) -> Vec<Row> {
         Op::Reconcile => day::ROWS.to_vec(),
         Op::StrictStep => [&step::ROWS[..], &strict::ROWS].concat(),
         Op::Check => check::ROWS.to_vec(),
+        Op::Suspect => suspect::ROWS.to_vec(),
     }
 }
 

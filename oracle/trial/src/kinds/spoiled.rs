@@ -146,6 +146,7 @@ pub fn bad_length(call: &mut Call, draw: &mut Draw) {
     let extra = match call.op {
         Op::Qr | Op::Reconcile => 1,
         Op::Step | Op::StrictStep | Op::Check => 2,
+        Op::Suspect => 3,
         _ => 0,
     };
     let at = draw.below(inputs + outputs + extra);
@@ -156,6 +157,8 @@ pub fn bad_length(call: &mut Call, draw: &mut Draw) {
         call.outputs[at - inputs] = other_length(call.outputs[at - inputs], draw);
     } else if at == inputs + outputs {
         call.words = other_length(call.words, draw);
+    } else if at == inputs + outputs + 2 {
+        call.seconds = other_length(call.seconds, draw);
     } else {
         let len = other_length(call.kinds.len(), draw);
         call.kinds.resize(len, 1);
