@@ -8,7 +8,7 @@ use lib.Dec.{eqb, leb}
 use lib.ListN.{length, replicate}
 use lib.Ieee.{Float, nan, lt}
 use Rattle.numbers.specs.Numbers.{+0, near, nth, at, _⊘_}
-use Rattle.numbers.proofs.Lists.{tab-same, getD-tab}
+use Rattle.numbers.proofs.Lists.{length-tab, tab-same, getD-tab}
 use Rattle.numbers.proofs.Order.{lt-asym, lt-irrefl}
 use Rattle.exact.specs.Exact.{ℚ, _≤ℚ_, whole, _+ℚ_, _-ℚ_, _*ℚ_, absℚ, squared, value, Finite}
 use Rattle.exact.proofs.Laws as laws
@@ -27,8 +27,9 @@ use Rattle.settle.specs.Claims.{inNumbers, NoneFarther, NoMeterFarther, 
 
 -- ---- the bound is that of what is settled
 
+-- and there is a witness for each balance and each limit
 abbrev Certified : Measured → Settled → Type 0
-Certified d s = s ≡ certified d (s .x) (s .y) (s .z)
+Certified d s = (s ≡ certified d (s .x) (s .y) (s .z)) × (length (s .y) ≡ d .m) × (length (s .z) ≡ d .p)
 
 abbrev OfAgain : Measured → Again → Type 0
 OfAgain d (again s) = Certified d s
@@ -44,7 +45,7 @@ one-of d false a b h k = k
 
 next-of : (d : Measured) (c : ℕ) (hs : List ℕ) (a : Answer Solution) (on : ℕ → Again) → ((t : ℕ) → OfAgain d (on t)) → OfAgain d (next d c hs a on)
 unfolding pinnedOf
-next-of d c hs (done s) on h = refl
+next-of d c hs (done s) on h = (refl, length-tab (d .m) _, length-tab (d .p) _)
 next-of d c hs (refused r) on h = either d (eqb (numberOf r) 11 && leb (d .m) (placeOf r)) (on (placeOf r - d .m)) none (h (placeOf r - d .m)) tt
 
 tries-of : (d : Measured) (c : ℕ) (hs : List ℕ) → OfAgain d (tries d c hs)
@@ -66,7 +67,7 @@ chosen-of d t a h = one-of d (isOrdinary (isKept d t a) (a .far)) a (better d t 
 
 first-of : (d : Measured) (s : Solution) → Certified d (firstOf d s)
 unfolding firstOf
-first-of d s = refl
+first-of d s = (refl, length-tab (d .m) _, length-tab (d .p) _)
 
 value-of : {A : Type 0} → A → Answer A → A
 value-of z (done s) = s
@@ -86,7 +87,7 @@ choose-of d t (done l) s e = subst (Certified d) (same-done (chosen d t (firstOf
 choose-of d t (refused r) s e = absurd (true≢false (sym (ap is-done e)))
 
 -- whatever is settled, its bound is the bound of its volumes and witnesses
-pub certified-is : (d : Measured) (t : Float) (s : Settled) → settled d t ≡ done s → s ≡ certified d (s .x) (s .y) (s .z)
+pub certified-is : (d : Measured) (t : Float) (s : Settled) → settled d t ≡ done s → (s ≡ certified d (s .x) (s .y) (s .z)) × (length (s .y) ≡ d .m) × (length (s .z) ≡ d .p)
 unfolding settled
 certified-is d t s e = choose-of d t (first d .answer) s e
 
@@ -97,7 +98,7 @@ Enough d s B = Sound (inNumbers d) (report (s .x) (s .y) (s .z)) × (whole 0 ≤
 
 enough : (d : Measured) (t : Float) (s : Settled) → settled d t ≡ done s → Finite (s .far) → Enough d s (s .far)
 enough d t s e f =
-    let h : s .far ≡ certified d (s .x) (s .y) (s .z) .far = ap (λ (u : Settled). u .far) (certified-is d t s e) in
+    let h : s .far ≡ certified d (s .x) (s .y) (s .z) .far = ap (λ (u : Settled). u .far) (certified-is d t s e .0) in
     subst (Enough d s) (sym h) (bounds.bound-is-enough (d .n) (d .m) (d .p) (d .values) (d .spreads) (d .balances) (d .limits) (d .least) (s .x) (s .y) (s .z) (subst Finite h f))
 
 pub none-farther : NoneFarther
