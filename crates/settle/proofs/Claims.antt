@@ -23,7 +23,7 @@ use Rattle.certain.specs.Day.{Sound, Reported, report, reach, apart, misfit, ex
 use Rattle.certain.proofs.Certain as certain
 use Rattle.certain.proofs.Bounds as bounds
 use Rattle.settle.specs.Settle.{Measured, Settled, Again, again, none, certified, targets, first, firstOf, pinned, pinnedOf, next, without, tries, positives, second, isKept, isOrdinary, isBetter, better, chosen, choose, settled}
-use Rattle.settle.specs.Claims.{inNumbers, NoneFarther, NoMeterFarther, BestOfDayNear, KeptIsWithin, OfTwo, KeptWherever, ofDay, OrdinaryDay, RefusedDay}
+use Rattle.settle.specs.Claims.{inNumbers, Near, CertifiedIsNear, SettledIsNear, KeptIsWithin, OfTwo, KeptWherever, ofDay, OrdinaryDay, RefusedDay}
 
 -- ---- the bound is that of what is settled
 
@@ -93,31 +93,23 @@ certified-is d t s e = choose-of d t (first d .answer) s e
 
 -- ---- how far
 
-abbrev Enough : Measured → Settled → Float → Type 0
-Enough d s B = Sound (inNumbers d) (report (s .x) (s .y) (s .z)) × (whole 0 ≤ℚ value B) × (reach (inNumbers d) (report (s .x) (s .y) (s .z)) ≤ℚ squared (value B))
+pub certified-is-near : CertifiedIsNear
+certified-is-near d x y z f =
+    let r = report x y z in
+    let B = certified d x y z .far in
+    let e = bounds.bound-is-enough (d .n) (d .m) (d .p) (d .values) (d .spreads) (d .balances) (d .limits) (d .least) x y z f in
+    record {
+      none-farther = λ x' good. laws.le-trans (apart (inNumbers d) (exactly x) x') (reach (inNumbers d) r) (squared (value B)) (certain.none-farther (inNumbers d) r (e .0) x' good) (e .2);
+      no-meter-farther = λ x' good i l. certain.no-meter-farther (inNumbers d) r (e .0) (value B) (e .1) (e .2) x' good i l;
+      best-of-day-near = λ x' best k feasible. let u = whole 2 *ℚ misfit (inNumbers d) k in
+          laws.le-trans (apart (inNumbers d) (exactly x) x' +ℚ whole 2 *ℚ misfit (inNumbers d) (exactly x)) (u +ℚ reach (inNumbers d) r) (u +ℚ squared (value B))
+          (certain.best-of-day-near (inNumbers d) r (e .0) x' best k feasible) (sum-mono u u (reach (inNumbers d) r) (squared (value B)) (laws.le-refl u) (e .2));
+    }
 
-enough : (d : Measured) (t : Float) (s : Settled) → settled d t ≡ done s → Finite (s .far) → Enough d s (s .far)
-enough d t s e f =
+pub settled-is-near : SettledIsNear
+settled-is-near d t s e f =
     let h : s .far ≡ certified d (s .x) (s .y) (s .z) .far = ap (λ (u : Settled). u .far) (certified-is d t s e .0) in
-    subst (Enough d s) (sym h) (bounds.bound-is-enough (d .n) (d .m) (d .p) (d .values) (d .spreads) (d .balances) (d .limits) (d .least) (s .x) (s .y) (s .z) (subst Finite h f))
-
-pub none-farther : NoneFarther
-none-farther d t s e f x' good =
-    let r = report (s .x) (s .y) (s .z) in
-    let b = enough d t s e f in
-    laws.le-trans (apart (inNumbers d) (exactly (s .x)) x') (reach (inNumbers d) r) (squared (value (s .far))) (certain.none-farther (inNumbers d) r (b .0) x' good) (b .2)
-
-pub no-meter-farther : NoMeterFarther
-no-meter-farther d t s e f x' good i l =
-    let b = enough d t s e f in certain.no-meter-farther (inNumbers d) (report (s .x) (s .y) (s .z)) (b .0) (value (s .far)) (b .1) (b .2) x' good i l
-
-pub best-of-day-near : BestOfDayNear
-best-of-day-near d t s e f x' best k feasible =
-    let r = report (s .x) (s .y) (s .z) in
-    let b = enough d t s e f in
-    let u = whole 2 *ℚ misfit (inNumbers d) k in
-    laws.le-trans (apart (inNumbers d) (exactly (s .x)) x' +ℚ whole 2 *ℚ misfit (inNumbers d) (exactly (s .x))) (u +ℚ reach (inNumbers d) r) (u +ℚ squared (value (s .far)))
-    (certain.best-of-day-near (inNumbers d) r (b .0) x' best k feasible) (sum-mono u u (reach (inNumbers d) r) (squared (value (s .far))) (laws.le-refl u) (b .2))
+    subst (Near d (s .x)) (sym h) (certified-is-near d (s .x) (s .y) (s .z) (subst Finite h f))
 
 pub kept-is-within : KeptIsWithin
 kept-is-within d t s f h = bounds.kept-is-within (d .n) (d .m) (d .p) (d .values) (d .spreads) (d .balances) (d .limits) (d .least) (s .x) t f h

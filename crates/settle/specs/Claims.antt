@@ -2,6 +2,7 @@
 use Prim.Native.Nat.{ℕ, _<_}
 use mathlib.Core.Bool.{Bool, true, false}
 use mathlib.Core.Logic.{_⊎_}
+use mathlib.Core.List.{List}
 use mathlib.Core.Path.{_≡_}
 use lib.ListN.{replicate}
 use lib.Ieee.{Float, lt}
@@ -15,7 +16,7 @@ use Rattle.totaliser.specs.Volume.{volume}
 use Rattle.nnls.specs.Counted.{Counted}
 use Rattle.lsei.specs.Lsei.{Solution}
 use Rattle.reconcile.specs.Day.{Day, identity, corrected}
-use Rattle.settle.specs.Settle.{Measured, Settled, Again, again, measured, first, firstOf, second, isKept, isOrdinary, settled}
+use Rattle.settle.specs.Settle.{Measured, Settled, Again, again, measured, certified, first, firstOf, second, isKept, isOrdinary, settled}
 
 -- ---- how far they can be from the best
 
@@ -23,21 +24,23 @@ use Rattle.settle.specs.Settle.{Measured, Settled, Again, again, measure
 abbrev pub inNumbers : Measured → exact.Day
 inNumbers d = exact.read (d .n) (d .m) (d .p) (d .values) (d .spreads) (d .balances) (d .limits) (d .least)
 
--- Where volumes are settled and their bound is finite, no volumes that close, keep and fit as well lie farther from them than the bound: the differences in spreads, squared and summed.
-abbrev pub NoneFarther : Type 0
-NoneFarther = (d : Measured) (t : Float) (s : Settled) → settled d t ≡ done s → Finite (s .far)
-    → (x' : ℕ → ℚ) → AsGood (inNumbers d) (exactly (s .x)) x' → apart (inNumbers d) (exactly (s .x)) x' ≤ℚ squared (value (s .far))
+-- What a bound B says of volumes x.
+pub record Near (d : Measured) (x : List Float) (B : Float) : Type 0 where
+  -- no volumes that close, keep and fit as well lie farther off: the differences in spreads, squared and summed
+  pub none-farther : (x' : ℕ → ℚ) → AsGood (inNumbers d) (exactly x) x' → apart (inNumbers d) (exactly x) x' ≤ℚ squared (value B)
+  -- so in none of them a value is off by more than B of its spreads
+  pub no-meter-farther : (x' : ℕ → ℚ) → AsGood (inNumbers d) (exactly x) x' → (i : ℕ) → i < d .n → absℚ (exactly x i -ℚ x' i) ≤ℚ value B *ℚ exactly (d .spreads) i
+  -- with any volumes k at hand that close exactly and keep every limit, the day's best lie no farther than B, and what k fits worse
+  pub best-of-day-near : (x' : ℕ → ℚ) → BestOfDay (inNumbers d) x' → (k : ℕ → ℚ) → Feasible (inNumbers d) k
+      → apart (inNumbers d) (exactly x) x' +ℚ whole 2 *ℚ misfit (inNumbers d) (exactly x) ≤ℚ whole 2 *ℚ misfit (inNumbers d) k +ℚ squared (value B)
 
--- So no value is off by more than that many of its spreads.
-abbrev pub NoMeterFarther : Type 0
-NoMeterFarther = (d : Measured) (t : Float) (s : Settled) → settled d t ≡ done s → Finite (s .far)
-    → (x' : ℕ → ℚ) → AsGood (inNumbers d) (exactly (s .x)) x' → (i : ℕ) → i < d .n → absℚ (exactly (s .x) i -ℚ x' i) ≤ℚ value (s .far) *ℚ exactly (d .spreads) i
+-- So says a finite bound of any volumes, with any witnesses;
+abbrev pub CertifiedIsNear : Type 0
+CertifiedIsNear = (d : Measured) (x y z : List Float) → Finite (certified d x y z .far) → Near d x (certified d x y z .far)
 
--- With any volumes k at hand that close exactly and keep every limit, the day's best lie no farther than the bound, and what k fits worse.
-abbrev pub BestOfDayNear : Type 0
-BestOfDayNear = (d : Measured) (t : Float) (s : Settled) → settled d t ≡ done s → Finite (s .far)
-    → (x' : ℕ → ℚ) → BestOfDay (inNumbers d) x' → (k : ℕ → ℚ) → Feasible (inNumbers d) k
-    → apart (inNumbers d) (exactly (s .x)) x' +ℚ whole 2 *ℚ misfit (inNumbers d) (exactly (s .x)) ≤ℚ whole 2 *ℚ misfit (inNumbers d) k +ℚ squared (value (s .far))
+-- and that of what is settled.
+abbrev pub SettledIsNear : Type 0
+SettledIsNear = (d : Measured) (t : Float) (s : Settled) → settled d t ≡ done s → Finite (s .far) → Near d (s .x) (s .far)
 
 -- Settled volumes that are kept within a finite tolerance are so exactly.
 abbrev pub KeptIsWithin : Type 0
