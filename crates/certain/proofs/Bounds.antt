@@ -1,23 +1,22 @@
 -- The claims on the bound and on what is kept: each operation by its containment (crate `interval`), each term by its law (Terms.antt). Assumes nothing.
-use mathlib.Core.Path.{_≡_, refl, sym, ap, _∙_, subst}
-use mathlib.Core.Bool.{Bool, true, false, cond, _&&_, false≢true, true≢false}
+use mathlib.Core.Path.{_≡_, refl, ap, _∙_}
+use mathlib.Core.Bool.{Bool, true, false, cond, _&&_, false≢true}
 use mathlib.Core.Logic.{⊎-elim}
 use mathlib.Core.List.{List}
 use Prim.Native.Nat.{ℕ, zero, suc, _+_, _*_, _≤_, _<_}
 use native.Mathlib.Nat.{eq-or-lt-of-le}
 use native.Mathlib.Omega.{arith}
-use lib.Dec.{T, ltb, ltb→lt, eqb, eqb→eq}
-use lib.Ieee.{Float, nan, inf, fin, binary64, fits, lt, le, up, down}
+use lib.Dec.{T}
+use lib.Ieee.{Float, nan, inf, fin, binary64, fits, lt, le}
 use lib.Ieee.Fits.{add-fits, inf-fits, cond-fits}
 use Rattle.numbers.specs.Numbers.{+0, _⊕_, at, entry}
 use Rattle.numbers.specs.Root.{sqrtOf}
-use Rattle.exact.specs.Exact.{ℚ, _≤ℚ_, _<ℚ_, whole, negℚ, _+ℚ_, _-ℚ_, _*ℚ_, squared, absℚ, Σℚ, value, signed, Finite}
+use Rattle.exact.specs.Exact.{ℚ, _≤ℚ_, _<ℚ_, whole, negℚ, _+ℚ_, _-ℚ_, _*ℚ_, squared, absℚ, Σℚ, value, Finite}
 use Rattle.exact.proofs.Laws as laws
-use Rattle.exact.proofs.Monotone.{sum-mono}
-use Rattle.exact.proofs.Values.{above-zero, at-most-is-at-most}
+use Rattle.exact.proofs.Values.{above-zero, at-most-is-at-most, and-left, and-right}
 use Rattle.interval.specs.Next.{nextUp}
 use Rattle.interval.specs.Held.{AtMost, Holds}
-use Rattle.interval.specs.Intervals.{isFinite, isPositive, larger, divUp, point, plus, minus, times, magnitude, product, sumWithin, addUp, mulUp, sumUp}
+use Rattle.interval.specs.Intervals.{isFinite, isPositive, larger, divUp, point, plus, minus, times, magnitude, product, sumWithin, addUp, mulUp}
 use Rattle.interval.specs.declared.Interval.{Interval}
 use Rattle.interval.proofs.Least.{up-is}
 use Rattle.interval.proofs.Containment.{finite, larger-is, adds, multiplies, divides, roots, point-holds, plus-holds, minus-holds, times-holds, product-holds, magnitude-bounds, sum-holds, up-bounds}
@@ -67,14 +66,6 @@ slack-bounds z b a q h = go (le +0 z) refl
     go false e = tt
 
 -- ---- tests of all
-and-left : (a b : Bool) → (a && b) ≡ true → a ≡ true
-and-left true b h = refl
-and-left false b h = absurd (false≢true h)
-
-and-right : (a b : Bool) → (a && b) ≡ true → b ≡ true
-and-right true b h = h
-and-right false b h = absurd (false≢true h)
-
 all-at : (n : ℕ) (f : ℕ → Bool) → allBelow n f ≡ true → (i : ℕ) → i < n → f i ≡ true
 unfolding allBelow
 all-at zero f h i l = absurd (omega arith)

@@ -1,13 +1,13 @@
 -- The claims of `specs/Claims.antt`. Every fraction is taken to its number, where Core.antt's mathematics is, and the order is taken back. Assumes nothing.
-use Prim.Native.Nat.{ℕ, zero, suc, _+_, _*_, _<_}
-use mathlib.Core.Path.{_≡_, refl, sym, ap, _∙_, subst}
+use Prim.Native.Nat.{ℕ, _+_, _*_, _<_}
+use mathlib.Core.Path.{_≡_, sym, ap, _∙_, subst}
 use mathlib.Core.Logic.{_⊎_, inl, inr}
 use native.Mathlib.Omega.{arith}
 use Rattle.exact.specs.Exact.{ℚ, _≤ℚ_, _<ℚ_, whole, _+ℚ_, negℚ, _-ℚ_, _*ℚ_, inverse, _/ℚ_, maxℚ, minℚ, absℚ, squared, Σℚ, value}
 use Rattle.exact.proofs.Laws as laws
-use Rattle.exact.proofs.Numbers.{Number, of, _⊞_, _⊠_, ⊟, 𝟘, 𝟙, _≼_, of-add, of-mul, of-neg, of-zero, of-twice, of-four, of-squared, of-le, le-of, mul-inverse, add-comm, mul-comm, mul-one, le-trans, le-add}
+use Rattle.exact.proofs.Numbers.{Number, of, _⊞_, _⊠_, ⊟, 𝟘, _≼_, of-add, of-mul, of-neg, of-zero, of-twice, of-four, of-squared, of-le, le-of, mul-inverse, add-comm, mul-comm, mul-one, le-trans, le-add}
 use Rattle.exact.proofs.Ring.{twice, mul-left, neg-mul, neg-mul-neg, mul-le, le-both, le-add-left, neg-le, less-down, square-nonneg, le-plus, Σ, of-Σ, Σ-same, Σ-nonneg, Σ-one}
-use Rattle.certain.specs.Day.{Day, Reported, Sound, KeepsAsWell, AsGood, Best, Feasible, BestOfDay, balanced, limited, apart, misfit, pull, unexplained, gap, reach, read, report}
+use Rattle.certain.specs.Day.{Day, Reported, Sound, KeepsAsWell, Feasible, balanced, limited, apart, misfit, pull, unexplained, gap, reach, read, report}
 use Rattle.certain.specs.Claims.{NoneFarther, NoMeterFarther, BestWithin, FartherFitsWorse, NoneFitsBetter, NoReachIsBest, BestOfDayNear, BestOfDayWithin, NoneFartherOfFloats, NoMeterFartherOfFloats}
 use Rattle.certain.proofs.Core.{split, product, meter, meters, open-balance, witnesses, together, fitting}
 

@@ -1,15 +1,14 @@
 -- What a program has to find out: the last two claims of `specs/Claims.antt`. Assumes nothing.
 use Prim.Native.Nat.{ℕ, _<_}
-use mathlib.Core.Path.{_≡_, sym, ap, _∙_, subst}
-use lib.Ieee.{Float}
+use mathlib.Core.Path.{subst}
 use Rattle.numbers.specs.Numbers.{at}
 use Rattle.exact.specs.Exact.{ℚ, _≤ℚ_, whole, _+ℚ_, negℚ, _-ℚ_, _*ℚ_, _/ℚ_, maxℚ, absℚ, squared, Σℚ}
 use Rattle.exact.proofs.Laws as laws
 use Rattle.exact.proofs.Monotone.{sum-mono}
 use Rattle.exact.proofs.Values.{above-zero, not-below-zero}
-use Rattle.exact.proofs.Numbers.{Number, of, _⊞_, _⊠_, ⊟, _≼_, of-add, of-mul, of-neg, of-zero, of-twice, of-four, of-squared, of-le, le-of}
-use Rattle.exact.proofs.Ring.{twice, le-both, mul-le, mul-sizes, Σ, of-Σ, Σ-le}
-use Rattle.certain.specs.Day.{Day, Reported, Sound, balanced, limited, unexplained, gap, reach}
+use Rattle.exact.proofs.Numbers.{of, ⊟, _≼_, of-mul, of-neg, of-zero, of-twice, of-four, of-squared, of-le, le-of}
+use Rattle.exact.proofs.Ring.{twice, le-both, mul-le, mul-sizes, of-Σ, Σ-le}
+use Rattle.certain.specs.Day.{balanced, limited, unexplained, gap, reach}
 use Rattle.certain.specs.Claims.{SoundIsTested, ReachBounded}
 
 pub sound-is-tested : SoundIsTested

@@ -1,15 +1,15 @@
 -- What the code decides and sums, from the definitions.
 use mathlib.Core.Path.{_≡_, refl, sym, ap, ap₂, _∙_}
-use mathlib.Core.Bool.{Bool, true, false, not, cond, _&&_, false≢true, true≢false}
+use mathlib.Core.Bool.{Bool, true, false, not, _&&_, false≢true, true≢false}
 use mathlib.Core.Logic.{⊎-elim}
 use mathlib.Core.List.{List}
 use Prim.Native.Nat.{ℕ, zero, suc, _+_, _*_, _≤_, _<_}
 use native.Mathlib.Nat.{mul-le-mul-right, eq-or-lt-of-le}
 use native.Mathlib.Numerals.{add-one}
 use native.Mathlib.Omega.{arith}
-use lib.Ieee.{Float, inf, binary64, le, neg, div, ofBits}
+use lib.Ieee.{Float, binary64, le, ofBits}
 use Rattle.numbers.specs.Numbers.{+0, at, entry}
-use Rattle.interval.specs.Intervals.{larger, point, plus, minus, product, sumWithin, addUp, mulUp, sumUp, magnitude}
+use Rattle.interval.specs.Intervals.{larger, point, plus, minus, product, sumWithin, mulUp, magnitude}
 use Rattle.interval.specs.declared.Interval.{Interval}
 use Rattle.interval.proofs.Answers.{TOP, top-is, zero-is, sum-same}
 use Rattle.certain.specs.Bound.{allBelow, areFinite, arePositive, noneNegative, dayFinite, reportFinite, rowWithin, pullWithin, slackTerm, fitUp, openUp, slackUp, fourfold, reachUp, closes, keeps, kept}

@@ -1,6 +1,6 @@
 // The tests of numbers before a bound is worked out.
 ghost use mathlib.Core.Path.{_≡_};
-ghost use Prim.Native.Nat.{ℕ, _*_, _≤_};
+ghost use Prim.Native.Nat.{_*_, _≤_};
 ghost use lib.ListN.{length};
 ghost use Rattle.certain.specs.Bound as Definition;
 

@@ -1,5 +1,5 @@
 -- A float's value: the claims of `specs/Claims.antt`. Assumes nothing.
-use Prim.Native.Nat.{ℕ, zero, suc, _+_, _*_, _^_, _≤_, _<_}
+use Prim.Native.Nat.{ℕ, _+_, _*_, _^_, _≤_, _<_}
 use mathlib.Core.Path.{_≡_, refl, sym, ap, _∙_, subst}
 use mathlib.Core.Bool.{Bool, true, false, not, _&&_, _||_, true≢false}
 use mathlib.Core.Logic.{_⊎_, inl, inr}
@@ -9,10 +9,9 @@ use lib.IntN.{ℤ}
 use lib.Dec.{T, ltb, eqb, ltb→lt, lt→ltb, nltb→le, eqb→eq}
 use lib.Pow.{pow-pos}
 use lib.Ieee.{Float, nan, inf, fin, up, down, lt, le, neg, below, level}
-use lib.Ieee.Fits.{down-pos, and-l, and-r, eq→eqb}
-use lib.Ieee.Exact.{HasValue}
+use lib.Ieee.Fits.{and-l, and-r, eq→eqb}
 use Rattle.numbers.specs.Numbers.{+0}
-use Rattle.exact.specs.Exact.{ℚ, _≤ℚ_, _<ℚ_, _≈ℚ_, over, whole, negℚ, Finite, signed, value}
+use Rattle.exact.specs.Exact.{ℚ, _≤ℚ_, _<ℚ_, _≈ℚ_, whole, negℚ, Finite, signed, value}
 use Rattle.exact.proofs.Laws as laws
 use Rattle.exact.specs.Claims.{LessIsLess, NotLessIsAtLeast, AtMostIsAtMost, SizeIsValue, UnitsAreValue, NegIsNeg}
 
@@ -22,6 +21,14 @@ told false t = absurd t
 
 pub asked : (b : Bool) → b ≡ true → T b
 asked b h = subst T (sym h) tt
+
+pub and-left : (a b : Bool) → (a && b) ≡ true → a ≡ true
+and-left true b h = refl
+and-left false b h = absurd (true≢false (sym h))
+
+pub and-right : (a b : Bool) → (a && b) ≡ true → b ≡ true
+and-right true b h = h
+and-right false b h = absurd (true≢false (sym h))
 
 -- the four pairs of signs, in whole numbers multiplied across
 less : (s t : Bool) (m n : ℕ) (e d : ℤ) → T (below s (m * up e * down d) t (n * up d * down e)) → signed s m e <ℚ signed t n d

@@ -1,7 +1,7 @@
 -- What is shown of a float's value; `proofs/Values.antt` proves it. Definitions only.
 use Prim.Native.Nat.{ℕ, _^_, _<_}
 use mathlib.Core.Path.{_≡_}
-use mathlib.Core.Bool.{Bool, true, false}
+use mathlib.Core.Bool.{true, false}
 use mathlib.Core.Logic.{_↔_}
 use lib.Pow.{pow-pos}
 use lib.Ieee.{Float, lt, le, neg}

@@ -1,15 +1,14 @@
 -- What the functions answer: the two infinities as they are written in the code, tests on floats, and sums.
 use mathlib.Core.Path.{_≡_, refl, sym, ap, ap₂, _∙_, subst}
-use Prim.Native.Nat.{ℕ, zero, suc, _+_, _*_, _%_, _≤_, _<_}
+use Prim.Native.Nat.{ℕ, zero, suc, _+_, _%_, _≤_, _<_}
 use native.Mathlib.Numerals.{add-one}
 use native.Mathlib.Omega.{arith}
-use mathlib.Core.Bool.{Bool, true, false, not, cond, _&&_, true≢false, false≢true}
+use mathlib.Core.Bool.{Bool, true, false, not, true≢false}
 use lib.Dec.{T, ltb, ltb→lt, not-T}
 use lib.Ieee.{Float, nan, inf, fin, binary64, neg, div, lt, le, ne, isNan, nanBits, ofBits}
 use lib.Ieee.Bits.{nanBits-above}
 use lib.Ieee.Compare.{nan-differs}
 use Rattle.numbers.specs.Numbers.{+0, _⊘_}
-use Rattle.exact.specs.Exact.{Finite}
 use Rattle.interval.specs.Next.{nextUp}
 use Rattle.interval.specs.Intervals.{isFinite, isPositive, larger, divUp, line, point, plus, sumWithin, addUp, sumUp}
 use Rattle.interval.specs.declared.Interval.{Interval}

@@ -1,19 +1,19 @@
 -- Bounds of exact numbers by floats: a bound of a larger number is one of a smaller, a float bounds its own number, and the larger of two floats bounds what either does.
 use mathlib.Core.Path.{_≡_, refl, sym, ap, _∙_, subst}
 use mathlib.Core.Logic.{_⊎_, inl, inr, ⊎-elim}
-use Prim.Native.Nat.{ℕ, zero, suc, _+_, _-_, _*_, _^_, _≤_, _<_}
+use Prim.Native.Nat.{ℕ, _+_, _-_, _*_, _≤_}
 use native.Mathlib.Omega.{arith}
-use mathlib.Core.Bool.{Bool, true, false, not, _&&_, _||_, true≢false}
+use mathlib.Core.Bool.{Bool, true, false, not, true≢false}
 use lib.IntN.{ℤ}
 use lib.Dec.{T, ltb, ltb→lt, nltb→le}
 use lib.Ieee.{Float, nan, inf, fin, binary64, up, down, neg, lt, le, below}
-use Rattle.numbers.proofs.Order.{lt-between, lt-asym, lt-irrefl}
+use Rattle.numbers.proofs.Order.{lt-between, lt-asym}
 use Rattle.exact.proofs.Laws as laws
 use Rattle.exact.specs.Exact.{ℚ, _≤ℚ_, negℚ, absℚ, value, Finite, signed}
-use Rattle.interval.specs.Held.{AtMost, AtLeast, Held}
+use Rattle.interval.specs.Held.{AtMost, AtLeast}
 use Rattle.interval.specs.Next.{nextUp, nextDown}
 use Rattle.interval.proofs.Ends.{Higher, Lower, NextUp, NextDown, Over, Under, Larger, Smaller}
-use Rattle.exact.proofs.Laws.{le-refl, le-trans}
+use Rattle.exact.proofs.Laws.{le-trans}
 use Rattle.interval.proofs.Signs.{neg-neg, lt-neg}
 use Rattle.interval.proofs.Rounding.{Rounded}
 

@@ -41,4 +41,13 @@ pub upward : Upward
 upward = record { add = holds.adds; mul = holds.multiplies; div = holds.divides; root = holds.roots; sum = holds.up-bounds }
 
 pub tight-where-exact : TightWhereExact
-tight-where-exact = record { sum = tight.sum; difference = tight.difference; product = tight.of-product }
+tight-where-exact = record {
+  add = tight.sum;
+  sub = tight.difference;
+  mul = tight.of-times;
+  product = tight.of-product;
+  add-up = tight.sum-up;
+  mul-up = tight.product-up;
+  div-up = tight.quotient-up;
+  root-up = tight.of-root;
+}

@@ -1,7 +1,6 @@
 -- What the operations on intervals and on upper ends hold: each by its law of rounding.
-use mathlib.Core.Path.{_≡_, refl, sym, ap, _∙_, subst}
+use mathlib.Core.Path.{_≡_, refl}
 use mathlib.Core.Bool.{Bool, true, false, cond, _&&_, false≢true}
-use mathlib.Core.Logic.{_⊎_, inl, inr, ⊎-elim}
 use Prim.Native.Nat.{ℕ, zero, suc, _+_, _*_, _≤_}
 use native.Mathlib.Omega.{arith}
 use lib.Dec.{T, eqb}
@@ -13,8 +12,8 @@ use Rattle.numbers.proofs.Correct.{correctly-rounded}
 use Rattle.exact.specs.Exact.{ℚ, _≤ℚ_, whole, negℚ, absℚ, _+ℚ_, _-ℚ_, _*ℚ_, Σℚ, value, signed, Finite}
 use Rattle.exact.proofs.Laws.{le-refl}
 use Rattle.interval.specs.Next.{nextUp, nextDown}
-use Rattle.interval.specs.Held.{AtMost, AtLeast, Held, Holds}
-use Rattle.interval.specs.Intervals.{isFinite, isPositive, larger, smaller, divUp, rootUp, line, point, plus, minus, times, magnitude, product, sumWithin, addUp, mulUp, sumUp}
+use Rattle.interval.specs.Held.{AtMost, Held, Holds}
+use Rattle.interval.specs.Intervals.{larger, smaller, divUp, rootUp, line, point, plus, minus, times, magnitude, product, sumWithin, addUp, mulUp, sumUp}
 use Rattle.interval.specs.Claims.{DivUp, RootUp}
 use Rattle.interval.specs.declared.Interval.{Interval}
 use Rattle.interval.proofs.Ends.{Larger, Smaller}

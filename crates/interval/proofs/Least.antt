@@ -1,23 +1,21 @@
 -- `nextUp` is the least float above: no float lies between.
 use mathlib.Core.Path.{_≡_, refl, sym, ap, _∙_, subst}
 use mathlib.Core.Logic.{_⊎_, inl, inr, ⊎-elim}
-use Prim.Native.Nat.{ℕ, zero, suc, _+_, _-_, _*_, _/_, _%_, _^_, _≤_, _<_}
-use native.Mathlib.Nat.{le-trans, le-of-eq, lt-of-lt-of-le, lt-trans, lt-irrefl, eq-or-lt-of-le, mul-pos, zero-lt-suc}
-use native.Mathlib.Numerals.{add-one}
+use Prim.Native.Nat.{ℕ, zero, suc, _+_, _-_, _*_, _%_, _^_, _≤_, _<_}
+use native.Mathlib.Nat.{le-of-eq, lt-of-lt-of-le, lt-trans, lt-irrefl, eq-or-lt-of-le, mul-pos, zero-lt-suc}
 use native.Mathlib.Omega.{arith}
-use mathlib.Core.Bool.{Bool, true, false, not, cond, true≢false, false≢true}
+use mathlib.Core.Bool.{Bool, true, false, not, true≢false, false≢true}
 use lib.IntN.{ℤ}
 use lib.Dec.{T, ltb, leb, ltb→lt, nltb→le, nleb→lt, leb→le}
 use lib.Pow.{pow-pos}
 use lib.Ieee.{Float, nan, inf, fin, binary64, up, down, lt, neg, fits, isNan, ofBits, toBits}
 use lib.Ieee.Bits.{ofBits-toBits, toBits-lt}
 use lib.Ieee.Exact.{HasValue}
-use lib.Ieee.Fits.{down-pos, up-pos, neg-fits}
-use lib.Ieee.Positive.{first-pos}
+use lib.Ieee.Fits.{neg-fits}
 use Rattle.numbers.proofs.Patterns.{no-nan-le}
 use Rattle.interval.specs.Next.{after, nextUp, nextDown}
 use Rattle.interval.proofs.Ends.{NextUp, NextDown}
-use Rattle.interval.proofs.Signs.{neg-neg, lt-neg}
+use Rattle.interval.proofs.Signs.{lt-neg}
 use Rattle.interval.proofs.Rounding.{lt-units}
 use Rattle.interval.proofs.Next.{size-of, grows, plus-value, minus-value, turn-value, top-plus, top-minus, after-plus, after-zero, after-minus, of-other, of-nan, of-top, next-up-is, next-down-is}
 

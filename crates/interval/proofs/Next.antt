@@ -2,17 +2,15 @@
 use mathlib.Core.Path.{_≡_, refl, sym, ap, _∙_, subst}
 use mathlib.Core.Logic.{_⊎_, inl, inr, ⊎-elim}
 use Prim.Native.Nat.{ℕ, zero, suc, _+_, _-_, _*_, _/_, _%_, _^_, _≤_, _<_}
-use native.Mathlib.Nat.{le-trans, le-of-eq, lt-of-lt-of-le, mul-pos, mul-lt-mul-of-pos-right, lt-of-mul-lt-mul-right, eq-or-lt-of-le, mod-eq-of-lt, not-le-of-lt, pow-succ'}
+use native.Mathlib.Nat.{le-of-eq, lt-of-lt-of-le, mul-pos, mul-lt-mul-of-pos-right, lt-of-mul-lt-mul-right, eq-or-lt-of-le, mod-eq-of-lt, not-le-of-lt, pow-succ'}
 use native.Mathlib.Omega.{arith}
 use mathlib.Core.Bool.{Bool, true, false, not, cond, true≢false, false≢true}
-use lib.IntN.{ℤ}
 use lib.Dec.{T, ltb, leb, eqb, ltb→lt, lt→ltb, nltb→le, leb→le, le→leb, eqb→eq, not-T}
 use lib.Pow.{pow-pos}
-use lib.Ieee.{Float, nan, inf, fin, binary64, up, down, odd, lt, neg, fits, isNan, ofFields, ofBits, toBits}
-use lib.Ieee.Bits.{is-true, is-false, cond-no, ofBits-toBits, ofBits-fits, toBits-lt}
+use lib.Ieee.{Float, nan, inf, fin, binary64, up, down, lt, neg, fits, isNan, ofFields, ofBits, toBits}
+use lib.Ieee.Bits.{is-true, is-false, ofBits-toBits, ofBits-fits, toBits-lt}
 use lib.Ieee.Exact.{HasValue, odd-sign}
-use lib.Ieee.Fits.{down-pos, up-pos, inf-fits, cond-fits, neg-fits, eq→eqb}
-use lib.Ieee.Positive.{first-pos}
+use lib.Ieee.Fits.{down-pos, inf-fits, cond-fits, neg-fits}
 use Rattle.numbers.proofs.Patterns.{ofBits-is, under-ones, at-zero, no-nan-le}
 use Rattle.interval.specs.Next.{after, nextUp, nextDown}
 use Rattle.interval.proofs.Ends.{Higher, Lower, NextUp, NextDown}

@@ -1,23 +1,23 @@
 -- A sum, a product and a quotient of floats are the exact ones rounded; so the next float outward bounds them.
 use mathlib.Core.Path.{_≡_, refl, sym, ap, _∙_, subst}
 use mathlib.Core.Logic.{_⊎_, inl, inr, ⊎-elim}
-use Prim.Native.Nat.{ℕ, zero, suc, _+_, _-_, _*_, _^_, _≤_, _<_}
-use native.Mathlib.Nat.{zero-lt-suc, mul-pos, le-of-lt, zero-mul, mul-le-mul-right, le-of-mul-le-mul-right, eq-zero-or-pos}
+use Prim.Native.Nat.{ℕ, zero, suc, _+_, _-_, _*_, _≤_, _<_}
+use native.Mathlib.Nat.{zero-lt-suc, mul-pos, mul-le-mul-right}
 use native.Mathlib.Omega.{arith}
-use mathlib.Core.Bool.{Bool, true, false, not, _&&_, cond, true≢false}
+use mathlib.Core.Bool.{Bool, true, false, not, _&&_, cond}
 use lib.IntN.{ℤ}
-use lib.Dec.{T, ltb, eqb, ltb→lt, nltb→le, eqb→eq, eqb·suc-zero}
-use lib.Ieee.{Float, nan, inf, fin, binary64, up, down, round, neg, sum, add, mul, div, lt, unlike}
-use lib.Ieee.Fits.{down-pos, up-pos}
+use lib.Dec.{T, ltb, eqb, ltb→lt, nltb→le, eqb·suc-zero}
+use lib.Ieee.{Float, nan, inf, fin, binary64, up, down, round, neg, sum, add, mul, lt, unlike}
+use lib.Ieee.Fits.{up-pos}
 use Rattle.exact.specs.Exact.{ℚ, _≤ℚ_, negℚ, _+ℚ_, _*ℚ_, value, signed, Finite}
 use Rattle.interval.specs.Held.{AtMost, AtLeast, Held}
 use Rattle.interval.proofs.Ends.{NextUp, NextDown, Higher, Over, Under}
-use Rattle.exact.proofs.Laws.{le-refl, le-trans}
-use Rattle.exact.proofs.Monotone.{sum-mono, negated-mono, product-mono, product-anti, turned, either-sign}
+use Rattle.exact.proofs.Laws.{le-trans}
+use Rattle.exact.proofs.Monotone.{sum-mono, product-mono, product-anti, turned, either-sign}
 use Rattle.interval.proofs.Signs.{neg-neg, round-neg, at-least-neg, at-most-neg}
 use Rattle.interval.proofs.Rounding.{Rounded, rounded-plus, rounded-minus}
 use Rattle.interval.proofs.Next.{next-up-turned, higher-of-lower, lower-of-higher}
-use Rattle.interval.proofs.Bounds.{at-most-through, at-least-through, lift-up, lift-down, lift-over, lift-under, open-up, open-down}
+use Rattle.interval.proofs.Bounds.{at-most-through, at-least-through, lift-up, lift-down, lift-over, open-up, open-down}
 
 -- ---- the sum
 module _ (m : ℕ) (e : ℤ) (n : ℕ) (d : ℤ) where

@@ -2,14 +2,14 @@
 use mathlib.Core.Path.{_≡_, refl, sym, ap, _∙_, subst}
 use mathlib.Core.Logic.{_⊎_, inl, inr}
 use Prim.Native.Nat.{ℕ, zero, suc, _+_, _-_, _*_, _^_, _%_, _≤_, _<_}
-use native.Mathlib.Nat.{le-antisymm, le-of-eq, le-of-lt, lt-of-lt-of-le, lt-of-le-of-lt, lt-irrefl, not-le-of-lt, zero-mul, mul-comm, mul-assoc, mul-right-comm, mul-pos, mul-le-mul-right, mul-lt-mul-of-pos-right, lt-of-mul-lt-mul-right, le-of-mul-le-mul-right}
+use native.Mathlib.Nat.{le-antisymm, le-of-eq, le-of-lt, lt-of-lt-of-le, lt-of-le-of-lt, zero-mul, mul-pos, mul-le-mul-right, mul-lt-mul-of-pos-right, lt-of-mul-lt-mul-right, le-of-mul-le-mul-right}
 use native.Mathlib.Omega.{arith}
-use mathlib.Core.Bool.{Bool, true, false, not, _&&_, _||_, cond, true≢false}
+use mathlib.Core.Bool.{Bool, true, false, not, _&&_, cond, true≢false}
 use lib.IntN.{ℤ}
-use lib.Dec.{T, ltb, leb, eqb, ltb→lt, lt→ltb, nltb→le, eqb→eq}
+use lib.Dec.{T, ltb, leb, eqb, ltb→lt}
 use lib.Pow.{pow-pos, pow-add}
-use lib.Ieee.{Float, nan, inf, fin, binary64, up, down, odd, units, round, neg, lt, le, eq, below, fits}
-use lib.Ieee.Fits.{round-is, round-fits, down-pos, up-pos, and-l, and-r, neg-fits}
+use lib.Ieee.{Float, nan, inf, fin, binary64, up, down, odd, units, round, neg, lt, le, below, fits}
+use lib.Ieee.Fits.{round-is, down-pos, and-r, neg-fits}
 use lib.Ieee.Exact.{HasValue, odd-sign, round-exact}
 use lib.Ieee.Order.{drop, kept, round-mono}
 use Rattle.numbers.specs.Rounded.{IsUnits}

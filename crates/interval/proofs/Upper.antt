@@ -2,32 +2,31 @@
 use mathlib.Core.Path.{_≡_, refl, sym, ap, _∙_, subst}
 use mathlib.Core.Logic.{_⊎_, inl, inr, ⊎-elim}
 use Prim.Native.Nat.{ℕ, zero, suc, _+_, _-_, _*_, _^_, _≤_, _<_}
-use native.Mathlib.Nat.{mul-pos, le-of-lt, le-of-eq, lt-irrefl, lt-of-lt-of-le, lt-of-le-of-lt, zero-lt-suc, zero-mul, mul-le-mul, mul-le-mul-right, mul-lt-mul-of-pos-right, le-of-mul-le-mul-right, lt-of-mul-lt-mul-right, eq-zero-or-pos}
+use native.Mathlib.Nat.{mul-pos, le-of-lt, zero-lt-suc, mul-le-mul, mul-le-mul-right, mul-lt-mul-of-pos-right, le-of-mul-le-mul-right}
 use native.Mathlib.Omega.{arith}
-use mathlib.Core.Bool.{Bool, true, false, not, _&&_, cond, true≢false}
+use mathlib.Core.Bool.{Bool, true, false, not, cond, true≢false}
 use lib.IntN.{ℤ, pos}
-use lib.Dec.{T, ltb, leb, eqb, ltb→lt, nltb→le, eqb→eq, leb→le, nleb→lt, eqb·suc-zero}
+use lib.Dec.{T, ltb, leb, eqb, ltb→lt, leb→le, nleb→lt, eqb·suc-zero}
 use lib.Pow.{pow-pos}
-use lib.Ieee.{Float, nan, inf, fin, binary64, up, down, round, fits, neg, mul, div, lt, unlike, ofBits}
+use lib.Ieee.{Float, nan, inf, fin, binary64, up, down, round, fits, mul, div, lt, unlike}
 use lib.Ieee.Fits.{down-pos, up-pos}
-use lib.Ieee.Exact.{HasValue}
 use Rattle.numbers.specs.Root.{sqrtOf}
 use Rattle.numbers.specs.Rounded.{IsUnits, NearestRoot}
 use Rattle.numbers.proofs.Correct.{correctly-rounded, all-in-units}
-use Rattle.exact.specs.Exact.{ℚ, _≤ℚ_, _<ℚ_, _≈ℚ_, whole, negℚ, _+ℚ_, _*ℚ_, _/ℚ_, inverse, leℚ, maxℚ, absℚ, value, signed, Finite}
+use Rattle.exact.specs.Exact.{ℚ, _≤ℚ_, _<ℚ_, _≈ℚ_, whole, negℚ, _*ℚ_, _/ℚ_, inverse, leℚ, maxℚ, absℚ, value, signed, Finite}
 use Rattle.exact.proofs.Laws as laws
-use Rattle.interval.specs.Held.{AtMost, AtLeast, Held}
+use Rattle.interval.specs.Held.{AtMost, AtLeast}
 use Rattle.interval.specs.Next.{nextUp}
 use Rattle.interval.specs.Claims.{DivUp, RootUp}
-use Rattle.interval.proofs.Ends.{NextUp, NextDown}
+use Rattle.interval.proofs.Ends.{NextUp}
 use Rattle.exact.proofs.Laws.{le-refl, le-trans, same-le}
 use Rattle.exact.proofs.Monotone.{product-mono, product-both, turned, either-sign, not-negative}
 use Rattle.interval.proofs.Rounding.{Rounded, rounded-plus, rounded-minus, lt-units, not-under}
-use Rattle.interval.proofs.Bounds.{at-most-through, at-least-through, exact-rounded, lift-up, open-up}
+use Rattle.interval.proofs.Bounds.{at-most-through, exact-rounded, lift-up, open-up}
 use Rattle.interval.proofs.Operations.{rounded-mul}
 
 -- what is at least zero is at most no float below zero
-no-negative : (t : ℚ) (n : ℕ) (d : ℤ) → whole 0 ≤ℚ t → t ≤ℚ value (fin true (suc n) d) → ⊥
+pub no-negative : (t : ℚ) (n : ℕ) (d : ℤ) → whole 0 ≤ℚ t → t ≤ℚ value (fin true (suc n) d) → ⊥
 unfolding _≤ℚ_ value signed negℚ
 no-negative t n d h k =
     let p : 0 < suc n * up d * t .den = mul-pos (mul-pos (zero-lt-suc n) (up-pos d)) (t .above) in
@@ -65,7 +64,7 @@ mul-up-at-most (fin s m e) (fin u l d) z n q t a b h k =
     at-most-through (q *ℚ t) (value x *ℚ value y) z (product-both q (value x) t (value y) a b h k) (lift-up (value x *ℚ value y) (mul binary64 x y) z (rounded-mul x y tt tt) n)
 
 -- ---- quotients, by a float above zero
-pub quotient : (s : Bool) (m : ℕ) (e : ℤ) (n : ℕ) (d : ℤ) → ℚ
+unfoldable pub quotient : (s : Bool) (m : ℕ) (e : ℤ) (n : ℕ) (d : ℤ) → ℚ
 unfolding signed
 quotient false m e n d = record { plus = m * up e * down d; minus = 0; den = suc n * up d * down e; above = mul-pos (mul-pos (zero-lt-suc n) (up-pos d)) (down-pos e) }
 quotient true m e n d = record { plus = 0; minus = m * up e * down d; den = suc n * up d * down e; above = mul-pos (mul-pos (zero-lt-suc n) (up-pos d)) (down-pos e) }
@@ -74,7 +73,7 @@ div-is : (s : Bool) (m : ℕ) (e : ℤ) (n : ℕ) (d : ℤ) → div binary64 (fi
 unfolding div
 div-is s m e n d = ap (λ (b : Bool). cond b (cond (eqb m 0) nan (inf (unlike s false))) (round binary64 (unlike s false) (m * up e * down d) (suc n * up d * down e))) (eqb·suc-zero n)
 
-rounded-div : (s : Bool) (m : ℕ) (e : ℤ) (n : ℕ) (d : ℤ) → Rounded (quotient s m e n d) (div binary64 (fin s m e) (fin false (suc n) d))
+pub rounded-div : (s : Bool) (m : ℕ) (e : ℤ) (n : ℕ) (d : ℤ) → Rounded (quotient s m e n d) (div binary64 (fin s m e) (fin false (suc n) d))
 unfolding quotient
 rounded-div false m e n d = subst (Rounded (quotient false m e n d)) (sym (div-is false m e n d)) (rounded-plus (quotient false m e n d) (m * up e * down d) (omega arith))
 rounded-div true m e n d = subst (Rounded (quotient true m e n d)) (sym (div-is true m e n d)) (rounded-minus (quotient true m e n d) (m * up e * down d) (omega arith))
@@ -178,7 +177,7 @@ no-more p m l = go (leb p m) (leb→le p m) (nleb→lt p m)
     go true y n = y tt
     go false y n = let g = n tt in absurd (over (p - m) (omega arith) (omega arith))
 
-no-square : (q : ℚ) (s : Bool) (e : ℤ) → q *ℚ q ≤ℚ value (fin s 0 e) → q ≤ℚ value (fin s 0 e)
+pub no-square : (q : ℚ) (s : Bool) (e : ℤ) → q *ℚ q ≤ℚ value (fin s 0 e) → q ≤ℚ value (fin s 0 e)
 unfolding _≤ℚ_ _*ℚ_ value signed negℚ
 no-square q s e h = by-sign s h
   where

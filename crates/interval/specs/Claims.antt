@@ -4,10 +4,10 @@ use mathlib.Core.Path.{_≡_}
 use mathlib.Core.Bool.{Bool, true, false}
 use lib.Dec.{T}
 use lib.Ieee.{Float, nan, inf, binary64, fits, lt, round}
-use Rattle.exact.specs.Exact.{ℚ, _≤ℚ_, _<ℚ_, _≈ℚ_, over, whole, negℚ, absℚ, _+ℚ_, _-ℚ_, _*ℚ_, _/ℚ_, Σℚ, value, Finite}
+use Rattle.exact.specs.Exact.{ℚ, _≤ℚ_, _≈ℚ_, over, whole, negℚ, absℚ, _+ℚ_, _-ℚ_, _*ℚ_, _/ℚ_, Σℚ, value, Finite}
 use Rattle.interval.specs.Next.{nextUp, nextDown}
 use Rattle.interval.specs.Held.{AtMost, AtLeast, Held, Holds}
-use Rattle.interval.specs.Intervals.{point, plus, minus, times, product, magnitude, addUp, addDown, mulUp, divUp, rootUp, sumWithin, sumUp}
+use Rattle.interval.specs.Intervals.{isPositive, point, plus, minus, times, product, magnitude, addUp, mulUp, divUp, rootUp, sumWithin, sumUp}
 use Rattle.interval.specs.declared.Interval.{Interval}
 
 -- ---- the next float
@@ -70,14 +70,25 @@ pub record Upward : Type 0 where
 
 -- ---- tightness
 
--- no f64 lies between w and hi, and none between lo and w: each is at most one f64 away
-pub record Tight (w lo hi : Float) : Type 0 where
-  pub above : (y : Float) → T (fits binary64 y) → T (lt w y) → T (lt y hi) → ⊥
-  pub below : (y : Float) → T (fits binary64 y) → T (lt lo y) → T (lt y w) → ⊥
+-- no f64 lies between w and hi; and none between lo and w: so an end is at most one f64 away from w
+abbrev pub TightAbove : (w hi : Float) → Type 0
+TightAbove w hi = (y : Float) → T (fits binary64 y) → T (lt w y) → T (lt y hi) → ⊥
 
--- A sum, a difference, a product and a quotient that is an f64's value is held by that f64's neighbours.
--- (Any other is held by the two neighbours of the f64 that it is rounded to: so says the definition.)
+abbrev pub TightBelow : (w lo : Float) → Type 0
+TightBelow w lo = (y : Float) → T (fits binary64 y) → T (lt lo y) → T (lt y w) → ⊥
+
+pub record Tight (w : Float) (a : Interval) : Type 0 where
+  pub above : TightAbove w (a .hi)
+  pub below : TightBelow w (a .lo)
+
+-- Where the exact result of one operation on floats is an f64 w, the ends are at most one f64 away from it.
+-- (Where it is none, the ends are the two neighbours of the f64 that it is rounded to: so says the definition.)
 pub record TightWhereExact : Type 0 where
-  pub sum : (x y w : Float) → Finite x → Finite y → T (fits binary64 w) → Finite w → value w ≈ℚ value x +ℚ value y → let a = plus (point x) (point y) in Tight w (a .lo) (a .hi)
-  pub difference : (x y w : Float) → Finite x → Finite y → T (fits binary64 w) → Finite w → value w ≈ℚ value x -ℚ value y → let a = minus (point x) (point y) in Tight w (a .lo) (a .hi)
-  pub product : (x y w : Float) → Finite x → Finite y → T (fits binary64 w) → Finite w → value w ≈ℚ value x *ℚ value y → let a = product x y in Tight w (a .lo) (a .hi)
+  pub add : (x y w : Float) → Finite x → Finite y → T (fits binary64 w) → Finite w → value w ≈ℚ value x +ℚ value y → Tight w (plus (point x) (point y))
+  pub sub : (x y w : Float) → Finite x → Finite y → T (fits binary64 w) → Finite w → value w ≈ℚ value x -ℚ value y → Tight w (minus (point x) (point y))
+  pub mul : (x y w : Float) → Finite x → Finite y → T (fits binary64 w) → Finite w → value w ≈ℚ value x *ℚ value y → Tight w (times (point x) (point y))
+  pub product : (x y w : Float) → Finite x → Finite y → T (fits binary64 w) → Finite w → value w ≈ℚ value x *ℚ value y → Tight w (product x y)
+  pub add-up : (x y w : Float) → Finite x → Finite y → T (fits binary64 w) → Finite w → value w ≈ℚ value x +ℚ value y → TightAbove w (addUp x y)
+  pub mul-up : (x y w : Float) → Finite x → Finite y → T (fits binary64 w) → Finite w → value w ≈ℚ value x *ℚ value y → TightAbove w (mulUp x y)
+  pub div-up : (x d w : Float) → Finite x → isPositive d ≡ true → T (fits binary64 w) → Finite w → value w *ℚ value d ≈ℚ value x → TightAbove w (divUp x d)
+  pub root-up : (x w : Float) → T (fits binary64 x) → Finite x → T (fits binary64 w) → Finite w → whole 0 ≤ℚ value w → value w *ℚ value w ≈ℚ value x → TightAbove w (rootUp x)

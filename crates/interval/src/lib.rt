@@ -180,7 +180,7 @@ impl Interval {
 
 // ---- sums of products
 
-pub fn dot(a: &[f64], b: &[f64], n: usize) -> Interval
+pub fn dot(n: usize, a: &[f64], b: &[f64]) -> Interval
     requires { ⌜ (n ≤ length (now a)) × (n ≤ length (now b)) ⌝ }
     ensures { λ r. ⌜ r ≡ Definition.sumWithin n (λ i. Definition.product (at (now (a .entry)) i) (at (now (b .entry)) i)) ⌝ }
 {

@@ -2,8 +2,8 @@ use mathlib.Core.Bool.{true}
 use Rattle.certain.specs.Bound.{allBelow, keeps}
 use Rattle.certain.proofs.Laws.{all-none, all-more, all-done, all-broken, not-true, not-false, keep-is, row-in, row-starts}
 use native.Mathlib.Omega.{arith}
-use Prim.Native.Nat.{ℕ, _+_, _-_, _*_, _≤_, _<_}
-use mathlib.Core.Path.{_≡_, refl, sym, ap, ap₂, _∙_}
+use Prim.Native.Nat.{_-_, _≤_}
+use mathlib.Core.Path.{_≡_}
 use borrow.Author.Needs.{needs}
 use Rattle.certain.proofs.all_keep.Statement.{statement}
 use Rattle.certain.proofs.all_keep.Tie as tie

@@ -1,6 +1,6 @@
 use Rattle.certain.specs.Bound.{bound}
 use Rattle.interval.specs.Intervals.{rootUp}
-use mathlib.Core.Path.{_≡_, refl, sym, ap, ap₂, _∙_}
+use mathlib.Core.Path.{ap, _∙_}
 use borrow.Author.Needs.{needs}
 use Rattle.certain.proofs.bound.Statement.{statement}
 use Rattle.certain.proofs.bound.Tie as tie

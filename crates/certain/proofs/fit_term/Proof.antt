@@ -1,8 +1,8 @@
 use Rattle.certain.specs.Bound.{fitTerm}
-use Rattle.interval.specs.Intervals.{mulUp, divUp, magnitude, minus, times, product, point}
+use Rattle.interval.specs.Intervals.{mulUp, divUp, magnitude, minus, times, product}
 use Rattle.interval.specs.declared.Interval.{Interval}
 use lib.Ieee.{Float}
-use mathlib.Core.Path.{_≡_, refl, sym, ap, ap₂, _∙_}
+use mathlib.Core.Path.{ap, ap₂, _∙_}
 use borrow.Author.Needs.{needs}
 use Rattle.certain.proofs.fit_term.Statement.{statement}
 use Rattle.certain.proofs.fit_term.Tie as tie

@@ -1,5 +1,5 @@
 use Rattle.certain.specs.Bound.{fourfold}
-use mathlib.Core.Path.{_≡_, refl, sym, ap, ap₂, _∙_}
+use mathlib.Core.Path.{refl}
 use borrow.Author.Needs.{needs}
 use Rattle.certain.proofs.fourfold.Statement.{statement}
 use Rattle.certain.proofs.fourfold.Tie as tie

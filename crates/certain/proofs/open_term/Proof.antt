@@ -1,6 +1,6 @@
 use Rattle.certain.specs.Bound.{openTerm}
 use Rattle.interval.specs.Intervals.{mulUp, magnitude}
-use mathlib.Core.Path.{_≡_, refl, sym, ap, ap₂, _∙_}
+use mathlib.Core.Path.{ap, ap₂, _∙_}
 use borrow.Author.Needs.{needs}
 use Rattle.certain.proofs.open_term.Statement.{statement}
 use Rattle.certain.proofs.open_term.Tie as tie

@@ -1,6 +1,6 @@
 use Rattle.interval.specs.Intervals.{minus}
 use Rattle.certain.proofs.Laws.{slack-is, slack-none}
-use mathlib.Core.Path.{_≡_, refl, sym, ap, ap₂, _∙_}
+use mathlib.Core.Path.{ap, _∙_}
 use borrow.Author.Needs.{needs}
 use Rattle.certain.proofs.slack_term.Statement.{statement}
 use Rattle.certain.proofs.slack_term.Tie as tie

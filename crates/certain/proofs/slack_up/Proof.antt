@@ -4,8 +4,8 @@ use Rattle.interval.specs.Intervals.{sumUp}
 use Rattle.certain.proofs.Laws.{row-in, row-starts}
 use Rattle.interval.proofs.Answers.{up-none, up-more, up-done}
 use native.Mathlib.Omega.{arith}
-use Prim.Native.Nat.{ℕ, _+_, _-_, _*_, _≤_, _<_}
-use mathlib.Core.Path.{_≡_, refl, sym, ap, ap₂, _∙_}
+use Prim.Native.Nat.{_-_, _≤_}
+use mathlib.Core.Path.{_≡_, ap, _∙_}
 use borrow.Author.Needs.{needs}
 use Rattle.certain.proofs.slack_up.Statement.{statement}
 use Rattle.certain.proofs.slack_up.Tie as tie

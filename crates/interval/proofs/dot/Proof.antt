@@ -1,8 +1,6 @@
-use Prim.Native.Nat.{ℕ, _+_, _-_, _*_, _≤_, _<_}
+use Prim.Native.Nat.{_-_, _≤_}
 use mathlib.Core.Path.{_≡_}
 use native.Mathlib.Omega.{arith}
-use denote.Ref.{now}
-use lib.ListN.{length}
 use Rattle.numbers.specs.Numbers.{at}
 use Rattle.interval.specs.Intervals.{sumWithin, product}
 use Rattle.interval.proofs.Answers.{sum-none, sum-more, sum-done}
@@ -16,10 +14,10 @@ use Rattle.interval.proofs.Interval.of.Reads as of-reads
 use Rattle.interval.proofs.Interval.product.Reads as product-reads
 
 abbrev Inv-loop : tie.InvT-loop
-Inv-loop a b n sum₀ i₀ sum i = (i ≤ n) × (sum ≡ sumWithin i (λ k. product (at a k) (at b k)))
+Inv-loop n a b sum₀ i₀ sum i = (i ≤ n) × (sum ≡ sumWithin i (λ k. product (at a k) (at b k)))
 
 abbrev μ-loop : tie.MeasureT-loop
-μ-loop a b n sum₀ i₀ sum i = n - i
+μ-loop n a b sum₀ i₀ sum i = n - i
 
 of-requires : tie.Need-of-requires Inv-loop μ-loop
 of-requires c κs = search needs

@@ -1,4 +1,4 @@
-use mathlib.Core.Path.{_≡_, refl, sym, ap, ap₂, _∙_}
+use mathlib.Core.Path.{_∙_}
 use Rattle.interval.proofs.Answers.{finite-then, finite-not}
 use borrow.Author.Needs.{needs}
 use Rattle.interval.proofs.is_finite.Statement.{statement}

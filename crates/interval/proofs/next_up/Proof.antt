@@ -1,10 +1,10 @@
 -- `next_up` meets its contract. Each way out is one law of `proofs/Next.antt` on the pattern of `x`.
-use mathlib.Core.Path.{_≡_, refl, sym, ap, _∙_, subst}
+use mathlib.Core.Path.{_≡_, sym, ap, _∙_, subst}
 use mathlib.Core.Bool.{not, false}
-use Prim.Native.Nat.{ℕ, _+_, _-_, _%_, _^_, _≤_, _<_}
+use Prim.Native.Nat.{ℕ, _-_, _%_, _^_, _≤_, _<_}
 use native.Mathlib.Omega.{arith}
 use lib.Dec.{T}
-use lib.Ieee.{Float, nan, inf, binary64, fits, isNan, ne, toBits, ofBits}
+use lib.Ieee.{Float, binary64, fits, isNan, ne, toBits, ofBits}
 use lib.Ieee.Bits.{ofBits-toBits, toBits-lt}
 use lib.Ieee.Compare.{differs-from-itself}
 use Rattle.numbers.proofs.Patterns.{no-nan-le}

@@ -1,4 +1,4 @@
-use mathlib.Core.Path.{_≡_, refl, sym, ap, ap₂, _∙_}
+use mathlib.Core.Path.{ap, _∙_}
 use Rattle.interval.specs.Next.{nextUp}
 use borrow.Author.Needs.{needs}
 use Rattle.interval.proofs.root_up.Statement.{statement}

@@ -1,4 +1,4 @@
-use mathlib.Core.Path.{_≡_, refl, sym, ap, ap₂, _∙_}
+use mathlib.Core.Path.{ap}
 use lib.Ieee.{neg}
 use Rattle.interval.specs.Intervals.{smaller}
 use borrow.Author.Needs.{needs}

@@ -4,8 +4,8 @@ use Rattle.certain.specs.Bound.{allBelow, arePositive}
 use Rattle.interval.specs.Intervals.{isPositive}
 use Rattle.certain.proofs.Laws.{all-none, all-more, all-done, all-broken, not-true, not-false}
 use native.Mathlib.Omega.{arith}
-use Prim.Native.Nat.{ℕ, _+_, _-_, _*_, _≤_, _<_}
-use mathlib.Core.Path.{_≡_, refl, sym, ap, ap₂, _∙_}
+use Prim.Native.Nat.{_-_, _≤_}
+use mathlib.Core.Path.{_≡_, sym, _∙_}
 use borrow.Author.Needs.{needs}
 use Rattle.certain.proofs.test.all_positive.Statement.{statement}
 use Rattle.certain.proofs.test.all_positive.Tie as tie

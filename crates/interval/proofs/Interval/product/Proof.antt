@@ -1,4 +1,4 @@
-use mathlib.Core.Path.{_≡_, refl, sym, ap, ap₂, _∙_}
+use mathlib.Core.Path.{sym, ap₂, _∙_}
 use Rattle.interval.proofs.Answers.{ends}
 use Rattle.interval.specs.Intervals.{product, line}
 use borrow.Author.Needs.{needs}
