@@ -1,8 +1,8 @@
 -- The claims: whichever answer is chosen, its bound is the bound of its own volumes and witnesses; and which one is chosen.
 use mathlib.Core.Path.{_≡_, refl, sym, ap, _∙_, subst}
-use mathlib.Core.Bool.{Bool, true, false, cond, _&&_, _||_, true≢false}
+use mathlib.Core.Bool.{Bool, true, false, cond, _&&_, true≢false}
 use mathlib.Core.List.{List}
-use mathlib.Core.Logic.{_⊎_, inl, inr}
+use mathlib.Core.Logic.{inl, inr}
 use Prim.Native.Nat.{ℕ, zero, suc, _+_, _-_}
 use lib.Dec.{eqb, leb}
 use lib.ListN.{length, replicate}
@@ -10,16 +10,15 @@ use lib.Ieee.{Float, nan, lt}
 use Rattle.numbers.specs.Numbers.{+0, near, nth, at, _⊘_}
 use Rattle.numbers.proofs.Lists.{length-tab, tab-same, getD-tab}
 use Rattle.numbers.proofs.Order.{lt-asym, lt-irrefl}
-use Rattle.exact.specs.Exact.{ℚ, _≤ℚ_, whole, _+ℚ_, _-ℚ_, _*ℚ_, absℚ, squared, value, Finite}
+use Rattle.exact.specs.Exact.{ℚ, whole, _+ℚ_, _*ℚ_, squared, value, Finite}
 use Rattle.exact.proofs.Laws as laws
 use Rattle.exact.proofs.Monotone.{sum-mono}
 use Rattle.workspace.specs.Tables.{Answer, done, refused, numberOf, placeOf}
-use Rattle.workspace.specs.declared.Refusal.{Refusal}
 use Rattle.totaliser.specs.Volume.{volume}
 use Rattle.nnls.specs.Counted.{Counted}
 use Rattle.lsei.specs.Lsei.{Solution, lsei}
 use Rattle.reconcile.specs.Day as day
-use Rattle.certain.specs.Day.{Sound, Reported, report, reach, apart, misfit, exactly}
+use Rattle.certain.specs.Day.{report, reach, apart, misfit, exactly}
 use Rattle.certain.proofs.Certain as certain
 use Rattle.certain.proofs.Bounds as bounds
 use Rattle.settle.specs.Settle.{Measured, Settled, Again, again, none, certified, targets, first, firstOf, pinned, pinnedOf, next, without, tries, positives, second, isKept, isOrdinary, isBetter, better, chosen, choose, settled}

@@ -1,5 +1,5 @@
 -- The worked days hold of the definitions.
-use mathlib.Core.Path.{_≡_, refl}
+use mathlib.Core.Path.{refl}
 use lib.Count.{trailingZeros}
 use lib.Ieee.{add, sub, mul, div, neg, lt, le, eq, isNan, sum, round, size, units, odd, span, climb, ofBits, toBits}
 use Rattle.numbers.specs.Numbers.{Σ, tab, dot, gather, scatter, rows, grid, row, column, transposed}

@@ -3,20 +3,19 @@ use mathlib.Core.Path.{_≡_, refl, sym, ap, ap₂, _∙_}
 use mathlib.Core.Logic.{⊎-elim}
 use mathlib.Core.List.{List, [], _∷_, _++_, append-nil, append-assoc}
 use Prim.Native.Nat.{ℕ, zero, suc, _+_, _*_, _≤_, _<_}
-use native.Mathlib.Nat.{mul-le-mul-right}
 use native.Mathlib.Numerals.{add-one}
 use native.Mathlib.Omega.{arith}
-use lib.ListN.{length, replicate, set}
+use lib.ListN.{length, set}
 use lib.Seq.{getD-set-same, getD-set-other}
 use lib.Ieee.{Float, nan}
-use Rattle.numbers.specs.Numbers.{+0, at, nth, tab, rows, row, entry}
+use Rattle.numbers.specs.Numbers.{+0, at, nth, tab, rows, row}
 use Rattle.numbers.proofs.Cases.{lt-or-ge}
 use Rattle.numbers.proofs.Lists.{tab-same, tab-more, tab-replicate, rows-same, rows-snoc, by-entries}
-use Rattle.workspace.specs.inner.Readings.{vec, stack, nums, Block, Stacked}
-use Rattle.workspace.proofs.Readings.{vec-is, vec-same, stack-same, nth-nums}
+use Rattle.workspace.specs.inner.Readings.{vec, stack, Block, Stacked}
+use Rattle.workspace.proofs.Readings.{vec-same, stack-same, nth-nums}
 use Rattle.workspace.proofs.Writes.{block-vec}
 use Rattle.lsei.specs.inner.Work.{sides, Spaced}
-use Rattle.settle.specs.Settle.{measured, target, targets, heldRows, heldSides}
+use Rattle.settle.specs.Settle.{target, targets, heldRows, heldSides}
 use Rattle.reconcile.specs.inner.Work.{Scaled}
 use Rattle.settle.specs.inner.Work.{FirstIn, HeldIn, PinnedIn}
 

@@ -1,21 +1,20 @@
 -- Laws of the tries, of the choice, and of the whole.
 use mathlib.Core.Path.{_≡_, refl, sym, ap, ap₂, _∙_, subst}
-use mathlib.Core.Bool.{Bool, true, false, cond, _&&_, false≢true, true≢false}
+use mathlib.Core.Bool.{Bool, true, false, cond}
 use mathlib.Core.Logic.{⊎-elim}
-use mathlib.Core.List.{List, [], _∷_, _++_, append-nil}
+use mathlib.Core.List.{List, [], _∷_, _++_}
 use Prim.Native.Nat.{ℕ, zero, suc, _+_, _-_, _*_, _≤_, _<_}
 use native.Mathlib.Omega.{arith}
-use native.Mathlib.Numerals.{add-one}
-use lib.Dec.{eqb, leb, ltb}
-use lib.ListN.{length, getD, take, drop, replicate, List·getD-append}
-use lib.Seq.{getD-take, getD-drop, length-take-le, getD-append-add}
-use lib.Ieee.{Float, nan, inf, fin, binary64, ofBits, lt, le, div}
-use borrow.Author.Tests.{ltb-true, ltb-false, lt-ltb, le-ltb, le-leb, lt-leb}
-use Rattle.numbers.specs.Numbers.{+0, near, at, nth, tab, rows}
+use lib.Dec.{leb, ltb}
+use lib.ListN.{length, take, drop, List·getD-append}
+use lib.Seq.{getD-take, getD-drop, getD-append-add}
+use lib.Ieee.{Float, nan, inf, fin, binary64, ofBits, lt, le}
+use borrow.Author.Tests.{le-leb, lt-leb}
+use Rattle.numbers.specs.Numbers.{near, at, nth, tab, rows}
 use Rattle.numbers.proofs.Lists.{tab-same, getD-tab}
-use Rattle.workspace.specs.Tables.{Answer, done, refused}
+use Rattle.workspace.specs.Tables.{Answer, done}
 use Rattle.workspace.specs.inner.Readings.{vec, stack, nums, Block}
-use Rattle.workspace.proofs.Readings.{length-vec, vec-is, vec-same, stack-same, at-vec, nums-same, nth-nums}
+use Rattle.workspace.proofs.Readings.{length-vec, vec-is, vec-same, stack-same, at-vec, nums-same}
 use Rattle.workspace.proofs.Parts.{vec-front}
 use Rattle.nnls.specs.Counted.{Counted}
 use Rattle.lsei.specs.Lsei.{Solution, lsei}
@@ -25,10 +24,10 @@ use Rattle.lsei.specs.declared.Ending.the-variants.{Done, Deficient, Dependent,
 use Rattle.lsei.specs.declared.Ended.{Ended}
 use Rattle.lsei_nullspace.specs.inner.Work.{solutionIn}
 use Rattle.interval.proofs.Answers.{TOP, top-is}
-use Rattle.settle.specs.Settle.{Measured, Settled, Again, again, none, measured, certified, first, firstOf, pinned, pinnedOf, next, tries, without, second, positives, isKept, isOrdinary, isBetter, better, chosen, choose, settled}
+use Rattle.settle.specs.Settle.{Measured, Settled, again, none, measured, certified, first, firstOf, pinned, pinnedOf, next, tries, without, second, positives, isKept, isOrdinary, isBetter, better, chosen, choose, settled}
 use Rattle.settle.specs.declared.Step.{Step}
 use Rattle.settle.specs.declared.Step.the-variants.{Found, Let, Stop}
-use Rattle.settle.specs.inner.Work.{Input, Held, HeldFound, LetGo, FirstStored, AgainStored, PinnedIn, FirstStays, againIn, otherIn, settledIn, endedSettled, stepOf, after, Tried, TriedAll, toldAgain, WorkedAgain, firstIn, Judged, JudgedAgain}
+use Rattle.settle.specs.inner.Work.{Held, HeldFound, LetGo, FirstStored, AgainStored, PinnedIn, FirstStays, againIn, otherIn, settledIn, endedSettled, stepOf, after, Tried, TriedAll, toldAgain, WorkedAgain, firstIn, Judged, JudgedAgain}
 use Rattle.settle.specs.declared.Standing.{Standing}
 use Rattle.settle.proofs.Working.{is-found, onward-told, stop-found, let-found}
 use types.Run.{OneOf}

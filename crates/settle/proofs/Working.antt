@@ -1,28 +1,25 @@
 -- Laws of the second working: which limits are held, what is let go, and the answer where it is stored.
 use mathlib.Core.Path.{_≡_, refl, sym, ap, ap₂, _∙_, subst}
-use mathlib.Core.Bool.{Bool, true, false, cond, not, _&&_, false≢true, true≢false}
+use mathlib.Core.Bool.{Bool, true, false, cond, _&&_, true≢false}
 use mathlib.Core.Logic.{⊎-elim}
 use mathlib.Core.List.{List, [], _∷_, _++_, append-nil}
-use Prim.Native.Nat.{ℕ, zero, suc, _+_, _-_, _*_, _≤_, _<_}
-use native.Mathlib.Nat.{mul-le-mul-right}
+use Prim.Native.Nat.{ℕ, suc, _+_, _-_, _≤_, _<_}
 use native.Mathlib.Numerals.{add-one}
 use native.Mathlib.Omega.{arith}
 use lib.Dec.{eqb, leb, ltb}
-use lib.ListN.{length, getD, set, take, drop, length-append, length-drop, length-set, List·getD-append}
+use lib.ListN.{length, set, take, drop, length-append, length-drop}
 use lib.Seq.{getD-set-same, getD-set-other, getD-take, getD-drop, length-take-le}
-use lib.Ieee.{Float, nan, inf, binary64, ofBits, lt, eq}
-use borrow.Author.Tests.{eq-eqb, ne-eqb, ltb-true, ltb-false, lt-ltb, le-leb, lt-leb}
-use Rattle.numbers.specs.Numbers.{+0, one, at, nth, tab, entry}
+use lib.Ieee.{Float, nan, binary64, ofBits, lt, eq}
+use borrow.Author.Tests.{eq-eqb, ne-eqb, ltb-true, lt-ltb, le-leb, lt-leb}
+use Rattle.numbers.specs.Numbers.{+0, one, at, nth, tab}
 use Rattle.numbers.proofs.Cases.{lt-or-ge}
 use Rattle.numbers.proofs.Lists.{tab-same, tab-more, tab-of}
 use Rattle.workspace.specs.inner.Readings.{vec, nums, Block}
 use Rattle.workspace.proofs.Readings.{lit-+0, lit-one, length-vec, at-vec, vec-is, vec-same, nums-same, nth-nums}
-use Rattle.workspace.proofs.Writes.{block-vec}
 use Rattle.certain.specs.Bound.{kept}
 use Rattle.lsei.specs.Lsei.{Solution}
-use Rattle.lsei_nullspace.specs.inner.Work.{solutionIn}
-use Rattle.settle.specs.Settle.{Measured, Settled, certified, positives, isOwn, owned, notBelow, witness, pinnedOf, Again, again, none, next}
-use Rattle.settle.specs.inner.Work.{Held, HeldFound, LetGo, FirstStored, AgainStored, storedAt, againIn, stepOf, after, Judged}
+use Rattle.settle.specs.Settle.{Measured, Settled, certified, positives, isOwn, owned, notBelow, witness, pinnedOf, Again, none, next}
+use Rattle.settle.specs.inner.Work.{HeldFound, LetGo, FirstStored, AgainStored, storedAt, stepOf, after, Judged}
 use Rattle.settle.specs.declared.Step.{Step}
 use Rattle.settle.specs.declared.Step.the-variants.{Found, Let, Stop}
 use Rattle.lsei.specs.inner.Work.{endingAnswer}

@@ -8,7 +8,7 @@ ghost use Rattle.numbers.specs.Numbers.{+0, one, at, nth};
 ghost use Rattle.workspace.specs.inner.Readings.{vec, nums, Block};
 ghost use Rattle.settle.specs.Settle as Definition;
 ghost use Rattle.lsei_nullspace.specs.inner.Places.{LSEI_X, LSEI_EQUALITY_MULTIPLIERS};
-ghost use Rattle.settle.specs.inner.Places.{FIRST_Z, AGAIN_X, AGAIN_Z, HELD, SETTLE_ROOM, SETTLE_WORDS};
+ghost use Rattle.settle.specs.inner.Places.{SETTLE_Z, SETTLE_AGAIN_X, SETTLE_AGAIN_Z, SETTLE_HELD, SETTLE_ROOM, SETTLE_WORDS};
 ghost use Rattle.settle.specs.inner.Work.{Input, Held, HeldFound, LetGo, AgainStored, stepOf, Tried, TriedAll, WorkedAgain};
 use crate::Step;
 use crate::problem::write_pinned;
@@ -55,13 +55,13 @@ fn unit(j: usize, i: usize) -> f64
 // The limits whose witness is above zero: how many, and which.
 fn find_held(w: &[f64], iw: &mut [u32], p: usize) -> usize
     requires { ⌜ (p ≤ 48) × (SETTLE_ROOM ≤ length (now w)) × (SETTLE_WORDS ≤ length (now iw)) ⌝ }
-    ensures { λ c. ⌜ HeldFound p c (vec FIRST_Z p (now (w .entry))) (now (iw .exit)) ⌝ }
+    ensures { λ c. ⌜ HeldFound p c (vec SETTLE_Z p (now (w .entry))) (now (iw .exit)) ⌝ }
 {
     let mut c = 0;
     let mut k = 0;
     while k < p {
-        iw[crate::HELD + c] = k as u32;
-        c = count(0.0 < w[crate::FIRST_Z + k], c);
+        iw[crate::SETTLE_HELD + c] = k as u32;
+        c = count(0.0 < w[crate::SETTLE_Z + k], c);
         k += 1;
     }
     c
@@ -74,7 +74,7 @@ fn let_go(iw: &mut [u32], c: usize, t: usize)
 {
     let mut i = t;
     while i < c {
-        iw[crate::HELD + i] = iw[crate::HELD + i + 1];
+        iw[crate::SETTLE_HELD + i] = iw[crate::SETTLE_HELD + i + 1];
         i += 1;
     }
 }
@@ -110,12 +110,12 @@ fn own(
     v: f64,
 ) -> f64
     requires { ⌜ (n ≤ 16) × (length (now limits) ≡ p * n) × (length (now least) ≡ p) × Held p c (now iw) ⌝ }
-    ensures { λ r. ⌜ r ≡ Definition.owned n (now (limits .entry)) (now (least .entry)) c (nums HELD c (now (iw .entry))) i v ⌝ }
+    ensures { λ r. ⌜ r ≡ Definition.owned n (now (limits .entry)) (now (least .entry)) c (nums SETTLE_HELD c (now (iw .entry))) i v ⌝ }
 {
     let mut r = v;
     let mut t = 0;
     while t < c {
-        let k = iw[crate::HELD + t] as usize;
+        let k = iw[crate::SETTLE_HELD + t] as usize;
         let t_own = is_own(limits, n, k, i);
         r = pick(t_own, least[k], r);
         t += 1;
@@ -135,13 +135,13 @@ fn not_below(v: f64) -> f64
 // The witness of limit k.
 fn witness(w: &[f64], iw: &[u32], m: usize, c: usize, k: usize) -> f64
     requires { ⌜ (m + c ≤ 16) × (SETTLE_ROOM ≤ length (now w)) × (SETTLE_WORDS ≤ length (now iw)) ⌝ }
-    ensures { λ r. ⌜ r ≡ Definition.witness m c (nums HELD c (now (iw .entry))) (vec LSEI_EQUALITY_MULTIPLIERS (m + c) (now (w .entry))) k ⌝ }
+    ensures { λ r. ⌜ r ≡ Definition.witness m c (nums SETTLE_HELD c (now (iw .entry))) (vec LSEI_EQUALITY_MULTIPLIERS (m + c) (now (w .entry))) k ⌝ }
 {
     let mut r = 0.0;
     let mut t = 0;
     while t < c {
         let v = not_below(w[lsei_nullspace::LSEI_EQUALITY_MULTIPLIERS + (m + t)]);
-        let h = wide(iw[crate::HELD + t]);
+        let h = wide(iw[crate::SETTLE_HELD + t]);
         r = pick(h == k, v, r);
         t += 1;
     }
@@ -150,21 +150,21 @@ fn witness(w: &[f64], iw: &[u32], m: usize, c: usize, k: usize) -> f64
 
 fn store_x(limits: &[f64], least: &[f64], w: &mut [f64], iw: &[u32], n: usize, p: usize, c: usize)
     requires { ⌜ (n ≤ 16) × (length (now limits) ≡ p * n) × (length (now least) ≡ p) × Held p c (now iw) × (SETTLE_ROOM ≤ length (now w)) ⌝ }
-    ensures { λ _. ⌜ Block AGAIN_X n (λ i. Definition.owned n (now (limits .entry)) (now (least .entry)) c (nums HELD c (now (iw .entry))) i (at (now (w .entry)) (LSEI_X + i))) (now (w .entry)) (now (w .exit)) ⌝ }
+    ensures { λ _. ⌜ Block SETTLE_AGAIN_X n (λ i. Definition.owned n (now (limits .entry)) (now (least .entry)) c (nums SETTLE_HELD c (now (iw .entry))) i (at (now (w .entry)) (LSEI_X + i))) (now (w .entry)) (now (w .exit)) ⌝ }
 {
     for i in 0..n {
         let v = own(limits, least, iw, n, p, c, i, w[lsei_nullspace::LSEI_X + i]);
-        w[crate::AGAIN_X + i] = v;
+        w[crate::SETTLE_AGAIN_X + i] = v;
     }
 }
 
 fn store_z(w: &mut [f64], iw: &[u32], m: usize, p: usize, c: usize)
     requires { ⌜ (m + c ≤ 16) × (p ≤ 48) × (SETTLE_ROOM ≤ length (now w)) × (SETTLE_WORDS ≤ length (now iw)) ⌝ }
-    ensures { λ _. ⌜ Block AGAIN_Z p (λ k. Definition.witness m c (nums HELD c (now (iw .entry))) (vec LSEI_EQUALITY_MULTIPLIERS (m + c) (now (w .entry))) k) (now (w .entry)) (now (w .exit)) ⌝ }
+    ensures { λ _. ⌜ Block SETTLE_AGAIN_Z p (λ k. Definition.witness m c (nums SETTLE_HELD c (now (iw .entry))) (vec LSEI_EQUALITY_MULTIPLIERS (m + c) (now (w .entry))) k) (now (w .entry)) (now (w .exit)) ⌝ }
 {
     for k in 0..p {
         let v = witness(w, iw, m, c, k);
-        w[crate::AGAIN_Z + k] = v;
+        w[crate::SETTLE_AGAIN_Z + k] = v;
     }
 }
 
@@ -188,7 +188,7 @@ fn store_again(
     workspace::copy_up(
         w,
         lsei_nullspace::LSEI_EQUALITY_MULTIPLIERS,
-        crate::AGAIN_Y,
+        crate::SETTLE_AGAIN_Y,
         m,
     );
     store_z(w, iw, m, p, c);
@@ -234,8 +234,8 @@ fn try_once(
 {
     write_pinned(values, spreads, balances, limits, least, w, iw, n, m, p, c);
     let e = lsei_nullspace::solve_lsei(
-        &mut w[..crate::FIRST_X],
-        &mut iw[..crate::HELD],
+        &mut w[..crate::SETTLE_X],
+        &mut iw[..crate::SETTLE_HELD],
         n,
         m + c,
         n,
@@ -265,7 +265,7 @@ fn try_all(
     held: usize,
 ) -> bool
     requires { ⌜ Input n m p (now values) (now spreads) (now balances) (now limits) (now least) × (m + held ≤ 16) × Held p held (now iw) × (SETTLE_ROOM ≤ length (now w)) × (SETTLE_WORDS ≤ length (now iw)) ⌝ }
-    ensures { λ r. ⌜ TriedAll (Definition.measured n m p (now (values .entry)) (now (spreads .entry)) (now (balances .entry)) (now (limits .entry)) (now (least .entry))) held (nums HELD held (now (iw .entry))) r (now (w .entry)) (now (w .exit)) ⌝ }
+    ensures { λ r. ⌜ TriedAll (Definition.measured n m p (now (values .entry)) (now (spreads .entry)) (now (balances .entry)) (now (limits .entry)) (now (least .entry))) held (nums SETTLE_HELD held (now (iw .entry))) r (now (w .entry)) (now (w .exit)) ⌝ }
 {
     let mut c = held;
     loop {
@@ -302,7 +302,7 @@ pub fn work_again(
     p: usize,
 ) -> bool
     requires { ⌜ Input n m p (now values) (now spreads) (now balances) (now limits) (now least) × (SETTLE_ROOM ≤ length (now w)) × (SETTLE_WORDS ≤ length (now iw)) ⌝ }
-    ensures { λ r. ⌜ WorkedAgain (Definition.measured n m p (now (values .entry)) (now (spreads .entry)) (now (balances .entry)) (now (limits .entry)) (now (least .entry))) (vec FIRST_Z p (now (w .entry))) r (now (w .entry)) (now (w .exit)) ⌝ }
+    ensures { λ r. ⌜ WorkedAgain (Definition.measured n m p (now (values .entry)) (now (spreads .entry)) (now (balances .entry)) (now (limits .entry)) (now (least .entry))) (vec SETTLE_Z p (now (w .entry))) r (now (w .entry)) (now (w .exit)) ⌝ }
 {
     let c = find_held(w, iw, p);
     if m + c > 16 {

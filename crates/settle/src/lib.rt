@@ -12,7 +12,7 @@ ghost use Rattle.workspace.specs.inner.Readings.{vec};
 ghost use Rattle.lsei.specs.inner.Work.{endedSolution};
 ghost use Rattle.lsei_nullspace.specs.inner.Work.{solutionIn};
 ghost use Rattle.settle.specs.Settle as Definition;
-ghost use Rattle.settle.specs.inner.Places.{FIRST_Z, SETTLE_ROOM, SETTLE_WORDS};
+ghost use Rattle.settle.specs.inner.Places.{SETTLE_Z, SETTLE_ROOM, SETTLE_WORDS};
 ghost use Rattle.settle.specs.inner.Work.{Input, FirstStored, storedAt, settledIn, endedSettled, Judged, JudgedAgain};
 use crate::again::work_again;
 use crate::problem::write_first;
@@ -20,23 +20,23 @@ use crate::problem::write_first;
 // ---- where things stand behind LSEI's part
 
 // x, y and z of LSEI's answer, and in the end of the one that is chosen.
-pub const FIRST_X: usize = lsei_nullspace::LSEI_ROOM;
+pub const SETTLE_X: usize = lsei_nullspace::LSEI_ROOM;
 
-pub const FIRST_Y: usize = FIRST_X + 18;
+pub const SETTLE_Y: usize = SETTLE_X + 18;
 
-pub const FIRST_Z: usize = FIRST_Y + 18;
+pub const SETTLE_Z: usize = SETTLE_Y + 18;
 // Those of the answer worked again.
-pub const AGAIN_X: usize = FIRST_Z + 48;
+pub const SETTLE_AGAIN_X: usize = SETTLE_Z + 48;
 
-pub const AGAIN_Y: usize = AGAIN_X + 18;
+pub const SETTLE_AGAIN_Y: usize = SETTLE_AGAIN_X + 18;
 
-pub const AGAIN_Z: usize = AGAIN_Y + 18;
+pub const SETTLE_AGAIN_Z: usize = SETTLE_AGAIN_Y + 18;
 // How many f64 it takes.
-pub const SETTLE_ROOM: usize = AGAIN_Z + 48;
+pub const SETTLE_ROOM: usize = SETTLE_AGAIN_Z + 48;
 // In the u32 workspace: the limits that are held.
-pub const HELD: usize = lsei_nullspace::LSEI_WORDS;
+pub const SETTLE_HELD: usize = lsei_nullspace::LSEI_WORDS;
 // How many u32 it takes.
-pub const SETTLE_WORDS: usize = HELD + 48;
+pub const SETTLE_WORDS: usize = SETTLE_HELD + 48;
 
 // What an answer is worth: its bound, and whether it is kept within the tolerance.
 pub struct Standing {
@@ -78,9 +78,9 @@ fn store_first(w: &mut [f64], n: usize, m: usize, p: usize)
     requires { ⌜ (n ≤ 16) × (m ≤ 16) × (p ≤ 48) × (SETTLE_ROOM ≤ length (now w)) ⌝ }
     ensures { λ _. ⌜ FirstStored n m p (now (w .entry)) (now (w .exit)) ⌝ }
 {
-    workspace::copy_up(w, lsei_nullspace::LSEI_X, FIRST_X, n);
-    workspace::copy_up(w, lsei_nullspace::LSEI_EQUALITY_MULTIPLIERS, FIRST_Y, m);
-    workspace::copy_up(w, lsei_nullspace::LSEI_MULTIPLIERS, FIRST_Z, p);
+    workspace::copy_up(w, lsei_nullspace::LSEI_X, SETTLE_X, n);
+    workspace::copy_up(w, lsei_nullspace::LSEI_EQUALITY_MULTIPLIERS, SETTLE_Y, m);
+    workspace::copy_up(w, lsei_nullspace::LSEI_MULTIPLIERS, SETTLE_Z, p);
 }
 
 // ---- the choice
@@ -127,7 +127,7 @@ fn judge_again(
     tolerance: f64,
 ) -> Standing
     requires { ⌜ Input n m p (now values) (now spreads) (now balances) (now limits) (now least) × (SETTLE_ROOM ≤ length (now w)) × (SETTLE_WORDS ≤ length (now iw)) ⌝ }
-    ensures { λ r. ⌜ JudgedAgain (Definition.measured n m p (now (values .entry)) (now (spreads .entry)) (now (balances .entry)) (now (limits .entry)) (now (least .entry))) tolerance (vec FIRST_Z p (now (w .entry))) r (now (w .entry)) (now (w .exit)) ⌝ }
+    ensures { λ r. ⌜ JudgedAgain (Definition.measured n m p (now (values .entry)) (now (spreads .entry)) (now (balances .entry)) (now (limits .entry)) (now (least .entry))) tolerance (vec SETTLE_Z p (now (w .entry))) r (now (w .entry)) (now (w .exit)) ⌝ }
 {
     if !work_again(values, spreads, balances, limits, least, w, iw, n, m, p) {
         return Standing {
@@ -142,7 +142,7 @@ fn judge_again(
         limits,
         least,
         w,
-        AGAIN_X,
+        SETTLE_AGAIN_X,
         n,
         m,
         p,
@@ -205,7 +205,7 @@ pub fn settle(
         limits,
         least,
         w,
-        FIRST_X,
+        SETTLE_X,
         n,
         m,
         p,
@@ -231,7 +231,7 @@ pub fn settle(
         tolerance,
     );
     if is_better(one.kept, two.kept, one.far, two.far) {
-        workspace::copy_down(w, AGAIN_X, FIRST_X, 84);
+        workspace::copy_down(w, SETTLE_AGAIN_X, SETTLE_X, 84);
         return Settlement {
             ending,
             far: two.far,

@@ -67,7 +67,7 @@ fn write_held(
     ensures { λ _. ⌜ HeldIn n m c (now (limits .entry)) (now (least .entry)) (now (iw .entry)) (now (w .entry)) (now (w .exit)) ⌝ }
 {
     for t in 0..c {
-        let k = iw[crate::HELD + t] as usize;
+        let k = iw[crate::SETTLE_HELD + t] as usize;
         workspace::copy_strided(
             limits,
             w,

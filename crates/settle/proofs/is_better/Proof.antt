@@ -2,22 +2,16 @@ use borrow.Author.Needs.{needs}
 use Rattle.settle.proofs.Tries.{better-and, better-or-not}
 use Rattle.settle.proofs.is_better.Statement.{statement}
 use Rattle.settle.proofs.is_better.Tie as tie
-use Rattle.settle.proofs.is_better.Reads as reads
-use Rattle.settle.proofs.is_better.Lts as lts
 
--- src/lib.rt:165:9
 returns : tie.Need-returns
 returns c = better-and _ _ _ _ (c .before .if1 .taken) (c .if2 .taken)
 
--- src/lib.rt:165:9
 returns-2 : tie.Need-returns-2
 returns-2 c = search needs
 
--- src/lib.rt:161:1
 returns-3 : tie.Need-returns-3
 returns-3 c = search needs
 
--- src/lib.rt:161:1
 returns-4 : tie.Need-returns-4
 returns-4 c = better-or-not _ _ _ _ (c .before .if1 .left) (c .if3 .left)
 

@@ -2,14 +2,10 @@ use borrow.Author.Needs.{needs}
 use Rattle.settle.proofs.Tries.{ordinary-is}
 use Rattle.settle.proofs.is_ordinary.Statement.{statement}
 use Rattle.settle.proofs.is_ordinary.Tie as tie
-use Rattle.settle.proofs.is_ordinary.Reads as reads
-use Rattle.settle.proofs.is_ordinary.Lts as lts
 
--- src/lib.rt:154:1
 returns : tie.Need-returns
 returns c = ordinary-is _ _ (c .if1 .taken)
 
--- src/lib.rt:154:1
 returns-2 : tie.Need-returns-2
 returns-2 c = search needs
 

@@ -1,84 +1,60 @@
-use mathlib.Core.Path.{_≡_, refl, sym, ap, ap₂, _∙_}
-use Prim.Native.Nat.{ℕ, _+_, _-_, _*_, _≤_, _<_}
+use Prim.Native.Nat.{_+_, _-_}
 use native.Mathlib.Omega.{arith}
 use Rattle.settle.proofs.Working.{part-long, judged-is}
-use borrow.Author.Needs.{needs}
 use Rattle.settle.proofs.judge.Statement.{statement}
 use Rattle.settle.proofs.judge.Tie as tie
-use Rattle.settle.proofs.judge.Reads as reads
-use Rattle.settle.proofs.judge.Lts as lts
-use Rattle.certain.proofs.bound.Reads as bound-reads
-use Rattle.certain.proofs.kept.Reads as kept-reads
 
--- src/lib.rt:89:13
 add-a : tie.Need-add-a
 add-a c = omega arith
 
--- src/lib.rt:90:13
 add-b : tie.Need-add-b
 add-b c = omega arith
 
--- src/lib.rt:91:19
 add-x : tie.Need-add-x
 add-x c = omega (arith, c .before .before .before .before .before .before .pre .0 .n16)
 
--- src/lib.rt:91:13
 mul-x : tie.Need-mul-x
 mul-x c = omega arith
 
--- src/lib.rt:91:13
 sub-x : tie.Need-sub-x
 sub-x c = omega arith
 
--- src/lib.rt:91:13
 part-x-start : tie.Need-part-x-start
 part-x-start c = omega arith
 
--- src/lib.rt:91:13
 part-x-end : tie.Need-part-x-end
 part-x-end c = omega (arith, c .before .before .before .before .before .before .pre .0 .n16)
 
--- src/lib.rt:92:19
 add-y : tie.Need-add-y
 add-y c = omega (arith, c .before .before .before .before .before .before .before .pre .0 .m16)
 
--- src/lib.rt:92:13
 mul-y : tie.Need-mul-y
 mul-y c = omega arith
 
--- src/lib.rt:92:13
 sub-y : tie.Need-sub-y
 sub-y c = omega arith
 
--- src/lib.rt:92:13
 part-y-start : tie.Need-part-y-start
 part-y-start c = omega (arith, c .before .before .before .before .before .before .before .pre .1)
 
--- src/lib.rt:92:13
 part-y-end : tie.Need-part-y-end
 part-y-end c = omega (arith, c .before .before .before .before .before .before .before .pre .0 .m16)
 
--- src/lib.rt:93:19
 add-z : tie.Need-add-z
 add-z c = omega (arith, c .before .before .before .before .before .before .before .before .pre .0 .p48)
 
--- src/lib.rt:93:13
 mul-z : tie.Need-mul-z
 mul-z c = omega arith
 
--- src/lib.rt:93:13
 sub-z : tie.Need-sub-z
 sub-z c = omega arith
 
--- src/lib.rt:93:13
 part-z-start : tie.Need-part-z-start
 part-z-start c = omega (arith, c .before .before .before .before .before .before .before .before .pre .1)
 
--- src/lib.rt:93:13
 part-z-end : tie.Need-part-z-end
 part-z-end c = omega (arith, c .before .before .before .before .before .before .before .before .pre .0 .p48)
 
--- src/lib.rt:94:5
 bound-requires : tie.Need-bound-requires
 bound-requires c κs = let p = c .before .before .before .before .before .before .before .before .before .pre in let a = c .before .before .before .before .before .before .before .before .before .args in (record { values-long = omega (arith, p .0 .lv); spreads-long = omega (arith, p .0 .ls); x-long = part-long (a .o) (a .n) (a .w .now) (omega (arith, p .0 .n16, p .1)) }, record { balances-long = omega (arith, p .0 .lb); limits-long = omega (arith, p .0 .ll); y-long = part-long (a .o + 18) (a .m) (a .w .now) (omega (arith, p .0 .m16, p .1)); z-long = part-long (a .o + 36) (a .p) (a .w .now) (omega (arith, p .0 .p48, p .1)) }, omega (arith, p .0 .lf))
 

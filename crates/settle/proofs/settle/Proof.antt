@@ -1,5 +1,5 @@
 -- `settle`: refused; LSEI's answer at once; the other; LSEI's after all.
-use mathlib.Core.Path.{_≡_, sym, _∙_}
+use mathlib.Core.Path.{_∙_}
 use native.Mathlib.Omega.{arith}
 use borrow.Author.Needs.{needs}
 use Rattle.settle.specs.Settle.{measured}

@@ -1,30 +1,21 @@
-use mathlib.Core.Path.{_≡_, refl, sym, ap, ap₂, _∙_}
+use mathlib.Core.Path.{_∙_}
 use native.Mathlib.Omega.{arith}
 use Rattle.settle.proofs.Working.{stored-first}
-use borrow.Author.Needs.{needs}
 use Rattle.settle.proofs.store_first.Statement.{statement}
 use Rattle.settle.proofs.store_first.Tie as tie
-use Rattle.settle.proofs.store_first.Reads as reads
-use Rattle.settle.proofs.store_first.Lts as lts
-use Rattle.workspace.proofs.copy_up.Reads as copy-up-reads
 
--- src/lib.rt:68:5
 copy-up-requires : tie.Need-copy-up-requires
 copy-up-requires c κs = let p = c .before .before .pre in (omega (arith, p .0), omega (arith, p .0, p .3))
 
--- src/lib.rt:69:5
 copy-up-requires-2 : tie.Need-copy-up-requires-2
 copy-up-requires-2 c κs = let p = c .before .before .before .before .before .before .pre in (omega (arith, p .1), omega (arith, p .1, p .3, c .before .before .before .copy-up .kept .0))
 
--- src/lib.rt:70:5
 copy-up-requires-3 : tie.Need-copy-up-requires-3
 copy-up-requires-3 c κs = let p = c .before .before .before .before .before .before .before .before .before .before .pre in (omega (arith, p .2), omega (arith, p .2, p .3, c .before .before .before .copy-up2 .kept .0, c .before .before .before .before .before .before .before .copy-up .kept .0))
 
--- src/lib.rt:64:1
 same-length : tie.Need-same-length
 same-length c = c .before .before .copy-up3 .kept .0 ∙ c .before .before .before .before .before .before .copy-up2 .kept .0 ∙ c .before .before .before .before .before .before .before .before .before .before .copy-up .kept .0
 
--- src/lib.rt:64:1
 returns : tie.Need-returns
 returns c = let a = c .before .before .before .before .before .before .before .before .before .before .before .before .before .args in let p = c .before .before .before .before .before .before .before .before .before .before .before .before .before .pre in stored-first (a .n) (a .m) (a .p) (a .w .now) (c .before .before .before .before .before .before .before .before .before .before .copy-up .last .0) (c .before .before .before .before .before .before .copy-up2 .last .0) (c .before .before .copy-up3 .last .0) (p .0) (p .1) (p .2) (c .before .before .before .before .before .before .before .before .before .before .copy-up .ensures) (c .before .before .before .before .before .before .copy-up2 .ensures) (c .before .before .copy-up3 .ensures)
 

@@ -3,33 +3,33 @@ use Prim.Native.Nat.{ℕ, _+_}
 use Rattle.lsei_nullspace.specs.inner.Places.{LSEI_ROOM, LSEI_WORDS}
 
 -- x, y and z of LSEI's answer, and in the end of the one that is chosen
-abbrev pub FIRST_X : ℕ
-FIRST_X = LSEI_ROOM
+abbrev pub SETTLE_X : ℕ
+SETTLE_X = LSEI_ROOM
 
-abbrev pub FIRST_Y : ℕ
-FIRST_Y = FIRST_X + 18
+abbrev pub SETTLE_Y : ℕ
+SETTLE_Y = SETTLE_X + 18
 
-abbrev pub FIRST_Z : ℕ
-FIRST_Z = FIRST_Y + 18
+abbrev pub SETTLE_Z : ℕ
+SETTLE_Z = SETTLE_Y + 18
 
 -- those of the answer worked again
-abbrev pub AGAIN_X : ℕ
-AGAIN_X = FIRST_Z + 48
+abbrev pub SETTLE_AGAIN_X : ℕ
+SETTLE_AGAIN_X = SETTLE_Z + 48
 
-abbrev pub AGAIN_Y : ℕ
-AGAIN_Y = AGAIN_X + 18
+abbrev pub SETTLE_AGAIN_Y : ℕ
+SETTLE_AGAIN_Y = SETTLE_AGAIN_X + 18
 
-abbrev pub AGAIN_Z : ℕ
-AGAIN_Z = AGAIN_Y + 18
+abbrev pub SETTLE_AGAIN_Z : ℕ
+SETTLE_AGAIN_Z = SETTLE_AGAIN_Y + 18
 
 -- how many f64 it takes
 abbrev pub SETTLE_ROOM : ℕ
-SETTLE_ROOM = AGAIN_Z + 48
+SETTLE_ROOM = SETTLE_AGAIN_Z + 48
 
 -- in the u32 workspace: the limits that are held
-abbrev pub HELD : ℕ
-HELD = LSEI_WORDS
+abbrev pub SETTLE_HELD : ℕ
+SETTLE_HELD = LSEI_WORDS
 
 -- how many u32 it takes
 abbrev pub SETTLE_WORDS : ℕ
-SETTLE_WORDS = HELD + 48
+SETTLE_WORDS = SETTLE_HELD + 48

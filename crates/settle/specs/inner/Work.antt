@@ -18,7 +18,7 @@ use Rattle.settle.specs.Settle.{Measured, Settled, Again, again, none, m
 use Rattle.lsei_nullspace.specs.inner.Places.{LSEI_C, LSEI_X, LSEI_E, LSEI_F, LSEI_G, LSEI_EQUALITY_MULTIPLIERS, LSEI_MULTIPLIERS}
 use Rattle.lsei_nullspace.specs.inner.Work.{solutionIn}
 use Rattle.nnls.specs.Counted.{Counted}
-use Rattle.settle.specs.inner.Places.{FIRST_X, FIRST_Y, FIRST_Z, AGAIN_X, AGAIN_Y, AGAIN_Z, HELD, SETTLE_WORDS}
+use Rattle.settle.specs.inner.Places.{SETTLE_X, SETTLE_Y, SETTLE_Z, SETTLE_AGAIN_X, SETTLE_AGAIN_Y, SETTLE_AGAIN_Z, SETTLE_HELD, SETTLE_WORDS}
 use Rattle.settle.specs.declared.Standing.{Standing}
 use Rattle.settle.specs.declared.Step.{Step}
 use Rattle.settle.specs.declared.Step.the-variants.{Found, Let, Stop}
@@ -38,7 +38,7 @@ pub record Input (n m p : ℕ) (values spreads balances limits least : List Floa
 pub record Held (p c : ℕ) (iw : List ℕ) : Type 0 where
   pub room : SETTLE_WORDS ≤ length iw
   pub few : c ≤ 48
-  pub below : (t : ℕ) → t < c → nth iw (HELD + t) < p
+  pub below : (t : ℕ) → t < c → nth iw (SETTLE_HELD + t) < p
 
 -- ---- the problems in
 
@@ -52,51 +52,51 @@ pub record FirstIn (n m p : ℕ) (values spreads balances limits least w′ : Li
 
 -- the rows and sides of those held, behind the m balances
 pub record HeldIn (n m c : ℕ) (limits least : List Float) (iw : List ℕ) (w w′ : List Float) : Type 0 where
-  pub rows : (t j : ℕ) → t < c → j < n → at w′ (LSEI_C + (m + t) * 18 + j) ≡ at limits (nth iw (HELD + t) * n + j)
-  pub bounds : (t : ℕ) → t < c → at w′ (LSEI_X + (m + t)) ≡ at least (nth iw (HELD + t))
+  pub rows : (t j : ℕ) → t < c → j < n → at w′ (LSEI_C + (m + t) * 18 + j) ≡ at limits (nth iw (SETTLE_HELD + t) * n + j)
+  pub bounds : (t : ℕ) → t < c → at w′ (LSEI_X + (m + t)) ≡ at least (nth iw (SETTLE_HELD + t))
   pub low : (x : ℕ) → x < LSEI_C + m * 18 → at w′ x ≡ at w x
   pub middle : (x : ℕ) → LSEI_X ≤ x → x < LSEI_X + m → at w′ x ≡ at w x
   pub after : (x : ℕ) → LSEI_E ≤ x → at w′ x ≡ at w x
 
 pub record PinnedIn (n m p c : ℕ) (values spreads balances limits least : List Float) (iw : List ℕ) (w w′ : List Float) : Type 0 where
-  pub the-c : stack LSEI_C (m + c) n w′ ≡ heldRows (measured n m p values spreads balances limits least) c (nums HELD c iw)
-  pub the-d : vec LSEI_X (m + c) w′ ≡ heldSides (measured n m p values spreads balances limits least) c (nums HELD c iw)
+  pub the-c : stack LSEI_C (m + c) n w′ ≡ heldRows (measured n m p values spreads balances limits least) c (nums SETTLE_HELD c iw)
+  pub the-d : vec LSEI_X (m + c) w′ ≡ heldSides (measured n m p values spreads balances limits least) c (nums SETTLE_HELD c iw)
   pub the-e : stack LSEI_E n n w′ ≡ scales n spreads
   pub the-f : vec LSEI_F n w′ ≡ targets n values spreads
-  pub behind : (x : ℕ) → FIRST_X ≤ x → at w′ x ≡ at w x
+  pub behind : (x : ℕ) → SETTLE_X ≤ x → at w′ x ≡ at w x
 
 -- ---- the answers, where they are stored
 
 pub record FirstStored (n m p : ℕ) (w w′ : List Float) : Type 0 where
-  pub x : vec FIRST_X n w′ ≡ vec LSEI_X n w
-  pub y : vec FIRST_Y m w′ ≡ vec LSEI_EQUALITY_MULTIPLIERS m w
-  pub z : vec FIRST_Z p w′ ≡ vec LSEI_MULTIPLIERS p w
+  pub x : vec SETTLE_X n w′ ≡ vec LSEI_X n w
+  pub y : vec SETTLE_Y m w′ ≡ vec LSEI_EQUALITY_MULTIPLIERS m w
+  pub z : vec SETTLE_Z p w′ ≡ vec LSEI_MULTIPLIERS p w
 
--- c of the p limits have a witness above zero, and these stand from HELD on
+-- c of the p limits have a witness above zero, and these stand from SETTLE_HELD on
 pub record HeldFound (p c : ℕ) (z : List Float) (iw : List ℕ) : Type 0 where
-  pub which : nums HELD c iw ≡ positives p z
+  pub which : nums SETTLE_HELD c iw ≡ positives p z
   pub how-many : c ≡ length (positives p z)
   pub held : Held p c iw
 
 pub record LetGo (c t : ℕ) (iw iw′ : List ℕ) : Type 0 where
-  pub left : (i : ℕ) → i < c → nth iw′ (HELD + i) ≡ nth iw (HELD + cond (ltb i t) i (suc i))
+  pub left : (i : ℕ) → i < c → nth iw′ (SETTLE_HELD + i) ≡ nth iw (SETTLE_HELD + cond (ltb i t) i (suc i))
 
--- the answer that stands from FIRST_X on, with its bound; and the one from AGAIN_X on
+-- the answer that stands from SETTLE_X on, with its bound; and the one from SETTLE_AGAIN_X on
 abbrev pub settledIn : (n m p : ℕ) → List Float → Float → Settled
-settledIn n m p w far = record { x = vec FIRST_X n w; y = vec FIRST_Y m w; z = vec FIRST_Z p w; far = far }
+settledIn n m p w far = record { x = vec SETTLE_X n w; y = vec SETTLE_Y m w; z = vec SETTLE_Z p w; far = far }
 
 abbrev pub otherIn : (n m p : ℕ) → List Float → Float → Settled
-otherIn n m p w far = record { x = vec AGAIN_X n w; y = vec AGAIN_Y m w; z = vec AGAIN_Z p w; far = far }
+otherIn n m p w far = record { x = vec SETTLE_AGAIN_X n w; y = vec SETTLE_AGAIN_Y m w; z = vec SETTLE_AGAIN_Z p w; far = far }
 
 -- the answer that stands from o on, with the bound that it has
 abbrev pub storedAt : Measured → ℕ → List Float → Settled
 storedAt d o w = certified d (vec o (d .n) w) (vec (o + 18) (d .m) w) (vec (o + 36) (d .p) w)
 
 abbrev pub firstIn : Measured → List Float → Settled
-firstIn d w = storedAt d FIRST_X w
+firstIn d w = storedAt d SETTLE_X w
 
 abbrev pub againIn : Measured → List Float → Settled
-againIn d w = storedAt d AGAIN_X w
+againIn d w = storedAt d SETTLE_AGAIN_X w
 
 abbrev pub endedSettled : Ending → Settled → Answer Settled
 endedSettled Done s = done s
@@ -107,11 +107,11 @@ endedSettled Capped s = iterationCap
 
 -- LSEI's answer stays while it is worked again
 abbrev pub FirstStays : (w w′ : List Float) → Type 0
-FirstStays w w′ = (x : ℕ) → FIRST_X ≤ x → x < AGAIN_X → at w′ x ≡ at w x
+FirstStays w w′ = (x : ℕ) → SETTLE_X ≤ x → x < SETTLE_AGAIN_X → at w′ x ≡ at w x
 
 -- the answer of a try, where it is stored
 pub record AgainStored (d : Measured) (c : ℕ) (iw : List ℕ) (w w′ : List Float) : Type 0 where
-  pub answer : againIn d w′ ≡ pinnedOf d c (nums HELD c iw) (solutionIn (d .n) (d .m + c) 0 w)
+  pub answer : againIn d w′ ≡ pinnedOf d c (nums SETTLE_HELD c iw) (solutionIn (d .n) (d .m + c) 0 w)
   pub first : FirstStays w w′
 
 -- what an ending comes to
@@ -129,9 +129,9 @@ after (Let t) s on = on t
 after Stop s on = none
 
 pub record Tried (d : Measured) (c : ℕ) (r : Step) (iw iw′ : List ℕ) (w w′ : List Float) : Type 0 where
-  pub told : (on : ℕ → Again) → next d c (nums HELD c iw) (pinned d c (nums HELD c iw) .answer) on ≡ after r (againIn d w′) on
+  pub told : (on : ℕ → Again) → next d c (nums SETTLE_HELD c iw) (pinned d c (nums SETTLE_HELD c iw) .answer) on ≡ after r (againIn d w′) on
   pub first : FirstStays w w′
-  pub words : (x : ℕ) → HELD ≤ x → nth iw′ x ≡ nth iw x
+  pub words : (x : ℕ) → SETTLE_HELD ≤ x → nth iw′ x ≡ nth iw x
 
 -- whether there is a second answer, and which
 abbrev pub toldAgain : Bool → Settled → Again

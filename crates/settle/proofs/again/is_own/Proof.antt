@@ -1,21 +1,18 @@
 use Rattle.settle.proofs.Working.{tested-as}
-use mathlib.Core.Path.{_≡_, refl, sym, ap, ap₂, _∙_}
-use Prim.Native.Nat.{ℕ, _+_, _-_, _*_, _≤_, _<_}
+use mathlib.Core.Path.{_≡_}
+use Prim.Native.Nat.{_+_, _-_, _*_, _≤_}
 use native.Mathlib.Omega.{arith}
 use Rattle.certain.specs.Bound.{allBelow}
 use Rattle.certain.proofs.Laws.{all-none, all-more, all-done, all-broken}
 use borrow.Author.Tests.{not-true, not-false}
 use Rattle.numbers.specs.Numbers.{+0, one, at}
 use lib.Dec.{eqb}
-use lib.Ieee.{Float, eq}
+use lib.Ieee.{eq}
 use mathlib.Core.Bool.{true, cond}
 use Rattle.settle.specs.Settle.{isOwn}
 use borrow.Author.Needs.{needs}
 use Rattle.settle.proofs.again.is_own.Statement.{statement}
 use Rattle.settle.proofs.again.is_own.Tie as tie
-use Rattle.settle.proofs.again.is_own.Reads as reads
-use Rattle.settle.proofs.again.is_own.Lts as lts
-use Rattle.settle.proofs.again.unit.Reads as unit-reads
 
 abbrev Inv-loop : tie.InvT-loop
 Inv-loop limits n k i o j₀ j = (j ≤ n) × (allBelow j (λ u. eq (at limits (k * n + u)) (cond (eqb u i) one +0)) ≡ true)
@@ -23,48 +20,37 @@ Inv-loop limits n k i o j₀ j = (j ≤ n) × (allBelow j (λ u. eq (at limits (
 abbrev μ-loop : tie.MeasureT-loop
 μ-loop limits n k i o j₀ j = n - j
 
--- src/again.rt:83:13
 mul-o : tie.Need-mul-o Inv-loop μ-loop
 mul-o c = omega (arith, c .before .pre .0)
 
--- src/again.rt:85:5
 loop-holds : tie.Need-loop-holds Inv-loop μ-loop
 loop-holds c = (omega arith, all-none _)
 
--- src/again.rt:86:13
 unit-requires : tie.Need-unit-requires Inv-loop μ-loop
 unit-requires c κs = search needs
 
--- src/again.rt:87:21
 add-if1 : tie.Need-add-if1 Inv-loop μ-loop
 add-if1 c = omega (arith, c .before .before .before .before .pre .0)
 
--- src/again.rt:87:14
 mul-if1 : tie.Need-mul-if1 Inv-loop μ-loop
 mul-if1 c = omega (arith, c .before .before .before .before .pre .0)
 
--- src/again.rt:87:14
 shared-slice-read-if1 : tie.Need-shared-slice-read-if1 Inv-loop μ-loop
 shared-slice-read-if1 c = omega (arith, c .before .before .before .before .before .pre .0)
 
--- src/again.rt:88:13
 returns : tie.Need-returns Inv-loop μ-loop
 unfolding isOwn
 returns c = all-broken _ (c .before .before .before .before .loop .j) _ (c .before .before .before .loop-test .taken) (tested-as _ _ _ _ (c .before .before .unit .ensures) (not-true _ (c .if1 .taken)))
 
--- src/again.rt:90:9
 add-j : tie.Need-add-j Inv-loop μ-loop
 add-j c = omega arith
 
--- src/again.rt:85:5
 loop-less : tie.Need-loop-less Inv-loop μ-loop
 loop-less c = omega arith
 
--- src/again.rt:85:5
 loop-again : tie.Need-loop-again Inv-loop μ-loop
 loop-again c = (omega arith, all-more _ _ (c .before .before .before .before .loop .inv .1) (tested-as _ _ _ _ (c .before .before .unit .ensures) (not-false _ (c .if1 .left))))
 
--- src/again.rt:79:1
 returns-2 : tie.Need-returns-2 Inv-loop μ-loop
 unfolding isOwn
 returns-2 c = let e : c .before .loop .j ≡ c .before .before .before .args .n = omega arith in all-done _ _ _ e (c .before .loop .inv .1)

@@ -1,33 +1,22 @@
-use mathlib.Core.Path.{_≡_, refl, sym, ap, ap₂, _∙_}
+use mathlib.Core.Path.{_∙_}
 use native.Mathlib.Omega.{arith}
 use Rattle.settle.proofs.Working.{stored-again}
 use Rattle.settle.specs.Settle.{measured}
-use borrow.Author.Needs.{needs}
 use Rattle.settle.proofs.again.store_again.Statement.{statement}
 use Rattle.settle.proofs.again.store_again.Tie as tie
-use Rattle.settle.proofs.again.store_again.Reads as reads
-use Rattle.settle.proofs.again.store_again.Lts as lts
-use Rattle.settle.proofs.again.store_x.Reads as store-x-reads
-use Rattle.settle.proofs.again.store_z.Reads as store-z-reads
-use Rattle.workspace.proofs.copy_up.Reads as copy-up-reads
 
--- src/again.rt:172:5
 store-x-requires : tie.Need-store-x-requires
 store-x-requires c κs = let p = c .before .before .before .before .before .before .before .before .pre in (p .0 .n16, p .0 .ll, p .0 .lf, p .2, p .3)
 
--- src/again.rt:173:5
 copy-up-requires : tie.Need-copy-up-requires
 copy-up-requires c κs = let p = c .before .before .before .before .before .before .before .before .before .before .before .before .pre in (omega (arith, p .0 .m16), omega (arith, p .0 .m16, p .3, c .before .before .before .store-x .kept .1 .1 .0))
 
--- src/again.rt:174:5
 store-z-requires : tie.Need-store-z-requires
 store-z-requires c κs = let p = c .before .before .before .before .before .before .before .before .before .before .before .before .before .before .before .before .pre in (p .1, p .0 .p48, omega (arith, p .3, c .before .before .before .copy-up .kept .0, c .before .before .before .before .before .before .before .store-x .kept .1 .1 .0), p .2 .room)
 
--- src/again.rt:156:1
 same-length : tie.Need-same-length
 same-length c = c .before .before .store-z .kept .0 ∙ c .before .before .before .before .before .before .copy-up .kept .0 ∙ c .before .before .before .before .before .before .before .before .before .before .store-x .kept .1 .1 .0
 
--- src/again.rt:156:1
 returns : tie.Need-returns
 returns c = let a = c .before .before .before .before .before .before .before .before .before .before .before .before .before .before .before .before .before .before .before .args in let p = c .before .before .before .before .before .before .before .before .before .before .before .before .before .before .before .before .before .before .before .pre in stored-again (measured (a .n) (a .m) (a .p) (a .values .now) (a .spreads .now) (a .balances .now) (a .limits .now) (a .least .now)) (a .c) (a .iw .now) (a .w .now) (c .before .before .before .before .before .before .before .before .before .before .store-x .last .1 .1 .0) (c .before .before .before .before .before .before .copy-up .last .0) (c .before .before .store-z .last .0) (p .0 .n16) (p .1) (p .0 .p48) (c .before .before .before .before .before .before .before .before .before .before .store-x .ensures) (c .before .before .before .before .before .before .copy-up .ensures) (c .before .before .store-z .ensures)
 

@@ -1,6 +1,6 @@
 use Rattle.settle.proofs.Working.{block-done}
-use mathlib.Core.Path.{_≡_, refl, sym, ap, ap₂, _∙_}
-use Prim.Native.Nat.{ℕ, _+_, _-_, _*_, _≤_, _<_}
+use mathlib.Core.Path.{_≡_, refl, ap, _∙_}
+use Prim.Native.Nat.{_+_, _-_, _≤_}
 use native.Mathlib.Omega.{arith}
 use lib.ListN.{length, length-set}
 use lib.Ieee.{nan}
@@ -8,12 +8,8 @@ use Rattle.numbers.specs.Numbers.{at}
 use Rattle.workspace.specs.inner.Readings.{nums, Block}
 use Rattle.workspace.proofs.Writes.{written-none, written-more}
 use Rattle.settle.specs.Settle.{owned}
-use borrow.Author.Needs.{needs}
 use Rattle.settle.proofs.again.store_x.Statement.{statement}
 use Rattle.settle.proofs.again.store_x.Tie as tie
-use Rattle.settle.proofs.again.store_x.Reads as reads
-use Rattle.settle.proofs.again.store_x.Lts as lts
-use Rattle.settle.proofs.again.own.Reads as own-reads
 
 abbrev Inv-loop : tie.InvT-loop
 Inv-loop limits least w₀ iw n p c i₀ w i = (i ≤ n) × (length w ≡ length w₀) × Block 6114 i (λ t. owned n limits least c (nums 300 c iw) t (at w₀ (714 + t))) w₀ w
@@ -21,55 +17,42 @@ Inv-loop limits least w₀ iw n p c i₀ w i = (i ≤ n) × (length w ≡ length
 abbrev μ-loop : tie.MeasureT-loop
 μ-loop limits least w₀ iw n p c i₀ w i = n - i
 
--- src/again.rt:111:5
 loop-holds : tie.Need-loop-holds Inv-loop μ-loop
 loop-holds c = (omega arith, refl, written-none nan _ _ _)
 
--- src/again.rt:112:54
 add-own : tie.Need-add-own Inv-loop μ-loop
 add-own c = omega arith
 
--- src/again.rt:112:52
 mul-own : tie.Need-mul-own Inv-loop μ-loop
 mul-own c = omega arith
 
--- src/again.rt:112:52
 slice-read-own : tie.Need-slice-read-own Inv-loop μ-loop
 slice-read-own c = omega (arith, c .before .before .loop .inv .1)
 
--- src/again.rt:112:13
 own-requires : tie.Need-own-requires Inv-loop μ-loop
 own-requires c κs = (c .before .before .before .before .before .before .before .pre .0, c .before .before .before .before .before .before .before .pre .1, c .before .before .before .before .before .before .before .pre .2, c .before .before .before .before .before .before .before .pre .3)
 
--- src/again.rt:113:11
 add-w : tie.Need-add-w Inv-loop μ-loop
 add-w c = omega arith
 
--- src/again.rt:113:9
 mul-w : tie.Need-mul-w Inv-loop μ-loop
 mul-w c = omega arith
 
--- src/again.rt:113:9
 slice-write-w : tie.Need-slice-write-w Inv-loop μ-loop
 slice-write-w c = omega (arith, c .before .before .before .loop .inv .1)
 
--- src/again.rt:111:9
 add-i : tie.Need-add-i Inv-loop μ-loop
 add-i c = omega arith
 
--- src/again.rt:111:5
 loop-less : tie.Need-loop-less Inv-loop μ-loop
 loop-less c = omega arith
 
--- src/again.rt:111:5
 loop-again : tie.Need-loop-again Inv-loop μ-loop
 loop-again c = let l = c .before .before .before .loop in (omega arith, simp length-set (l .inv .1), written-more nan _ _ _ _ _ _ (omega (arith, l .inv .1)) (c .own .ensures ∙ ap (owned _ _ _ _ _ _) (l .inv .2 .before (714 + l .i) (omega arith))) (l .inv .2))
 
--- src/again.rt:107:1
 same-length : tie.Need-same-length Inv-loop μ-loop
 same-length c = c .before .loop .inv .1
 
--- src/again.rt:107:1
 returns : tie.Need-returns Inv-loop μ-loop
 returns c = let l = c .before .loop in let e : l .i ≡ c .before .before .before .before .before .before .args .n = omega arith in block-done _ _ _ _ _ _ e (l .inv .2)
 

@@ -1,50 +1,33 @@
-use mathlib.Core.Path.{_≡_, refl, sym, ap, ap₂, _∙_}
+use mathlib.Core.Path.{_∙_}
 use native.Mathlib.Omega.{arith}
 use Rattle.settle.proofs.Problems.{first-in}
-use borrow.Author.Needs.{needs}
 use Rattle.settle.proofs.problem.write_first.Statement.{statement}
 use Rattle.settle.proofs.problem.write_first.Tie as tie
-use Rattle.settle.proofs.problem.write_first.Reads as reads
-use Rattle.settle.proofs.problem.write_first.Lts as lts
-use Rattle.settle.proofs.problem.load_sides.Reads as load-sides-reads
-use Rattle.reconcile.proofs.write_scales.Reads as write-scales-reads
-use Rattle.settle.proofs.problem.write_targets.Reads as write-targets-reads
-use Rattle.workspace.proofs.blank.Reads as blank-reads
-use Rattle.workspace.proofs.load_stack.Reads as load-stack-reads
 
--- src/problem.rt:58:5
 load-stack-requires : tie.Need-load-stack-requires
 load-stack-requires c κs = let p = c .before .before .before .before .before .before .before .pre in (omega (arith, p .0 .m16), omega (arith, p .0 .n16), p .0 .lb, omega (arith, p .0 .m16, p .1))
 
--- src/problem.rt:59:5
 blank-requires : tie.Need-blank-requires
 blank-requires c κs = let p = c .before .before .before .before .before .before .before .before .before .before .before .pre in omega (arith, p .0 .m16, p .1, c .before .before .before .load-stack .kept .1 .0)
 
--- src/problem.rt:60:5
 write-scales-requires : tie.Need-write-scales-requires
 write-scales-requires c κs = let p = c .before .before .before .before .before .before .before .before .before .before .before .before .before .before .before .pre in (p .0 .n16, p .0 .ls, omega (arith, p .1, c .before .before .before .blank .kept .0, c .before .before .before .before .before .before .before .load-stack .kept .1 .0))
 
--- src/problem.rt:61:5
 write-targets-requires : tie.Need-write-targets-requires
 write-targets-requires c κs = let p = c .before .before .before .before .before .before .before .before .before .before .before .before .before .before .before .before .before .before .before .pre in (p .0 .n16, p .0 .lv, p .0 .ls, omega (arith, p .1, c .before .before .before .write-scales .kept .1 .0, c .before .before .before .before .before .before .before .blank .kept .0, c .before .before .before .before .before .before .before .before .before .before .before .load-stack .kept .1 .0))
 
--- src/problem.rt:62:5
 load-stack-requires-2 : tie.Need-load-stack-requires-2
 load-stack-requires-2 c κs = let p = c .before .before .before .before .before .before .before .before .before .before .before .before .before .before .before .before .before .before .before .before .before .before .before .pre in (omega (arith, p .0 .p48), omega (arith, p .0 .n16), p .0 .ll, omega (arith, p .0 .p48, p .1, c .before .before .before .write-targets .kept .1 .1 .0, c .before .before .before .before .before .before .before .write-scales .kept .1 .0, c .before .before .before .before .before .before .before .before .before .before .before .blank .kept .0, c .before .before .before .before .before .before .before .before .before .before .before .before .before .before .before .load-stack .kept .1 .0))
 
--- src/problem.rt:63:26
 add-load-sides : tie.Need-add-load-sides
 add-load-sides c = let p = c .before .before .before .before .before .before .before .before .before .before .before .before .before .before .before .before .before .before .before .before .before .before .before .before .before .before .before .pre in omega (arith, p .0 .n16)
 
--- src/problem.rt:63:5
 load-sides-requires : tie.Need-load-sides-requires
 load-sides-requires c κs = let p = c .before .before .before .before .before .before .before .before .before .before .before .before .before .before .before .before .before .before .before .before .before .before .before .before .before .before .before .pre in (omega (arith, p .0 .lf), omega (arith, p .0 .n16, p .0 .p48, p .1, c .before .before .before .load-stack2 .kept .1 .0, c .before .before .before .before .before .before .before .write-targets .kept .1 .1 .0, c .before .before .before .before .before .before .before .before .before .before .before .write-scales .kept .1 .0, c .before .before .before .before .before .before .before .before .before .before .before .before .before .before .before .blank .kept .0, c .before .before .before .before .before .before .before .before .before .before .before .before .before .before .before .before .before .before .before .load-stack .kept .1 .0))
 
--- src/problem.rt:44:1
 same-length : tie.Need-same-length
 same-length c = c .before .before .load-sides .kept .1 .0 ∙ c .before .before .before .before .before .before .load-stack2 .kept .1 .0 ∙ c .before .before .before .before .before .before .before .before .before .before .write-targets .kept .1 .1 .0 ∙ c .before .before .before .before .before .before .before .before .before .before .before .before .before .before .write-scales .kept .1 .0 ∙ c .before .before .before .before .before .before .before .before .before .before .before .before .before .before .before .before .before .before .blank .kept .0 ∙ c .before .before .before .before .before .before .before .before .before .before .before .before .before .before .before .before .before .before .before .before .before .before .load-stack .kept .1 .0
 
--- src/problem.rt:44:1
 returns : tie.Need-returns
 returns c = let a = c .before .before .before .before .before .before .before .before .before .before .before .before .before .before .before .before .before .before .before .before .before .before .before .before .before .before .before .before .before .before .args in let p = c .before .before .before .before .before .before .before .before .before .before .before .before .before .before .before .before .before .before .before .before .before .before .before .before .before .before .before .before .before .before .pre in let C = c .before .before .before .before .before .before .before .before .before .before .before .before .before .before .before .before .before .before .before .before .before .before .load-stack in let D = c .before .before .before .before .before .before .before .before .before .before .before .before .before .before .before .before .before .before .blank in let E = c .before .before .before .before .before .before .before .before .before .before .before .before .before .before .write-scales in let F = c .before .before .before .before .before .before .before .before .before .before .write-targets in let G = c .before .before .before .before .before .before .load-stack2 in let H = c .before .before .load-sides in first-in (a .n) (a .m) (a .p) (a .values .now) (a .spreads .now) (a .balances .now) (a .limits .now) (a .least .now) (a .w .now) (C .last .1 .0) (D .last .0) (E .last .1 .0) (F .last .1 .1 .0) (G .last .1 .0) (H .last .1 .0) (p .0 .n16) (p .0 .m16) (p .0 .lf) (C .ensures) (D .ensures) (E .ensures) (F .ensures) (G .ensures) (H .ensures)
 
