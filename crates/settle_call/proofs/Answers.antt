@@ -1,22 +1,21 @@
 -- Laws of answers: what is given by an ending, and what a call then leaves.
 use mathlib.Core.Path.{_≡_, refl, sym, ap, ap₂, _∙_}
-use mathlib.Core.Bool.{Bool, true, false, cond}
+use mathlib.Core.Bool.{true, false}
 use mathlib.Core.List.{List, [], _∷_, _++_}
 use mathlib.Core.Logic.{⊎-elim}
 use Prim.Native.Nat.{ℕ, _+_, _≤_}
 use native.Mathlib.Omega.{arith}
 use types.Run.{OneOf}
 use denote.Enum.Declared.{tagOf}
-use lib.ListN.{length, take, drop}
+use lib.ListN.{length, drop}
 use lib.Ieee.{Float, binary64, ofBits, le}
 use Rattle.numbers.specs.Numbers.{+0}
-use Rattle.workspace.specs.Tables.{Answer, done, refused, outcomeOf, floats, words, cleared, isLate, isRoom, isTolerance}
+use Rattle.workspace.specs.Tables.{Answer, done, refused, outcomeOf, floats, words, cleared, isLate, isTolerance}
 use Rattle.workspace.specs.declared.Refusal.{Refusal}
 use Rattle.workspace.specs.declared.Outcome.{Outcome}
 use Rattle.workspace.specs.declared.Outcome.the-variants.{Done, Refused}
 use Rattle.workspace.specs.inner.Readings.{vec, Cleared}
 use Rattle.workspace.proofs.Parts.{vec-front, front-cleared}
-use Rattle.workspace.proofs.Readings.{lit-+0}
 use Rattle.lsei.specs.Lsei.{Solution}
 use Rattle.lsei.specs.inner.Work.{endingAnswer}
 use Rattle.lsei.specs.declared.Ending.{Ending}
@@ -24,7 +23,7 @@ use Rattle.lsei.specs.declared.Ending.the-variants as E
 use Rattle.lsei.proofs.Ending.{the-type}
 use Rattle.settle.specs.Settle.{Measured, Settled}
 use Rattle.settle.specs.inner.Work.{settledIn, endedSettled}
-use Rattle.settle_call.specs.Promise.{boundOf, settleCall, Settles, reported, certifyCall, Certifies, areSizes, areLengths, numbersTested}
+use Rattle.settle_call.specs.Promise.{Settles, reported, certifyCall, Certifies}
 use Rattle.settle_call.specs.inner.Work.{toldBy, SettledGiven, calledOn}
 use Rattle.settle_call.specs.declared.Bounded.{Bounded}
 use Rattle.settle_call.specs.declared.Bounded.the-variants as bounded

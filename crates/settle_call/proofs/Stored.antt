@@ -13,7 +13,6 @@ use Rattle.exact.specs.Exact.{Finite}
 use Rattle.workspace.specs.Tables.{Answer, done, refused, call, test, outcomeOf, output, isTolerance, isRoom, has}
 use Rattle.workspace.specs.declared.Refusal.{Refusal}
 use Rattle.workspace.specs.declared.Refusal.the-variants.{Tolerance}
-use Rattle.workspace.specs.declared.Outcome.{Outcome}
 use Rattle.workspace.specs.declared.Outcome.the-variants.{Done, Refused}
 use Rattle.workspace.proofs.Tests.{and-true}
 use Rattle.lsei.specs.Lsei.{Solution}
@@ -25,10 +24,9 @@ use Rattle.reconcile_call.proofs.Lowest.{lowest-first}
 use Rattle.settle.specs.Settle.{Measured, Settled, certified, firstOf, settled}
 use Rattle.settle.specs.Claims.{Near, ofDay}
 use Rattle.settle.proofs.Claims as shown
-use Rattle.settle_call.specs.Promise.{areSizes, areLengths, inTurn, numbersTested, boundOf, settleCall, Settles, reported, certifyCall, Certifies}
+use Rattle.settle_call.specs.Promise.{areSizes, areLengths, inTurn, numbersTested, boundOf, settleCall, Settles, reported, certifyCall}
 use Rattle.settle_call.specs.Claims.{SettledIsNear, CertifiedIsNear, GivesBack, OrdinaryCalls, OneAnswer, OneCertificate}
 use Rattle.settle_call.specs.inner.Work.{valuesTold, leastsTold, dataHas}
-use Rattle.settle_call.specs.declared.Bounded.{Bounded}
 use Rattle.settle_call.specs.declared.Bounded.the-variants as bounded
 use Rattle.settle_call.proofs.Testing.{follows}
 

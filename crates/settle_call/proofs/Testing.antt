@@ -1,6 +1,6 @@
 -- Laws of the tests: one after the other, and what they come to before whatever follows.
 use mathlib.Core.Path.{_≡_, refl, sym, ap, _∙_, subst}
-use mathlib.Core.Bool.{Bool, true, false, cond, _&&_, true≢false}
+use mathlib.Core.Bool.{Bool, true, false, cond, _&&_}
 use mathlib.Core.Logic.{⊎-elim}
 use mathlib.Core.List.{List}
 use Prim.Native.Nat.{ℕ, zero, suc, _+_, _-_, _*_, _<_, _≤_}
@@ -20,7 +20,7 @@ use Rattle.workspace.proofs.Tests.{and-true, equalities-le}
 use Rattle.interval.specs.Intervals.{isFinite, isPositive}
 use Rattle.settle.specs.Settle.{Measured, Settled}
 use Rattle.settle.specs.inner.Work.{Input}
-use Rattle.settle_call.specs.Promise.{areSizes, valueTold, leastTold, after, inTurn, numbersTested}
+use Rattle.settle_call.specs.Promise.{areSizes, after, inTurn, numbersTested}
 use Rattle.settle_call.specs.Claims.{Lowest, none-refuses, this-refuses, LowestFirst}
 use Rattle.settle_call.specs.inner.Work.{valuesTold, leastsTold, toldFrom, dataHas, calledOn}
 

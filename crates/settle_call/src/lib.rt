@@ -48,9 +48,9 @@ fn give(
     let lsei::Ending::Done = ending else {
         return tell(ending.outcome(), far);
     };
-    workspace::unload(w, volumes, settle::FIRST_X, n);
-    workspace::copy_strided(w, multipliers, settle::FIRST_Y, 1, 0, m);
-    workspace::copy_strided(w, multipliers, settle::FIRST_Z, 1, m, p);
+    workspace::unload(w, volumes, settle::SETTLE_X, n);
+    workspace::copy_strided(w, multipliers, settle::SETTLE_Y, 1, 0, m);
+    workspace::copy_strided(w, multipliers, settle::SETTLE_Z, 1, m, p);
     Bounded::Done(far)
 }
 

@@ -1,6 +1,6 @@
 -- `give`: nothing, or the volumes and their multipliers.
 use borrow.Author.Needs.{needs}
-use mathlib.Core.Path.{_≡_, sym, _∙_}
+use mathlib.Core.Path.{_∙_}
 use native.Mathlib.Omega.{arith}
 use Rattle.lsei_call.proofs.Giving.{multipliers-are}
 use Rattle.settle.specs.inner.Work.{settledIn}

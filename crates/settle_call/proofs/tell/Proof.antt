@@ -1,5 +1,4 @@
 -- `tell`: a bound, or why not.
-use mathlib.Core.Path.{_≡_, sym}
 use borrow.Author.Needs.{needs}
 use Rattle.settle_call.proofs.tell.Statement.{statement}
 use Rattle.settle_call.proofs.tell.Tie as tie

@@ -1,14 +1,14 @@
 -- `Volumes::certify`: the tests, then the bound.
 use borrow.Author.Needs.{needs}
-use mathlib.Core.Path.{_≡_, sym, ap, _∙_}
+use mathlib.Core.Path.{sym, ap, _∙_}
 use mathlib.Core.List.{List, []}
 use native.Mathlib.Omega.{arith}
-use lib.ListN.{length, take, drop, length-drop}
+use lib.ListN.{length, take, length-drop}
 use lib.Seq.{length-take-le}
 use lib.Ieee.{Float, binary64, ofBits}
 use Rattle.workspace.proofs.Parts.{lent-is}
 use Rattle.settle.specs.Settle.{measured, certified}
-use Rattle.settle_call.specs.Promise.{certifyCall, reported}
+use Rattle.settle_call.specs.Promise.{reported}
 use Rattle.settle_call.proofs.Testing.{input, passed, stopped}
 use Rattle.settle_call.proofs.Answers.{certify-is, certify-stopped, certified-all}
 use Rattle.workspace.specs.Tables.{done}

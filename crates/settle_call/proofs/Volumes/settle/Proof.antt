@@ -1,7 +1,6 @@
 -- `Volumes::settle`: the tests, then the answer.
 use borrow.Author.Needs.{needs}
-use mathlib.Core.Path.{_≡_, sym, ap, _∙_}
-use native.Mathlib.Omega.{arith}
+use mathlib.Core.Path.{sym, _∙_}
 use lib.ListN.{length}
 use Rattle.settle.specs.Settle.{measured, settled}
 use Rattle.settle_call.specs.Promise.{settleCall}

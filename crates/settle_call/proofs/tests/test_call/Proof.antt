@@ -1,7 +1,6 @@
 -- `test_call`: the tests in their order.
 use borrow.Author.Needs.{needs}
-use mathlib.Core.Path.{_≡_, sym, _∙_}
-use native.Mathlib.Omega.{arith}
+use mathlib.Core.Path.{sym, _∙_}
 use borrow.Author.Tests.{not-true, not-false}
 use Rattle.settle.specs.Settle.{measured}
 use Rattle.settle_call.proofs.Testing.{sizes, input, size-told, length-told, answers-told, room-told, tolerance-told, value-told, rest-told}

@@ -1,7 +1,7 @@
 -- `test_leasts`: what is still to test gives the answer.
 use borrow.Author.Needs.{needs}
 use mathlib.Core.Path.{_≡_, sym, _∙_}
-use Prim.Native.Nat.{ℕ, _+_, _-_, _≤_}
+use Prim.Native.Nat.{_-_, _≤_}
 use native.Mathlib.Omega.{arith}
 use Rattle.settle_call.specs.inner.Work.{toldFrom, leastsTold}
 use Rattle.settle_call.proofs.Testing.{told-none, told-on, told-out, told-all}
