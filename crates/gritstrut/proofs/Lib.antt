@@ -5,3 +5,4 @@ pub mod Checking
 pub mod Mends
 pub mod Files
 pub mod Searches
+pub mod Settling

@@ -6,3 +6,4 @@ pub mod Checking
 pub mod Mending
 pub mod Writing
 pub mod Searching
+pub mod Settling
