@@ -13,9 +13,9 @@
  * - What the caller must see to, since no function can test it: every pointer is not null, aligned
  *   for its type and valid for the length passed with it (a length of 0 goes with any pointer that
  *   is not null and is aligned); a slice that is written overlaps no other slice of the call; and
- *   the pointers of single results (rank, rounds, factorings, place, relaxation, tally,
- *   misfit, finding, kept_bytes, meters, written) are distinct and overlap nothing. The processor rounds to
- *   nearest and keeps subnormal numbers, as a C program begins (some that are linked with
+ *   the pointers of single results (rank, rounds, factorings, place, bound, relaxation, tally,
+ *   misfit, finding, kept_bytes, meters, written) are distinct and overlap nothing. The processor
+ *   rounds to nearest and keeps subnormal numbers, as a C program begins (some that are linked with
  *   -ffast-math do not).
  *   Everything else is taken: any size and length, and any bit pattern as a double, NaN and
  *   infinities too.
@@ -47,7 +47,8 @@
  *     11 GRITSTRUT_DEPENDENT: the rank of    untouched    first 8192 and 512 entries zero
  *        the equalities too low
  *     12 GRITSTRUT_TOTALISER: a reading over untouched    untouched
- *        999,999; of gritstrut_suspect a
+ *        999,999; of gritstrut_suspect and
+ *        of settled volumes a
  *        value that is not finite
  *     13 GRITSTRUT_SPREAD: a spread that is  untouched    untouched
  *        not finite and positive
@@ -57,7 +58,9 @@
  *     15 GRITSTRUT_BOUND: a bound that is    untouched    untouched
  *        NaN, a lower one of +infinity, an
  *        upper one of -infinity (not of the
- *        step that is not strict)
+ *        step that is not strict); of
+ *        settled volumes a least that is not
+ *        finite
  *     16 GRITSTRUT_CROSSED: a lower bound    untouched    untouched
  *        above its upper one (of a search)
  *     17 GRITSTRUT_NONFINITE: a number that  the machine  first 8192 and 512 entries zero
@@ -75,14 +78,14 @@
  *   workspace past the first 8192 and 512 never change. Inputs never change, except b under
  *   gritstrut_update and gritstrut_packed_update.
  * - Single results are stored through their pointers only where the number is 0; but a place only
- *   where it is 5, 11, 12 or 13 (and 15, of gritstrut_write_problem and gritstrut_search_begin), a
- *   step's report where it is 0, 5, 6, 7 or 15, and its tally where it is 0, 5, 6 or 7. Else they
- *   are untouched.
- * - A place with 12 and 13 is a meter, with 15 a variable. With 5 and 11 it says where rank was
- *   lost: the index, from 0, of the column of the factored matrix that stands next after those that
- *   could be taken. With 11 the columns are the equalities: if one was entered twice, and the
- *   others are independent and in like units, the place is one of the two (docs/DIFFERENCES.md,
- *   "What a place names", says how far that can be relied on).
+ *   where it is 5, 11, 12 or 13 (and 15, of gritstrut_write_problem, gritstrut_search_begin,
+ *   gritstrut_settle and gritstrut_certify), a step's report where it is 0, 5, 6, 7 or 15, and its
+ *   tally where it is 0, 5, 6 or 7. Else they are untouched.
+ * - A place with 12 and 13 is a meter, with 15 a variable (of settled volumes a limit). With 5
+ *   and 11 it says where rank was lost: the index, from 0, of the column of the factored matrix
+ *   that stands next after those that could be taken. With 11 the columns are the equalities: if
+ *   one was entered twice, and the others are independent and in like units, the place is one of
+ *   the two (docs/DIFFERENCES.md, "What a place names", says how far that can be relied on).
  * - Units: the rank is told at any scale, but an answer is right only where the largest entry of
  *   each matrix that is factored is between 1e-137 and 1e153 in magnitude. Outside it may be done,
  *   finite and of the wrong sign (docs/DIFFERENCES.md, "A norm for rank only").
@@ -191,11 +194,11 @@ uint32_t gritstrut_lsei(size_t n, size_t mc, size_t me, size_t mg,
  * zero: the least squares of the corrections, each over its meter's spread, with no volume below
  * zero, as LSEI works them out. Where the balances fix a meter at zero, or one stands twice, that
  * can be far from the least though the balances close (docs/MANUAL.md, "A day that closes and is
- * wrong"). In: the totaliser readings before and after (n each, 0 to 999,999; the volume between them
- * is after - before, plus 1,000,000 where that is below zero, so a full turn cannot be seen),
- * spreads (n), balances (m * n, a row of coefficients each). Out: volumes (n), and named (n): 1
- * where the volume is below zero, as rounding can leave it, or NaN, else 0. Volumes are not
- * clipped. After 1, 2 and 3 the meters are tested, the lowest first, each for 12 and then 13.
+ * wrong"). In: the totaliser readings before and after (n each, 0 to 999,999; the volume between
+ * them is after - before, plus 1,000,000 where that is below zero, so a full turn cannot be
+ * seen), spreads (n), balances (m * n, a row of coefficients each). Out: volumes (n), and named
+ * (n): 1 where the volume is below zero, as rounding can leave it, or NaN, else 0. Volumes are
+ * not clipped. After 1, 2 and 3 the meters are tested, the lowest first, each for 12 and then 13.
  * place: the meter with 12 and 13; with 11 the balance, with 5 as LSEI's: the meter if m is 0.
  * docs/MANUAL.md is for the person at the site. */
 uint32_t gritstrut_reconcile(size_t n, size_t m, const uint32_t *before, size_t before_len,
@@ -204,6 +207,45 @@ uint32_t gritstrut_reconcile(size_t n, size_t m, const uint32_t *before, size_t 
                              const double *balances, size_t balances_len,
                              double *volumes, size_t volumes_len, uint8_t *named, size_t named_len,
                              uint32_t *place, double *w, size_t w_len, uint32_t *iw, size_t iw_len);
+
+/* A day's volumes that can be signed for, of n values, from 0 to 16, as measured, of any sign,
+ * with their spreads, under m balances, from 0 to 16, whose sums are wanted zero, and p limits,
+ * from 0 to 48, whose sums are wanted at least `least`: floors as they are, ceilings with their
+ * signs changed, a volume's own zero as a row of one 1. In: values (n), spreads (n), balances (m
+ * * n), limits (p * n), least (p). Out: settled (n), multipliers (m + p, those of the balances
+ * first), and bound: no volumes that close the balances, keep the limits and fit the values as
+ * well lie farther than bound spreads from settled in any value, proved over exact numbers;
+ * +infinity where nothing is certain.
+ * Settled are LSEI's volumes where they are kept, every sum within the tolerance, and their bound
+ * is at most 0x1p-10: so an ordinary day has gritstrut_reconcile's, bit for bit. Else they are
+ * worked again with the limits that hold as equalities, and the better is taken: one that is kept
+ * before one that is not, and of two alike that of the smaller bound. docs/RULES.md, "Settled
+ * volumes".
+ * After 1, 2 and 3 a tolerance that is NaN or below zero is 10; then value by value 12, not
+ * finite, and 13; then limit by limit 15, a least that is not finite; then LSEI's 5, 6, 7 and 11.
+ * place: the value with 12 and 13, the limit with 15; with 11 the balance, with 5 as LSEI's. */
+uint32_t gritstrut_settle(size_t n, size_t m, size_t p, const double *values, size_t values_len,
+                          const double *spreads, size_t spreads_len,
+                          const double *balances, size_t balances_len,
+                          const double *limits, size_t limits_len,
+                          const double *least, size_t least_len, double tolerance,
+                          double *settled, size_t settled_len,
+                          double *multipliers, size_t multipliers_len,
+                          double *bound, uint32_t *place,
+                          double *w, size_t w_len, uint32_t *iw, size_t iw_len);
+
+/* The bound of volumes and multipliers from anywhere, settled (n) and multipliers (m + p), which
+ * are in: +infinity where one of them is not finite, or a limit's multiplier is below zero. What
+ * gritstrut_settle stored gives its bound back. Refused as that, but by 10, 5, 6, 7 and 11. */
+uint32_t gritstrut_certify(size_t n, size_t m, size_t p, const double *values, size_t values_len,
+                           const double *spreads, size_t spreads_len,
+                           const double *balances, size_t balances_len,
+                           const double *limits, size_t limits_len,
+                           const double *least, size_t least_len,
+                           const double *settled, size_t settled_len,
+                           const double *multipliers, size_t multipliers_len,
+                           double *bound, uint32_t *place,
+                           double *w, size_t w_len, uint32_t *iw, size_t iw_len);
 
 /* What the tests find of all meters together. */
 typedef struct gritstrut_finding {

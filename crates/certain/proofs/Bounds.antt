@@ -22,7 +22,7 @@ use Rattle.interval.proofs.Least.{up-is}
 use Rattle.interval.proofs.Containment.{finite, larger-is, adds, multiplies, divides, roots, point-holds, plus-holds, minus-holds, times-holds, product-holds, magnitude-bounds, sum-holds, up-bounds}
 use Rattle.certain.specs.Day.{Day, Sound, AsGood, WithinTolerance, apart, balanced, limited, reach, exactly, read, report}
 use Rattle.certain.specs.Bound.{allBelow, areFinite, arePositive, noneNegative, dayFinite, reportFinite, rowWithin, pullWithin, fitTerm, openTerm, slackTerm, fitUp, openUp, slackUp, fourfold, reachUp, bound, closes, keeps, kept}
-use Rattle.certain.specs.Claims.{AllFinite, ReachIsBounded, WithinBound, NoMeterBeyond, BoundIsOfNumbers, KeptIsWithin}
+use Rattle.certain.specs.Claims.{AllFinite, ReachIsBounded, WithinBound, NoMeterBeyond, BoundIsEnough, BoundIsOfNumbers, KeptIsWithin}
 use Rattle.certain.proofs.Certain.{none-farther, no-meter-farther}
 use Rattle.certain.proofs.Terms as terms
 
@@ -221,16 +221,19 @@ square-of : (q b : ℚ) → q ≤ℚ b *ℚ b → q ≤ℚ squared b
 unfolding squared
 square-of q b h = h
 
-pub no-meter-beyond : NoMeterBeyond
+pub bound-is-enough : BoundIsEnough
 unfolding bound
-no-meter-beyond n m p values spreads balances limits least x y z g x' good i l =
-    let d = read n m p values spreads balances limits least in
-    let r = report x y z in
+bound-is-enough n m p values spreads balances limits least x y z g =
+    let r = reach (read n m p values spreads balances limits least) (report x y z) in
     let R = reachUp n m p values spreads balances limits least x y z in
     let B = nextUp (sqrtOf R) in
     let root = roots R (reach-fits n m p values spreads balances limits least x y z) in
-    no-meter-farther d r (sound n m p values spreads balances limits least x y z (finite-root R g)) (value B) (root .positive g)
-    (square-of (reach d r) (value B) (root .square (reach d r) (reached n m p values spreads balances limits least x y z) g)) x' good i l
+    (sound n m p values spreads balances limits least x y z (finite-root R g), root .positive g, square-of r (value B) (root .square r (reached n m p values spreads balances limits least x y z) g))
+
+pub no-meter-beyond : NoMeterBeyond
+no-meter-beyond n m p values spreads balances limits least x y z g x' good i l =
+    let e = bound-is-enough n m p values spreads balances limits least x y z g in
+    no-meter-farther (read n m p values spreads balances limits least) (report x y z) (e .0) (value (bound n m p values spreads balances limits least x y z)) (e .1) (e .2) x' good i l
 
 pub bound-is-of-numbers : BoundIsOfNumbers
 unfolding bound

@@ -107,6 +107,12 @@ NoMeterBeyond = (n m p : ℕ) (values spreads balances limits least x y z : List
     → let B = bound n m p values spreads balances limits least x y z in let d = read n m p values spreads balances limits least in
     Finite B → (x' : ℕ → ℚ) → AsGood d (exactly x) x' → (i : ℕ) → i < n → absℚ (exactly x i -ℚ x' i) ≤ℚ value B *ℚ exactly spreads i
 
+-- The square of a finite B is at least the reach, of a day and a report that are what the theorems ask for.
+abbrev pub BoundIsEnough : Type 0
+BoundIsEnough = (n m p : ℕ) (values spreads balances limits least x y z : List Float)
+    → let B = bound n m p values spreads balances limits least x y z in let d = read n m p values spreads balances limits least in let r = report x y z in
+    Finite B → Sound d r × (whole 0 ≤ℚ value B) × (reach d r ≤ℚ squared (value B))
+
 -- A finite B says the same of the numbers as a finite R.
 abbrev pub BoundIsOfNumbers : Type 0
 BoundIsOfNumbers = (n m p : ℕ) (values spreads balances limits least x y z : List Float)

@@ -6,3 +6,4 @@ pub mod Mends
 pub mod Files
 pub mod Searches
 pub mod Suspecting
+pub mod Settling

@@ -7,3 +7,4 @@ pub mod Mending
 pub mod Writing
 pub mod Searching
 pub mod Suspecting
+pub mod Settling

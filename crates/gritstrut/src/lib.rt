@@ -6,6 +6,7 @@ pub mod problems;
 pub mod readings;
 mod runs;
 mod steps;
+mod volumes;
 
 ghost use mathlib.Core.Path.{_≡_};
 ghost use Rattle.numbers.specs.Root.{sqrtOf, sumOf};
@@ -32,6 +33,8 @@ pub use runs::gritstrut_search_tell;
 pub use steps::gritstrut_step;
 pub use steps::gritstrut_strict_step;
 pub use steps::gritstrut_tally_raise;
+pub use volumes::gritstrut_certify;
+pub use volumes::gritstrut_settle;
 
 // The version that include/gritstrut.h names: major, minor and patch, two digits each.
 #[no_mangle]

@@ -41,9 +41,9 @@ rows-are : (o m n : ℕ) (g : ℕ → Float) (w w′ : List Float) → n ≤ m �
 unfolding grid
 rows-are o m n g w w′ h r = stack-is o n n w′ (λ k. tab n (λ j. diagonal g k j)) (λ k hk. vec-is (o + k * 18) n w′ (λ j. diagonal g k j) (λ j hj. r .entries k j hk (omega arith)))
 
-pub scales-are : (n : ℕ) (s w w′ : List Float) → Laid 732 n n (λ k j. diagonal (scale s) k j) w w′ → Scaled n s w w′
+pub scales-are : (n : ℕ) (s w w′ : List Float) → n ≤ 16 → Laid 732 n n (λ k j. diagonal (scale s) k j) w w′ → Scaled n s w w′
 unfolding scales
-scales-are n s w w′ r = record { the-e = rows-are 732 n n (scale s) w w′ (omega arith) r; before = r .before }
+scales-are n s w w′ h r = record { the-e = rows-are 732 n n (scale s) w w′ (omega arith) r; before = r .before; after = λ x l. r .after x (omega arith) }
 
 pub floors-are : (n : ℕ) (w w′ : List Float) → Laid 1056 (n + 1) n (λ k j. diagonal (λ _. one) k j) w w′ → Floored n w w′
 unfolding identity sides

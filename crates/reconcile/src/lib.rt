@@ -12,7 +12,7 @@ ghost use Rattle.reconcile.specs.inner.Work.{Readable, Scaled, Floored, 
 // ---- the problem, where LSEI reads it
 
 // The rows of E: 1 / spread on the diagonal.
-fn write_scales(spreads: &[f64], w: &mut [f64], n: usize)
+pub fn write_scales(spreads: &[f64], w: &mut [f64], n: usize)
     requires { ⌜ (n ≤ 16) × (length (now spreads) ≡ n) × (LSEI_ROOM ≤ length (now w)) ⌝ }
     ensures { λ _. ⌜ Scaled n (now (spreads .entry)) (now (w .entry)) (now (w .exit)) ⌝ }
 {

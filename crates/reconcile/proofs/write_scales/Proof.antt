@@ -50,7 +50,7 @@ same-length c = c .before .loop .inv .1
 returns : tie.Need-returns Inv-loop μ-loop
 returns c = let l = c .before .loop in
     let e : l .i ≡ c .before .before .before .before .args .n = omega arith in
-    scales-are _ _ _ _ (rw e at (l .inv .2))
+    scales-are _ _ _ _ (c .before .before .before .before .pre .0) (rw e at (l .inv .2))
 
 pub write-scales-spec : {M : Type 1} → statement M
 write-scales-spec =

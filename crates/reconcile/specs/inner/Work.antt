@@ -28,6 +28,7 @@ pub record Readable (n : ℕ) (before after : List ℕ) (spreads : List Float) :
 pub record Scaled (n : ℕ) (spreads w w′ : List Float) : Type 0 where
   pub the-e : stack LSEI_E n n w′ ≡ scales n spreads
   pub before : (x : ℕ) → x < LSEI_E → at w′ x ≡ at w x
+  pub after : (x : ℕ) → LSEI_F ≤ x → at w′ x ≡ at w x
 
 -- the rows of G, each with its side behind it
 pub record Floored (n : ℕ) (w w′ : List Float) : Type 0 where

@@ -1,0 +1,5 @@
+pub mod Problems
+pub mod Working
+pub mod Tries
+pub mod Claims
+pub mod Days
