@@ -211,8 +211,8 @@ uint32_t gritstrut_reconcile(size_t n, size_t m, const uint32_t *before, size_t 
 /* A day's volumes that can be signed for, of n values, from 0 to 16, as measured, of any sign,
  * with their spreads, under m balances, from 0 to 16, whose sums are wanted zero, and p limits,
  * from 0 to 48, whose sums are wanted at least `least`: floors as they are, ceilings with their
- * signs changed, a volume's own zero as a row of one 1. In: values (n), spreads (n), balances (m
- * * n), limits (p * n), least (p). Out: settled (n), multipliers (m + p, those of the balances
+ * signs changed, a volume's own zero as a row of one 1. In: values (n), spreads (n), balances
+ * (m * n), limits (p * n), least (p). Out: settled (n), multipliers (m + p, those of the balances
  * first), and bound: no volumes that close the balances, keep the limits and fit the values as
  * well lie farther than bound spreads from settled in any value, proved over exact numbers;
  * +infinity where nothing is certain.
