@@ -13,9 +13,9 @@
  * - What the caller must see to, since no function can test it: every pointer is not null, aligned
  *   for its type and valid for the length passed with it (a length of 0 goes with any pointer that
  *   is not null and is aligned); a slice that is written overlaps no other slice of the call; and
- *   the pointers of single results (rank, rounds, factorings, place, relaxation, tally,
- *   misfit, finding, kept_bytes, meters, written) are distinct and overlap nothing. The processor rounds to
- *   nearest and keeps subnormal numbers, as a C program begins (some that are linked with
+ *   the pointers of single results (rank, rounds, factorings, place, relaxation, tally, misfit,
+ *   finding, kept_bytes, meters, written) are distinct and overlap nothing. The processor rounds
+ *   to nearest and keeps subnormal numbers, as a C program begins (some that are linked with
  *   -ffast-math do not).
  *   Everything else is taken: any size and length, and any bit pattern as a double, NaN and
  *   infinities too.
@@ -228,8 +228,8 @@ enum {
  * new spread is that of the corrected volume. A test is the correction over its own deviation; the
  * misfit is the sum of the squares of all corrections in spreads. They agree where the misfit is at
  * most the 95 % limit of chi-square for the freedom and every test is within 3; a NaN disagrees.
- * A meter's error of 4 * spread / sqrt(share) is found five days in six; one sound day in twenty
- * disagrees. Limits, as that no volume is below zero, are not seen. docs/RULES.md, "Tests of
+ * A meter's error of 4 * spread / sqrt(share) is found at least five days in six; one sound day in
+ * twenty disagrees. Limits, as that no volume is below zero, are not seen. docs/RULES.md, "Tests of
  * meters", has all of it. After 1, 2 and 3 the meters are tested, the lowest first, each for 12
  * (its value is not finite) and then 13. place: the meter with 12 and 13, stored with these two
  * alone. */
