@@ -274,8 +274,8 @@ enum {
  * new spread is that of the corrected volume. A test is the correction over its own deviation; the
  * misfit is the sum of the squares of all corrections in spreads. They agree where the misfit is at
  * most the 95 % limit of chi-square for the freedom and every test is within 3; a NaN disagrees.
- * A meter's error of 4 * spread / sqrt(share) is found five days in six; one sound day in twenty
- * disagrees. Limits, as that no volume is below zero, are not seen. docs/RULES.md, "Tests of
+ * A meter's error of 4 * spread / sqrt(share) is found at least five days in six; one sound day in
+ * twenty disagrees. Limits, as that no volume is below zero, are not seen. docs/RULES.md, "Tests of
  * meters", has all of it. After 1, 2 and 3 the meters are tested, the lowest first, each for 12
  * (its value is not finite) and then 13. place: the meter with 12 and 13, stored with these two
  * alone. */

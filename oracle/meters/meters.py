@@ -1,7 +1,9 @@
 #!/usr/bin/env python3
 """The tests of meters (docs/RULES.md, "Tests of meters") against exact fractions, and what they find on a plant's days.
 
-    oracle/meters/meters.py exact --count 100000 --seed 1   draws plants, works the tests out in fractions, and compares
+    oracle/meters/meters.py exact --count 100000 --seed 1   draws plants, works the tests out in fractions, and compares:
+                                                            misfit over itself or 1, tests over its root or 1, shares and
+                                                            new spreads over spreads; tests where the share is above 2^-18
     oracle/meters/meters.py days --count 10000 --seed 1     draws days of examples/plant.sheet: false alarms, who is named
     oracle/meters/meters.py stuck                           three days of it with one meter wrong: all that is told
 
@@ -18,7 +20,9 @@ from fractions import Fraction
 
 ROOT = os.path.dirname(os.path.dirname(os.path.dirname(os.path.abspath(__file__))))
 LIMITS = [Fraction(x, 1000) for x in (0, 3841, 5991, 7815, 9488, 11070, 12592, 14067, 15507, 16919, 18307, 19675, 21026, 22362, 23685, 24996, 26296)]
-TINY, SEEN, NEAR, CLOSE = Fraction(1, 2 ** 20), Fraction(1, 2 ** 18), 1e-12, 1e-9
+TINY, SEEN, CLOSE = Fraction(1, 2 ** 20), Fraction(1, 2 ** 18), 1e-9
+# how near the numbers must be: where the spreads lie within this factor of each other, and elsewhere
+ALIKE, NEAR, FAR = 200, 1e-12, 1e-9
 
 
 # ---- the library
@@ -214,13 +218,15 @@ def compare(library, values, spreads, rows, still, most, told):
             off["tests"] = max(off.get("tests", 0.0), abs(found["tests"][i] - owed.tests[i]) / unit)
         if 1 - share > SEEN or share == 1:
             off["new spreads"] = max(off.get("new spreads", 0.0), abs(found["spreads"][i] - owed.spreads[i]) / spreads[i])
+    alike = max(spreads) <= ALIKE * min(spreads)
     for name, distance in off.items():
-        most[name] = max(most.get(name, 0.0), distance)
-        if distance > NEAR:
+        most[alike, name] = max(most.get((alike, name), 0.0), distance)
+        if distance > (NEAR if alike else FAR):
             faults.append(f"{name}: {distance:.3g} from the exact ones")
     n = len(values)
     decisions = {"agree": owed.agree, "explained": owed.explained, "groups": [owed.group(i) for i in range(n)], "marks": [owed.mark(i) for i in range(n)]}
     told["plants"] += 1
+    told["spreads alike"] += alike
     told["agree"] += owed.agree
     told["disagree"] += owed.r > 0 and not owed.agree
     told["tied"] += any(g != i for i, g in enumerate(decisions["groups"]))
@@ -236,7 +242,7 @@ def compare(library, values, spreads, rows, still, most, told):
 
 def run_exact(options):
     library, most, different = Library(), {}, 0
-    told = dict.fromkeys(("plants", "agree", "disagree", "tied", "unchecked", "close"), 0)
+    told = dict.fromkeys(("plants", "spreads alike", "agree", "disagree", "tied", "unchecked", "close"), 0)
     for index in range(options.count):
         drawn = plant(random.Random(f"{options.seed} {index}"))
         faults = compare(library, *drawn, most, told)
@@ -244,7 +250,9 @@ def run_exact(options):
         if faults and different <= 5:
             print(f"plant {index}: {drawn}\n    " + "\n    ".join(faults))
     print(", ".join(f"{name} {count}" for name, count in told.items()))
-    print("farthest from the exact ones: " + ", ".join(f"{name} {x:.2g}" for name, x in sorted(most.items())))
+    for alike in (True, False):
+        far = ", ".join(f"{name} {x:.2g}" for (kind, name), x in sorted(most.items()) if kind == alike)
+        print(f"farthest from the exact ones, spreads {'within' if alike else 'beyond'} a factor of {ALIKE}: {far}")
     print(f"seed {options.seed}: {different} of {options.count} plants differ")
     return not different
 

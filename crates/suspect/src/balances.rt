@@ -7,10 +7,10 @@ ghost use Rattle.numbers.specs.Numbers.{at, nth, entry};
 ghost use Rattle.workspace.specs.inner.Readings.{mat, Block};
 ghost use Rattle.householder.specs.inner.Places.{QR_MATRIX};
 ghost use Rattle.suspect.specs.Suspect.{weight, weights, gap, areFinite};
-ghost use Rattle.suspect.specs.inner.Places.{GAPS, SUSPECT_ROOM, SUSPECT_WORDS};
+ghost use Rattle.suspect.specs.inner.Places.{SUSPECT_GAPS, SUSPECT_ROOM, SUSPECT_WORDS};
 ghost use Rattle.suspect.specs.inner.Work.{Sized, DirectionWritten, DirectionsWritten, Prepared};
-use crate::DIRECTIONS;
-use crate::GAPS;
+use crate::SUSPECT_DIRECTIONS;
+use crate::SUSPECT_GAPS;
 use crate::decide::finite_too;
 use crate::decide::weight_of;
 
@@ -70,12 +70,12 @@ fn write_gaps(
 )
     requires { ⌜ (n ≤ 16) × (m ≤ 16) × (length (now values) ≡ n) × (length (now balances) ≡ m * n) × (r ≤ 16) × (SUSPECT_ROOM ≤ length (now w)) ⌝ }
     requires { ⌜ (r ≤ length (now iw)) × ((t : ℕ) → t < r → nth (now iw) t < m) ⌝ }
-    ensures { λ _. ⌜ Block GAPS r (λ t. neg (gap n (now (values .entry)) (now (balances .entry)) (nth (now (iw .entry)) t))) (now (w .entry)) (now (w .exit)) ⌝ }
+    ensures { λ _. ⌜ Block SUSPECT_GAPS r (λ t. neg (gap n (now (values .entry)) (now (balances .entry)) (nth (now (iw .entry)) t))) (now (w .entry)) (now (w .exit)) ⌝ }
 {
     for t in 0..r {
         let k = iw[t] as usize;
         let g = numbers::dot_strided(balances, k * n, 1, values, 0, 1, n);
-        w[GAPS + t] = -g;
+        w[SUSPECT_GAPS + t] = -g;
     }
 }
 
@@ -84,8 +84,8 @@ fn write_direction(w: &mut [f64], n: usize, r: usize, i: usize)
     requires { ⌜ (n ≤ 16) × (r ≤ n) × (i < n) × (SUSPECT_ROOM ≤ length (now w)) ⌝ }
     ensures { λ _. ⌜ DirectionWritten n r i (now (w .entry)) (now (w .exit)) ⌝ }
 {
-    step_rows::write_unit(w, DIRECTIONS + i * 18, n, i, 1.0);
-    householder::apply_qt(w, n, r, DIRECTIONS + i * 18);
+    step_rows::write_unit(w, SUSPECT_DIRECTIONS + i * 18, n, i, 1.0);
+    householder::apply_qt(w, n, r, SUSPECT_DIRECTIONS + i * 18);
 }
 
 // The rows of Q.
@@ -115,7 +115,7 @@ pub fn prepare(
     write_weights(spreads, balances, still, w, n, m);
     let r = householder::factor_in(w, iw, n, m);
     write_gaps(values, balances, w, iw, n, m, r);
-    householder::solve_rt(w, m, r, GAPS);
+    householder::solve_rt(w, m, r, SUSPECT_GAPS);
     write_directions(w, n, r);
     r
 }

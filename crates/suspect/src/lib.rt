@@ -21,24 +21,24 @@ pub use decide::is_finite;
 
 // ---- where things stand in the part of the workspaces, which begins with a QR part for K
 
-// y.
-pub const GAPS: usize = householder::QR_MATRIX + 16 * 18;
+// The scaled gaps y.
+pub const SUSPECT_GAPS: usize = householder::QR_MATRIX + 16 * 18;
 // The rows of Q.
-pub const DIRECTIONS: usize = GAPS + 18;
-
-pub const SHARES: usize = DIRECTIONS + 16 * 18;
-
-pub const NEW_SPREADS: usize = SHARES + 18;
-
-pub const TESTS: usize = NEW_SPREADS + 18;
+pub const SUSPECT_DIRECTIONS: usize = SUSPECT_GAPS + 18;
+// The shares.
+pub const SUSPECT_SHARES: usize = SUSPECT_DIRECTIONS + 16 * 18;
+// The new spreads.
+pub const SUSPECT_SPREADS: usize = SUSPECT_SHARES + 18;
+// The tests.
+pub const SUSPECT_TESTS: usize = SUSPECT_SPREADS + 18;
 // How many f64 it takes.
-pub const SUSPECT_ROOM: usize = TESTS + 18;
-// In the u32 workspace: the permutation stands at 0.
-pub const GROUPS: usize = 18;
-
-pub const MARKS: usize = GROUPS + 18;
+pub const SUSPECT_ROOM: usize = SUSPECT_TESTS + 18;
+// In the u32 workspace: the permutation of K stands at 0, and the groups here.
+pub const SUSPECT_GROUPS: usize = 18;
+// The marks.
+pub const SUSPECT_MARKS: usize = SUSPECT_GROUPS + 18;
 // How many u32 it takes.
-pub const SUSPECT_WORDS: usize = MARKS + 18;
+pub const SUSPECT_WORDS: usize = SUSPECT_MARKS + 18;
 
 // ---- what is told of all meters together
 

@@ -4,13 +4,13 @@ ghost use Prim.Native.Nat.{_*_, _<_, _≤_};
 ghost use lib.ListN.{length};
 ghost use Rattle.workspace.specs.inner.Readings.{vec, stack};
 ghost use Rattle.suspect.specs.Suspect.{overlap, isOutside, share, unseen, correction, shares, newSpreads, tests};
-ghost use Rattle.suspect.specs.inner.Places.{GAPS, DIRECTIONS, SHARES, NEW_SPREADS, TESTS, SUSPECT_ROOM};
+ghost use Rattle.suspect.specs.inner.Places.{SUSPECT_GAPS, SUSPECT_DIRECTIONS, SUSPECT_SHARES, SUSPECT_SPREADS, SUSPECT_TESTS, SUSPECT_ROOM};
 ghost use Rattle.suspect.specs.inner.Work.{VectorWritten, Measured};
-use crate::DIRECTIONS;
-use crate::GAPS;
-use crate::NEW_SPREADS;
-use crate::SHARES;
-use crate::TESTS;
+use crate::SUSPECT_DIRECTIONS;
+use crate::SUSPECT_GAPS;
+use crate::SUSPECT_SHARES;
+use crate::SUSPECT_SPREADS;
+use crate::SUSPECT_TESTS;
 use crate::decide::new_spread;
 use crate::decide::outside_too;
 use crate::decide::test_of;
@@ -18,26 +18,31 @@ use crate::decide::test_of;
 // What the balances see of meters i and j together.
 pub fn overlap_of(w: &[f64], n: usize, r: usize, i: usize, j: usize) -> f64
     requires { ⌜ (n ≤ 16) × (r ≤ n) × (i < n) × (j < n) × (SUSPECT_ROOM ≤ length (now w)) ⌝ }
-    ensures { λ x. ⌜ x ≡ overlap n r (stack DIRECTIONS n n (now (w .entry))) i j ⌝ }
+    ensures { λ x. ⌜ x ≡ overlap n r (stack SUSPECT_DIRECTIONS n n (now (w .entry))) i j ⌝ }
 {
-    numbers::dot_within(w, DIRECTIONS + i * 18, DIRECTIONS + j * 18, r)
+    numbers::dot_within(
+        w,
+        SUSPECT_DIRECTIONS + i * 18,
+        SUSPECT_DIRECTIONS + j * 18,
+        r,
+    )
 }
 
 // What no balance sees of meter i.
 fn unseen_of(w: &[f64], n: usize, r: usize, i: usize) -> f64
     requires { ⌜ (n ≤ 16) × (r ≤ n) × (i < n) × (SUSPECT_ROOM ≤ length (now w)) ⌝ }
-    ensures { λ x. ⌜ x ≡ unseen n r (stack DIRECTIONS n n (now (w .entry))) i ⌝ }
+    ensures { λ x. ⌜ x ≡ unseen n r (stack SUSPECT_DIRECTIONS n n (now (w .entry))) i ⌝ }
 {
-    let p = DIRECTIONS + i * 18 + r;
+    let p = SUSPECT_DIRECTIONS + i * 18 + r;
     numbers::dot_within(w, p, p, n - r)
 }
 
 // The correction of meter i in spreads.
 fn correction_of(w: &[f64], n: usize, r: usize, i: usize) -> f64
     requires { ⌜ (n ≤ 16) × (r ≤ n) × (i < n) × (SUSPECT_ROOM ≤ length (now w)) ⌝ }
-    ensures { λ x. ⌜ x ≡ correction n r (stack DIRECTIONS n n (now (w .entry))) (vec GAPS r (now (w .entry))) i ⌝ }
+    ensures { λ x. ⌜ x ≡ correction n r (stack SUSPECT_DIRECTIONS n n (now (w .entry))) (vec SUSPECT_GAPS r (now (w .entry))) i ⌝ }
 {
-    numbers::dot_within(w, DIRECTIONS + i * 18, GAPS, r)
+    numbers::dot_within(w, SUSPECT_DIRECTIONS + i * 18, SUSPECT_GAPS, r)
 }
 
 // No balance has meter i.
@@ -65,7 +70,7 @@ fn share_of(
 ) -> f64
     requires { ⌜ (n ≤ 16) × (m ≤ 16) × (i < n) × (length (now spreads) ≡ n) × (length (now balances) ≡ m * n) × (length (now still) ≡ n) ⌝ }
     requires { ⌜ (r ≤ n) × (SUSPECT_ROOM ≤ length (now w)) ⌝ }
-    ensures { λ x. ⌜ x ≡ share n m r (now (spreads .entry)) (now (balances .entry)) (now (still .entry)) (stack DIRECTIONS n n (now (w .entry))) i ⌝ }
+    ensures { λ x. ⌜ x ≡ share n m r (now (spreads .entry)) (now (balances .entry)) (now (still .entry)) (stack SUSPECT_DIRECTIONS n n (now (w .entry))) i ⌝ }
 {
     let none = is_outside(spreads, balances, still, n, m, i);
     if none {
@@ -86,33 +91,33 @@ fn write_shares(
 )
     requires { ⌜ (n ≤ 16) × (m ≤ 16) × (length (now spreads) ≡ n) × (length (now balances) ≡ m * n) × (length (now still) ≡ n) ⌝ }
     requires { ⌜ (r ≤ n) × (SUSPECT_ROOM ≤ length (now w)) ⌝ }
-    ensures { λ _. ⌜ VectorWritten SHARES n (shares n m r (now (spreads .entry)) (now (balances .entry)) (now (still .entry)) (stack DIRECTIONS n n (now (w .entry)))) (now (w .entry)) (now (w .exit)) ⌝ }
+    ensures { λ _. ⌜ VectorWritten SUSPECT_SHARES n (shares n m r (now (spreads .entry)) (now (balances .entry)) (now (still .entry)) (stack SUSPECT_DIRECTIONS n n (now (w .entry)))) (now (w .entry)) (now (w .exit)) ⌝ }
 {
     for i in 0..n {
         let h = share_of(spreads, balances, still, w, n, m, r, i);
-        w[SHARES + i] = h;
+        w[SUSPECT_SHARES + i] = h;
     }
 }
 
 // The new spreads.
 fn write_spreads(spreads: &[f64], still: &[u8], w: &mut [f64], n: usize, r: usize)
     requires { ⌜ (n ≤ 16) × (r ≤ n) × (length (now spreads) ≡ n) × (length (now still) ≡ n) × (SUSPECT_ROOM ≤ length (now w)) ⌝ }
-    ensures { λ _. ⌜ VectorWritten NEW_SPREADS n (newSpreads n r (now (spreads .entry)) (now (still .entry)) (stack DIRECTIONS n n (now (w .entry)))) (now (w .entry)) (now (w .exit)) ⌝ }
+    ensures { λ _. ⌜ VectorWritten SUSPECT_SPREADS n (newSpreads n r (now (spreads .entry)) (now (still .entry)) (stack SUSPECT_DIRECTIONS n n (now (w .entry)))) (now (w .entry)) (now (w .exit)) ⌝ }
 {
     for i in 0..n {
         let t = unseen_of(w, n, r, i);
-        w[NEW_SPREADS + i] = new_spread(still[i], spreads[i], t);
+        w[SUSPECT_SPREADS + i] = new_spread(still[i], spreads[i], t);
     }
 }
 
 // The tests.
 fn write_tests(w: &mut [f64], n: usize, r: usize)
     requires { ⌜ (n ≤ 16) × (r ≤ n) × (SUSPECT_ROOM ≤ length (now w)) ⌝ }
-    ensures { λ _. ⌜ VectorWritten TESTS n (tests n r (stack DIRECTIONS n n (now (w .entry))) (vec GAPS r (now (w .entry))) (vec SHARES n (now (w .entry)))) (now (w .entry)) (now (w .exit)) ⌝ }
+    ensures { λ _. ⌜ VectorWritten SUSPECT_TESTS n (tests n r (stack SUSPECT_DIRECTIONS n n (now (w .entry))) (vec SUSPECT_GAPS r (now (w .entry))) (vec SUSPECT_SHARES n (now (w .entry)))) (now (w .entry)) (now (w .exit)) ⌝ }
 {
     for i in 0..n {
         let p = correction_of(w, n, r, i);
-        w[TESTS + i] = test_of(w[SHARES + i], p);
+        w[SUSPECT_TESTS + i] = test_of(w[SUSPECT_SHARES + i], p);
     }
 }
 

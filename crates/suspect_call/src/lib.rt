@@ -7,7 +7,7 @@ ghost use lib.ListN.{length};
 ghost use Rattle.workspace.specs.inner.Readings.{nums, stack};
 ghost use Rattle.suspect.specs.Suspect.{suspect};
 ghost use Rattle.suspect.specs.inner.Work.{Sized};
-ghost use Rattle.suspect.specs.inner.Places.{SHARES, GROUPS, MARKS, SUSPECT_ROOM, SUSPECT_WORDS};
+ghost use Rattle.suspect.specs.inner.Places.{SUSPECT_SHARES, SUSPECT_GROUPS, SUSPECT_MARKS, SUSPECT_ROOM, SUSPECT_WORDS};
 ghost use Rattle.suspect_call.specs.Promise.{suspectCall, Suspects};
 ghost use Rattle.suspect_call.specs.inner.Work.{Given, Left};
 use crate::tests::are_inputs;
@@ -27,9 +27,9 @@ fn give(w: &[f64], iw: &[u32], numbers: &mut [f64], groups: &mut [u32], marks: &
     requires { ⌜ (n ≤ 16) × (SUSPECT_ROOM ≤ length (now w)) × (SUSPECT_WORDS ≤ length (now iw)) × (length (now numbers) ≡ 3 * n) × (length (now groups) ≡ n) × (length (now marks) ≡ n) ⌝ }
     ensures { λ _. ⌜ Given n (now (w .entry)) (now (iw .entry)) (now (numbers .exit)) (now (groups .exit)) (now (marks .exit)) ⌝ }
 {
-    workspace::unload_stack(w, numbers, suspect::SHARES, 3, n);
-    workspace::unload_words(iw, groups, suspect::GROUPS, n);
-    workspace::unload_words(iw, marks, suspect::MARKS, n);
+    workspace::unload_stack(w, numbers, suspect::SUSPECT_SHARES, 3, n);
+    workspace::unload_words(iw, groups, suspect::SUSPECT_GROUPS, n);
+    workspace::unload_words(iw, marks, suspect::SUSPECT_MARKS, n);
 }
 
 // The call where no test refuses.

@@ -9,7 +9,7 @@ use Rattle.workspace.specs.declared.Outcome.{Outcome}
 use Rattle.workspace.specs.inner.Readings.{stack, nums}
 use Rattle.suspect.specs.Suspect.{Tests}
 use Rattle.suspect.specs.declared.Finding.{Finding}
-use Rattle.suspect.specs.inner.Places.{SHARES, GROUPS, MARKS}
+use Rattle.suspect.specs.inner.Places.{SUSPECT_SHARES, SUSPECT_GROUPS, SUSPECT_MARKS}
 use Rattle.suspect_call.specs.Promise.{meters, numbersOf}
 
 -- what the tests of n meters from meter i on come to, where nothing follows
@@ -18,9 +18,9 @@ testedOutcome v s n i = outcomeOf (meters {A = Unit} v s n i (done tt))
 
 -- the answer out
 pub record Given (n : ℕ) (w : List Float) (iw : List ℕ) (x : List Float) (groups marks : List ℕ) : Type 0 where
-  pub numbers : x ≡ stack SHARES 3 n w
-  pub group : groups ≡ nums GROUPS n iw
-  pub mark : marks ≡ nums MARKS n iw
+  pub numbers : x ≡ stack SUSPECT_SHARES 3 n w
+  pub group : groups ≡ nums SUSPECT_GROUPS n iw
+  pub mark : marks ≡ nums SUSPECT_MARKS n iw
 
 -- a call that reached the arithmetic
 pub record Left (t : Tests) (d : Finding) (x : List Float) (groups marks : List ℕ) (w w′ : List Float) (iw iw′ : List ℕ) : Type 0 where
