@@ -151,8 +151,7 @@ class Reading:
             number, place, x, mu = self.library.lsei(d.n, d.m + len(held), d.n, 0, (rows, sides, e, f, [], []))
             if number == 0:
                 break
-            past = number == 11 and place >= d.m or self.slip == "any refusal lets a limit go" and number in (5, 11) and place >= d.m
-            if not past or not held:
+            if number != 11 or place < d.m or not held or self.slip == "no limit is let go":
                 return None
             del held[0 if self.slip == "the first limit is let go" else place - d.m]
         if self.slip != "a floor that is held is not taken":
@@ -183,7 +182,7 @@ class Reading:
         if number:
             return number, place if number in (5, 11) else None, None, None, False
         a = self.judged(d, x, mu[:d.m], mu[d.m:], t)
-        near = a[3] < NEAR if self.slip == "a bound of 2^-10 is not near" else a[3] <= NEAR
+        near = a[3] <= NEAR
         if self.slip == "an ordinary answer need not be kept" and near or a[4] and near and self.slip != "a certain answer is worked again":
             return 0, None, a, a, False
         b = self.again(d, a[2], t)
@@ -195,8 +194,8 @@ class Reading:
         return number, place, None if number else self.rules.bound(d.day(x, mu[:d.m], mu[d.m:]))
 
 
-SLIPS = ("a spread is told before a value", "any refusal lets a limit go", "the first limit is let go", "a floor that is held is not taken",
-         "a multiplier below zero is taken", "the smaller bound alone counts", "the larger bound is taken", "a bound of 2^-10 is not near",
+SLIPS = ("a spread is told before a value", "no limit is let go", "the first limit is let go", "a floor that is held is not taken",
+         "a multiplier below zero is taken", "the smaller bound alone counts", "the larger bound is taken",
          "an ordinary answer need not be kept", "a certain answer is worked again")
 
 
@@ -460,17 +459,26 @@ def try_slips(archive, count, seed):
     return not untold
 
 
+def families(z):
+    """One meter with a floor z spreads away; one that is measured z above its ceiling; four around a header, the floor of the last z away."""
+    yield "floor", Data(1, 0, 1, [0.0], [1.0], [], [1.0], [z])
+    yield "pulled", Data(1, 0, 1, [z], [1.0], [], [-1.0], [-0.3])
+    yield "header", Data(4, 1, 1, [0.0] * 4, [1.0, 1.0, 2.0, 0.5], [1.0, 1.0, -1.0, -1.0], unit(4, 3), [0.5 * z])
+
+
 def far_away(archive):
     made = Library(archive)
     reading = Reading(made)
-    print(f"{'spreads away':>12}{'LSEI off by':>14}{'settled off by':>16}{'bound':>12}")
-    for power in range(0, 9):
-        away = 10.0 ** power
-        d = Data(2, 1, 2, [1000.0, 1000.0], [0.02, 0.02], [1.0, -1.0], [1.0, 0.0, 0.0, 1.0], [1000.0 + 0.02 * away, 0.0])
-        told, first = made.settle(d, 1e-3), reading.settle(d, 1e-3)[3]
-        best = exact.least(d.values, d.spreads, [[1.0, -1.0]], [[1.0, 0.0], [0.0, 1.0]], d.least)[0]
-        off = lambda x: max(abs(float((Fraction(u) - b) / Fraction(s))) for u, b, s in zip(x, best, d.spreads))
-        print(f"{away:>12.0e}{off(first[0]):>14.2e}{off(told[2]):>16.2e}{told[4]:>12.2e}")
+    print(f"{'family':<10}{'spreads':>9}{'LSEI off by':>14}{'its bound':>12}{'settled off by':>16}{'bound':>12}")
+    for power in range(9):
+        for name, d in families(10.0 ** power):
+            told, first = made.settle(d, 1e-3), reading.settle(d, 1e-3)[3]
+            if first is None:
+                print(f"{name:<10}{10.0 ** power:>9.0e}   refused {told[0]}")
+                continue
+            best = exact.least(d.values, d.spreads, [d.balances] if d.m else [], [d.limits], d.least)[0]
+            off = lambda x: max(abs(float((Fraction(u) - b) / Fraction(s))) for u, b, s in zip(x, best, d.spreads))
+            print(f"{name:<10}{10.0 ** power:>9.0e}{off(first[0]):>14.2e}{first[3]:>12.2e}{off(told[2]):>16.2e}{told[4]:>12.2e}")
     return True
 
 
