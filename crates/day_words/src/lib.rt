@@ -54,7 +54,7 @@ pub fn trimmed(line: &[u8]) -> usize
 }
 
 // Whether a byte is a blank.
-fn is_blank(c: u8) -> bool
+pub fn is_blank(c: u8) -> bool
     ensures { λ r. ⌜ r ≡ Words·isBlank c ⌝ }
 {
     if c == b' ' {
@@ -64,7 +64,7 @@ fn is_blank(c: u8) -> bool
 }
 
 // The place of the first byte that is no blank, or the end.
-fn skip(line: &[u8], from: usize) -> usize
+pub fn skip(line: &[u8], from: usize) -> usize
     requires { ⌜ from ≤ length (now line) ⌝ }
     ensures { λ r. ⌜ (drop r (now (line .entry)) ≡ skipBlanks (drop from (now (line .entry)))) × (r ≤ length (now (line .entry))) ⌝ }
 {

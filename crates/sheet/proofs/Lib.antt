@@ -1,0 +1,4 @@
+pub mod FirstWords
+pub mod Lines
+pub mod Faults
+pub mod Names

@@ -1,0 +1,2 @@
+-- Sheets worked by hand. Definitions only.
+pub mod WorkedSheets
