@@ -8,11 +8,14 @@ use crate::draw::Draw;
 use crate::stored::{Fill, LENGTHS as COUNT, bytes_of, pattern};
 use reference::search::Slip;
 use reference::search::call::{Begin, Lent, Outcome, begin, tell};
-use reference::shape::{OPS, Op, WORKSPACES};
+use reference::shape::{Op, WORKSPACES};
 
 /// Where the inputs' lengths begin in the header, and where the tolerance's stands.
 const INPUTS: usize = 7;
 const TOLERANCE: usize = 15;
+
+/// The number by which the list names a search that begins; one more is an answer.
+const BEGIN: usize = 20;
 
 /// Runs of a kind that the list has, and answers of a run.
 const RUNS: u64 = 3;
@@ -33,9 +36,9 @@ struct Stored {
 }
 
 impl Stored {
-    /// The operation's place behind those of the port.
+    /// The number by which the list names the call.
     fn code(&self) -> usize {
-        OPS.len() + usize::from(matches!(self.called, Called::Tell(..)))
+        BEGIN + usize::from(matches!(self.called, Called::Tell(..)))
     }
 
     fn owed(&self, schemes: u32) -> Outcome {
