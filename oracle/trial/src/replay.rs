@@ -38,7 +38,8 @@ fn words(call: &Call, owed: &Answer) -> usize {
     let rooms = if call.op.is_lent() { 2 } else { 0 };
     let lengths = 1 + groups.iter().sum::<usize>() + single + rooms;
     let inputs = call.inputs.iter().map(Vec::len).sum::<usize>() + call.kinds.len();
-    let outputs = owed.outputs.iter().map(Vec::len).sum::<usize>() + owed.words.len() + owed.seconds.len();
+    let outputs =
+        owed.outputs.iter().map(Vec::len).sum::<usize>() + owed.words.len() + owed.seconds.len();
     lengths + inputs + outputs + owed.counts.len() + usize::from(owed.value.is_some())
 }
 
@@ -47,7 +48,9 @@ fn fits(call: &Call) -> bool {
     let reals = call.inputs.iter().map(Vec::len).chain(call.outputs.iter().copied());
     let bytes = HEADER + 8 * call.inputs.iter().map(Vec::len).sum::<usize>() + call.kinds.len();
     let longest = reals.max().unwrap_or(0);
-    longest <= LONGEST[0] && call.kinds.len().max(call.words).max(call.seconds) <= LONGEST[1] && bytes <= BYTES
+    longest <= LONGEST[0]
+        && call.kinds.len().max(call.words).max(call.seconds) <= LONGEST[1]
+        && bytes <= BYTES
 }
 
 /// The next call of a kind from an index on that takes no more words than allowed.

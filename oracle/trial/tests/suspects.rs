@@ -4,8 +4,8 @@
 use reference::Rust;
 use reference::call::{Answer, Call};
 use reference::shape::Op;
-use reference::tally;
 use reference::suspect::{SLIPS, Slip, refused, tested};
+use reference::tally;
 use trial::kinds::{Share, of};
 
 /// Calls of each kind in which a slip has to be told.

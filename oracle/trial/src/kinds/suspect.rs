@@ -68,7 +68,9 @@ pub const ROWS: &[Row] = &[
         let balances = draw.reals(Palette::Signs, n * m).into_iter().map(|x| x * 0.0).collect();
         sized(op, draw, n, m, balances)
     }),
-    ("wide balances", Share::Weight(4), &[Number(0)], |op, _, draw| balanced(op, draw, Palette::Wide)),
+    ("wide balances", Share::Weight(4), &[Number(0)], |op, _, draw| {
+        balanced(op, draw, Palette::Wide)
+    }),
     ("vast balances", Share::Weight(4), &[Number(0), Nan], |op, _, draw| {
         let mut call = balanced(op, draw, Palette::Vast);
         call.inputs[VALUES] = draw.reals(Palette::Vast, call.sizes[0]);
@@ -207,7 +209,8 @@ fn single(op: Op, _: u64, draw: &mut Draw) -> Call {
     let few = draw.one_in(2);
     for i in 0..n {
         let spread = draw.pick(&[1.0, 2.0, 0.25]);
-        let tests = if few { [0.0, 0.0, 0.0, 3.0, -3.0, 1.0] } else { [2.0, 3.0, -3.0, 4.0, 3.5, 0.0] };
+        let tests =
+            if few { [0.0, 0.0, 0.0, 3.0, -3.0, 1.0] } else { [2.0, 3.0, -3.0, 4.0, 3.5, 0.0] };
         let test: f64 = draw.pick(&tests);
         let test = if draw.one_in(8) { f64::from_bits(test.to_bits() + 1) } else { test };
         call.inputs[SPREADS][i] = spread;
@@ -239,7 +242,8 @@ fn balanced(op: Op, draw: &mut Draw, palette: Palette) -> Call {
 /// A value that is not finite.
 fn wrong_value(call: &mut Call, draw: &mut Draw) {
     let meter = draw.below(call.sizes[0]);
-    call.inputs[VALUES][meter] = draw.pick(&[f64::NAN, -f64::NAN, f64::INFINITY, f64::NEG_INFINITY]);
+    call.inputs[VALUES][meter] =
+        draw.pick(&[f64::NAN, -f64::NAN, f64::INFINITY, f64::NEG_INFINITY]);
 }
 
 /// A spread that is not finite and positive.
