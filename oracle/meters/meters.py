@@ -227,6 +227,7 @@ def compare(library, values, spreads, rows, still, most, told):
     decisions = {"agree": owed.agree, "explained": owed.explained, "groups": [owed.group(i) for i in range(n)], "marks": [owed.mark(i) for i in range(n)]}
     told["plants"] += 1
     told["spreads alike"] += alike
+    told["beyond 1e-12"] += max(off.values()) > NEAR
     told["agree"] += owed.agree
     told["disagree"] += owed.r > 0 and not owed.agree
     told["tied"] += any(g != i for i, g in enumerate(decisions["groups"]))
@@ -242,7 +243,7 @@ def compare(library, values, spreads, rows, still, most, told):
 
 def run_exact(options):
     library, most, different = Library(), {}, 0
-    told = dict.fromkeys(("plants", "spreads alike", "agree", "disagree", "tied", "unchecked", "close"), 0)
+    told = dict.fromkeys(("plants", "spreads alike", "beyond 1e-12", "agree", "disagree", "tied", "unchecked", "close"), 0)
     for index in range(options.count):
         drawn = plant(random.Random(f"{options.seed} {index}"))
         faults = compare(library, *drawn, most, told)
@@ -294,7 +295,7 @@ def run_days(options):
         alarms = sum(not tested(library, a_day(rng, true, spreads, scale=scale), spreads, rows)[0]["agree"] for _ in range(options.count))
         print(f"sound days, noise of {scale} spreads: {100 * alarms / options.count:.1f} % disagree")
     for off in (3.0, 5.0, 10.0):
-        found, right, old, explained = 0, 0, 0, 0
+        found, right, old, near, explained = 0, 0, 0, 0, 0
         for index in range(options.count):
             meter = index % len(names)
             told, largest = tested(library, a_day(rng, true, spreads, meter, off * rng.choice((-1, 1))), spreads, rows)
@@ -302,9 +303,10 @@ def run_days(options):
                 found += 1
                 right += told["marks"][meter] == 2
                 old += largest == meter
+                near += told["groups"][largest] == told["groups"][meter]
                 explained += told["explained"]
         print(f"one meter off by {off:g} spreads: {100 * found / options.count:.0f} % disagree; of these the meter is among those to look at first in "
-              f"{100 * right / found:.0f} %, has the largest correction in spreads in {100 * old / found:.0f} %, one meter explains it in {100 * explained / found:.0f} %")
+              f"{100 * right / found:.0f} %, has the largest correction in spreads in {100 * old / found:.0f} %, is not told apart from the one that has it in {100 * near / found:.0f} %, one meter explains it in {100 * explained / found:.0f} %")
     told, _ = tested(library, volumes, spreads, rows)
     print("meter, share, new spread, shows from (4 s / root of the share), group: found and named at that size")
     for i, name in enumerate(names):
