@@ -1,0 +1,96 @@
+//! The examples answer what they should, and what is refused is told with its place.
+
+#[path = "../examples/meters.rs"]
+mod meters;
+#[path = "../examples/settle.rs"]
+mod settle;
+#[path = "../examples/valves.rs"]
+mod valves;
+
+use gritstrut::{lsei, nnls, Aim, ConstraintKind, Day, Ending, Failure, MatRef, Readings, Search, Slopes};
+
+#[test]
+fn meters_balance() {
+    let text = "\
+meter          measured  corrected
+generator A     120.400    120.816
+generator B      79.100     79.516
+vessel 1        131.900    130.236
+vessel 2         70.200     70.096
+header: -2.600 before, 0.000 after; multiplier 0.416000, relaxation 0.000
+the check: yes
+";
+    assert_eq!(meters::report().unwrap(), text);
+}
+
+#[test]
+fn day_is_settled() {
+    let text = settle::report().unwrap();
+    assert!(text.contains("vessel 1       1310.000   1297.200   -0.800"), "{text}");
+    assert!(text.ends_with("the meters agree\n"), "{text}");
+}
+
+#[test]
+fn valves_are_found() {
+    let exact = [0.6541058292025478, 0.6419612970802866, 5.9868761104890575];
+    for (scheme, within) in [(Slopes::Told, 1e-12), (Slopes::Forward, 1e-6), (Slopes::Central, 1e-9)] {
+        let (ending, x) = valves::find(scheme).unwrap();
+        assert_eq!(ending, Ending::Converged);
+        assert!(x.iter().zip(&exact).all(|(x, exact)| (x - exact).abs() < within), "{scheme:?}: {x:?}");
+    }
+}
+
+#[test]
+fn certified_as_settled() {
+    let day = Day {
+        values: &[120.4, 79.1, 131.9, 70.2],
+        spreads: &[1.0, 1.0, 2.0, 0.5],
+        balances: &[1.0, 1.0, -1.0, -1.0],
+        limits: &[-1.0, -1.0, 0.0, 0.0],
+        least: &[-200.0],
+        ..Day::default()
+    };
+    let settled = day.settle().unwrap();
+    assert_eq!(day.certify(&settled), Ok(settled.bound));
+    assert_eq!((settled.balance_multipliers.len(), settled.limit_multipliers.len()), (1, 1));
+}
+
+#[test]
+fn refusals_have_places() {
+    let day = Day { values: &[1.0, 2.0], spreads: &[1.0, -1.0], balances: &[1.0, -1.0], ..Day::default() };
+    assert_eq!(day.settle(), Err(Failure::Spread { meter: 1 }));
+    let day = Day { spreads: &[1.0], ..day };
+    assert_eq!(day.settle(), Err(Failure::Length));
+    let limit = Day { spreads: &[1.0, 1.0], limits: &[1.0, 0.0], least: &[f64::NAN], ..day };
+    assert_eq!(limit.settle(), Err(Failure::Bound { place: 0 }));
+    let twice = Day { spreads: &[1.0, 1.0], balances: &[1.0, -1.0, 1.0, -1.0], ..day };
+    assert!(matches!(twice.settle(), Err(Failure::Dependent { .. })));
+    let readings = Readings { before: &[0], after: &[7_510_000], spreads: &[1.0], balances: &[] };
+    assert_eq!(readings.reconcile(), Err(Failure::Reading { meter: 0 }));
+    let zeros = MatRef::new(&[0.0; 4], 2, 2);
+    let found = lsei(MatRef::none(2), &[], zeros, &[0.0; 2], MatRef::none(2), &[]);
+    assert_eq!(found.map(|_| ()), Err(Failure::RankDeficient { column: 0 }));
+    assert_eq!(nnls(zeros, &[0.0]).map(|_| ()), Err(Failure::Length));
+    assert_eq!(nnls(MatRef::new(&[], 19, 0), &[0.0; 19]).map(|_| ()), Err(Failure::Size));
+    let aim = Aim {
+        x0: &[0.0],
+        kinds: &[ConstraintKind::Eq],
+        lower: &[1.0],
+        upper: &[0.0],
+        ftol: 0.0,
+        budget: 1,
+        slopes: Slopes::Told,
+    };
+    assert_eq!(Search::begin(&aim).map(|_| ()), Err(Failure::Crossed));
+    let wrong = Aim { lower: &[f64::NAN], ..aim };
+    assert_eq!(Search::begin(&wrong).map(|_| ()), Err(Failure::Bound { place: 0 }));
+}
+
+#[test]
+fn rows_may_stand_apart() {
+    let (apart, near) = ([1.0, 2.0, 9.0, 3.0, 4.0, 9.0], [1.0, 2.0, 3.0, 4.0]);
+    let wide = MatRef { data: &apart, rows: 2, cols: 2, stride: 3 };
+    assert_eq!(nnls(wide, &[5.0, 6.0]), nnls(MatRef::new(&near, 2, 2), &[5.0, 6.0]));
+    let short = MatRef { data: &apart[..4], rows: 2, cols: 2, stride: 3 };
+    assert_eq!(nnls(short, &[5.0, 6.0]).map(|_| ()), Err(Failure::Length));
+}
