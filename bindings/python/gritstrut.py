@@ -146,19 +146,18 @@ def _call(name, *given):
 
 
 def _list(given) -> list:
-    """A sequence, an array or a matrix as nested lists."""
+    """A sequence, an array or a matrix as a list, nested where it is a matrix."""
     return given.tolist() if hasattr(given, "tolist") else list(given)
 
 
 def _flat(given) -> List[float]:
     """All numbers of a vector, or of a matrix row by row."""
-    numbers: List[float] = []
-    for each in _list(given):
-        if hasattr(each, "__len__") or hasattr(each, "tolist") and not hasattr(each, "__float__"):
-            numbers.extend(_flat(each))
-        else:
-            numbers.append(float(each))
-    return numbers
+    given = given.tolist() if hasattr(given, "tolist") else given
+    if isinstance(given, (str, bytes)):
+        raise TypeError("numbers are wanted, and no text")
+    if not hasattr(given, "__iter__"):
+        return [float(given)]
+    return [number for each in given for number in _flat(each)]
 
 
 def _floats(given):
@@ -244,7 +243,7 @@ def settle(values, spreads, balances, limits=(), least=(), tolerance=1e-3, nonne
     bound, place = _DOUBLE(), _WORD(_NOWHERE)
     number = _call("settle", _SIZE(n), _SIZE(m), _SIZE(p), *given, _DOUBLE(tolerance), volumes, multipliers,
                    ctypes.byref(bound), ctypes.byref(place))
-    _raise(number, place, dict(_DAY, **{}) if m else {**_DAY, 5: "meter"})
+    _raise(number, place, _DAY if m else {**_DAY, 5: "meter"})
     return Settled(_shape(volumes, values), _shape(multipliers[:m], values), _shape(multipliers[m:], values), bound.value)
 
 
@@ -275,6 +274,12 @@ class Reconciled(NamedTuple):
     named: List[bool]
 
 
+def _reading(number):
+    """A reading as the library takes it; what is no reading at all becomes one that it refuses."""
+    whole = math.isfinite(number) and number == int(number) and 0 <= number < _NOWHERE
+    return int(number) if whole else _NOWHERE
+
+
 def reconcile(before, after, spreads, balances) -> Reconciled:
     """A day's corrected volumes from totaliser readings of six digits; one may have rolled over.
 
@@ -284,10 +289,7 @@ def reconcile(before, after, spreads, balances) -> Reconciled:
     >>> any(day.named)
     False
     """
-    readings = []
-    for each in (before, after):
-        whole = [int(reading) for reading in _flat(each)]
-        readings.append((_WORD * len(whole))(*(min(max(reading, 0), 2 ** 32 - 1) if reading >= 0 else 2 ** 32 - 1 for reading in whole)))
+    readings = [(_WORD * len(each))(*map(_reading, each)) for each in (_flat(before), _flat(after))]
     n = len(readings[0])
     rows, m = _matrix(balances, n)
     volumes, named, place = _room(_DOUBLE, n), _room(_BYTE, n), _WORD(_NOWHERE)
@@ -322,13 +324,13 @@ def suspect(values, spreads, balances, still=None) -> Suspected:
     >>> flows.agree, flows.first            # the meter at fault is the first or the last: one balance holds the two
     (False, 4)
     """
-    values = _shape(_flat(values), values)
-    n = len(values)
+    given = _floats(values)
+    n = len(given)
     rows, m = _matrix(balances, n)
     stand = [bool(each) for each in (still if still is not None else [False] * n)]
     numbers, groups, marks = _room(_DOUBLE, 3 * n), _room(_WORD, n), _room(_WORD, n)
     misfit, finding, place = _DOUBLE(), _Finding(), _WORD(_NOWHERE)
-    number = _call("suspect", _SIZE(n), _SIZE(m), _floats(values), _floats(spreads), rows, (_BYTE * len(stand))(*stand), numbers,
+    number = _call("suspect", _SIZE(n), _SIZE(m), given, _floats(spreads), rows, (_BYTE * len(stand))(*stand), numbers,
                    groups, marks, ctypes.byref(misfit), ctypes.byref(finding), ctypes.byref(place))
     _raise(number, place, _DAY)
     parts = [_shape(numbers[at * n:(at + 1) * n], values) for at in range(3)]
@@ -429,13 +431,13 @@ class Problem:
 
     def __init__(self, factor, gradient=None, constraints=(), lower=None, upper=None):
         self._given = factor
-        numbers = _flat(factor)
-        self.n = n = len(numbers) if not _list(factor) or not hasattr(_list(factor)[0], "__len__") else len(_list(factor))
-        if len(numbers) == n and n > 1 or n == 1:
-            numbers = [numbers[i] if i == j else 0.0 for i in range(n) for j in range(n)]
+        rows = _list(factor)
+        self.n = n = len(rows)
+        if rows and not hasattr(rows[0], "__len__"):
+            rows = [[rows[i] if i == j else 0.0 for j in range(n)] for i in range(n)]
+        self.factor = _matrix(rows, n)[0]
         self.constraints = list(constraints)
         self.m = m = len(self.constraints)
-        self.factor = (_DOUBLE * len(numbers))(*numbers)
         self.gradient = _floats(gradient if gradient is not None else [0.0] * n)
         self.kinds = (_BYTE * m)(*(each.kind for each in self.constraints))
         self.values = (_DOUBLE * m)(*(each.value for each in self.constraints))
@@ -576,7 +578,11 @@ class Hessian:
 class Found(dict):
     """What a search found, as SciPy's minimize tells it: x, fun, success, status, message, nfev, njev, nit, multipliers."""
 
-    __getattr__ = dict.__getitem__
+    def __getattr__(self, name):
+        try:
+            return self[name]
+        except KeyError:
+            raise AttributeError(name) from None
 
     def __repr__(self):
         width = max(map(len, self))
