@@ -2,11 +2,24 @@
 //!
 //!     cargo run -- write FILE    writes tests/answers.txt
 //!     cargo run -- check FILE    status 0 where FILE has just those lines
+//!     cargo test                 the Rust's own loop over this crate's step (src/swapped.rs)
 
 use std::process::ExitCode;
 
 #[path = "../../tests/drawn/mod.rs"]
 mod drawn;
+
+// The Rust's loop, its imports changed, over what stands in for the rest of the Rust (oracle/reference).
+#[cfg(test)]
+include!(concat!(env!("OUT_DIR"), "/tree.rs"));
+#[cfg(test)]
+mod swapped;
+
+/// The sum of the products: the loop has it from the module that was changed.
+#[cfg(test)]
+fn dot(a: &[f64], b: &[f64]) -> f64 {
+    a.iter().zip(b).map(|(a, b)| a * b).sum()
+}
 
 use drawn::{drawn, Drawn, Operation, Told, COUNT};
 use reference::call::{answer, Answer, Call, Kernels, Sound};
