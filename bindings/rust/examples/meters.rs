@@ -41,12 +41,8 @@ pub fn report() -> Result<String, Failure> {
     let (multiplier, relaxation) = (step.multipliers[0], step.relaxation);
     text += &format!("header: {balance:.3} before, {left:.3} after; multiplier {multiplier:.6}, relaxation {relaxation:.3}\n");
     let (lowers, uppers) = problem.sides(&step.d, &step.multipliers);
-    let checked = Checked {
-        d: &step.d,
-        multipliers: &step.multipliers,
-        lower_multipliers: &lowers,
-        upper_multipliers: &uppers,
-    };
+    let checked =
+        Checked { d: &step.d, multipliers: &step.multipliers, lower_multipliers: &lowers, upper_multipliers: &uppers };
     Ok(match problem.check(&checked, 1e-6)? {
         Verdict::Yes => text + "the check: yes\n",
         Verdict::No(test, part) => text + &format!("the check: no, {test:?} of {part:?}\n"),

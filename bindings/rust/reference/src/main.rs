@@ -21,10 +21,10 @@ fn dot(a: &[f64], b: &[f64]) -> f64 {
     a.iter().zip(b).map(|(a, b)| a * b).sum()
 }
 
-use drawn::{drawn, Drawn, Operation, Told, COUNT};
-use reference::call::{answer, Answer, Call, Kernels, Sound};
+use drawn::{COUNT, Drawn, Operation, Told, drawn};
+use reference::call::{Answer, Call, Kernels, Sound, answer};
 use reference::shape::Op;
-use reference::{day, Rust};
+use reference::{Rust, day};
 
 /// A call by the C interface's own lists.
 fn call(op: Op, of: &Drawn, inputs: Vec<Vec<f64>>) -> Answer {

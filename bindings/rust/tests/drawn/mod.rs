@@ -63,9 +63,9 @@ impl Told {
     pub fn line(&self, operation: Operation) -> String {
         let bits = |x: &f64| if x.is_nan() { 0x7ff8_0000_0000_0000 } else { x.to_bits() };
         let words = self.numbers.iter().map(bits).chain(self.words.iter().map(|&word| u64::from(word)));
-        let digest = words.flat_map(u64::to_le_bytes).fold(0xcbf2_9ce4_8422_2325_u64, |sum, byte| {
-            (sum ^ u64::from(byte)).wrapping_mul(0x0000_0100_0000_01b3)
-        });
+        let digest = words
+            .flat_map(u64::to_le_bytes)
+            .fold(0xcbf2_9ce4_8422_2325_u64, |sum, byte| (sum ^ u64::from(byte)).wrapping_mul(0x0000_0100_0000_01b3));
         let place = self.place.map_or("-".to_string(), |place| place.to_string());
         format!("{operation:?} {} {place} {digest:016x}", self.number)
     }
