@@ -92,8 +92,9 @@ typedef enum gritstrut_operation {
 } gritstrut_operation;
 
 /* What the place of an operation counts when it has ended with a number, in one or a few words; NULL
- * where there is no place. Of a step the number is that of a stage of its report. equalities is how
- * many there are (of a day its balances): with some, a place with 5 names no variable. */
+ * where there is no place. equalities is how many there are (of a day its balances): with some, a
+ * place with 5 names no variable. Of a step the number is that of a stage of its report; its relaxed
+ * stage has no equalities, and its variable n is the relaxation. */
 static inline const char *gritstrut_place_word(gritstrut_operation operation, uint32_t number,
                                                size_t equalities)
 {
@@ -236,6 +237,41 @@ static inline uint32_t gritstrut_reconcile_readings(const gritstrut_readings *of
 static inline double gritstrut_volume(uint32_t before, uint32_t after)
 {
     return (double)after - (double)before + (after < before ? 1000000.0 : 0.0);
+}
+
+/* What the mending of a day's logger records comes to, by meter. */
+typedef struct gritstrut_mended {
+    size_t kept_bytes;
+    uint64_t totals[16], rollovers[16];
+    uint32_t meters; /* bit i is set where meter i has a kept record */
+} gritstrut_mended;
+
+/* How many records so many bytes are, a short one at the end among them. */
+static inline size_t gritstrut_record_count(size_t bytes)
+{
+    return bytes / 16 + (bytes % 16 != 0 ? 1 : 0);
+}
+
+/* Mends records: kept has room for as many bytes, reasons for a byte of each record. */
+static inline uint32_t gritstrut_mend_records(const uint8_t *records, size_t bytes, uint8_t *kept,
+                                              uint8_t *reasons, gritstrut_mended *mended)
+{
+    uint8_t none[2] = {0, 0}, no_record[1] = {0};
+    const size_t count = gritstrut_record_count(bytes);
+    if (gritstrut_lacks(records, bytes) || gritstrut_lacks(kept, bytes) ||
+        gritstrut_lacks(reasons, count))
+        return GRITSTRUT_LENGTH;
+    return gritstrut_mend(bytes > 0 ? records : no_record, bytes, bytes > 0 ? kept : none, bytes,
+                          bytes > 0 ? reasons : none + 1, count, mended->totals, 16,
+                          mended->rollovers, 16, &mended->kept_bytes, &mended->meters);
+}
+
+/* Why a record was dropped, in words. */
+static inline const char *gritstrut_reason_word(uint8_t reason)
+{
+    static const char *const words[] = {"kept", "short", "spare bytes not zero", "meter over 15",
+                                        "reading over 999999", "minute not later"};
+    return reason < 6 ? words[reason] : "no reason";
 }
 
 /* A day by measured values. */

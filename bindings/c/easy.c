@@ -154,6 +154,31 @@ static void try_day(void)
     HOLDS(misfit == suspected.misfit);
 }
 
+static void try_mending(void)
+{
+    /* meter 1: 999999 at minute 0, 4 at minute 1, again minute 1; and a short record */
+    static const uint8_t records[51] = {1, 0, 0, 0, 0, 0, 0, 0, 0x3f, 0x42, 0x0f, 0, 0, 0, 0, 0,
+                                        1, 0, 0, 0, 1, 0, 0, 0, 4,    0,    0,    0, 0, 0, 0, 0,
+                                        1, 0, 0, 0, 1, 0, 0, 0, 5,    0,    0,    0, 0, 0, 0, 0};
+    static gritstrut_mended mended;
+    uint8_t kept[51], reasons[4], own[51], why[4];
+    uint64_t totals[16], rollovers[16];
+    size_t bytes = 0;
+    uint32_t meters = 0;
+
+    memset(kept, 0, sizeof kept);
+    memset(own, 0, sizeof own);
+    HOLDS(gritstrut_record_count(51) == 4 && gritstrut_record_count(48) == 3 && gritstrut_record_count(0) == 0);
+    HOLDS(gritstrut_mend_records(records, 51, kept, reasons, &mended) == GRITSTRUT_DONE);
+    HOLDS(gritstrut_mend(records, 51, own, 51, why, 4, totals, 16, rollovers, 16, &bytes, &meters) == GRITSTRUT_DONE);
+    HOLDS(same(kept, own, sizeof kept) && same(reasons, why, sizeof why) && same(totals, mended.totals, sizeof totals));
+    HOLDS(same(rollovers, mended.rollovers, sizeof rollovers) && bytes == mended.kept_bytes && meters == mended.meters);
+    HOLDS(bytes == 32 && meters == 2 && mended.totals[1] == 5 && mended.rollovers[1] == 1);
+    HOLDS(strcmp(gritstrut_reason_word(reasons[2]), "minute not later") == 0 && strcmp(gritstrut_reason_word(reasons[3]), "short") == 0);
+    HOLDS(gritstrut_mend_records(NULL, 0, NULL, NULL, &mended) == GRITSTRUT_DONE && mended.kept_bytes == 0);
+    HOLDS(gritstrut_mend_records(NULL, 1, kept, reasons, &mended) == GRITSTRUT_LENGTH);
+}
+
 static void try_step(void)
 {
     static const uint8_t kinds[3] = {GRITSTRUT_FLOOR, GRITSTRUT_EQUALITY, GRITSTRUT_EQUALITY};
@@ -306,6 +331,7 @@ int main(void)
     }
     try_least_squares();
     try_day();
+    try_mending();
     try_step();
     try_hessian();
     try_search();

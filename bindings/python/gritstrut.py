@@ -30,7 +30,7 @@ import sys
 import threading
 from typing import Any, List, NamedTuple, Optional
 
-__all__ = ["Refused", "settle", "certify", "reconcile", "suspect", "nnls", "lsei", "Problem", "equality", "floor", "band", "step",
+__all__ = ["Refused", "settle", "certify", "reconcile", "mend", "suspect", "nnls", "lsei", "Problem", "equality", "floor", "band", "step",
            "check", "Hessian", "search", "version", "MESSAGES"]
 # A doctest that is run as a script shows the same names as one that is imported.
 if __name__ == "__main__":
@@ -133,8 +133,8 @@ def _workspaces():
     return _lent.floats, _SIZE(8192), _lent.words, _SIZE(512)
 
 
-def _call(name, *given):
-    """The number of a call: arrays go with their lengths behind them, single results as they are, the workspaces last."""
+def _call(name, *given, lent=True):
+    """The number of a call: arrays go with their lengths behind them, single results as they are, what is lent last."""
     words: List[Any] = []
     for each in given:
         words.append(each)
@@ -142,7 +142,7 @@ def _call(name, *given):
             words.append(_SIZE(len(each)))
     function = getattr(_library, "gritstrut_" + name)
     function.restype = _WORD
-    return function(*words, *_workspaces())
+    return function(*words, *(_workspaces() if lent else ()))
 
 
 def _list(given) -> list:
@@ -296,6 +296,38 @@ def reconcile(before, after, spreads, balances) -> Reconciled:
     number = _call("reconcile", _SIZE(n), _SIZE(m), *readings, _floats(spreads), rows, volumes, named, ctypes.byref(place))
     _raise(number, place, _DAY if m else {**_DAY, 5: "meter"})
     return Reconciled(_shape(volumes, before, after, spreads), [bool(each) for each in named])
+
+
+class Mended(NamedTuple):
+    """Kept records, why each record was dropped or "" where it was kept, and totals and rollovers by meter."""
+
+    kept: bytes
+    reasons: List[str]
+    totals: dict
+    rollovers: dict
+
+
+_REASONS = ["", "short", "spare bytes not zero", "meter over 15", "reading over 999999", "minute not later"]
+
+
+def mend(records: bytes) -> Mended:
+    """A day's logger records of 16 bytes, mended: meter (2), zero (2), minute (4), reading (4), zero (4), little-endian.
+
+    >>> import struct
+    >>> day = b"".join(struct.pack("<HHIII", 1, 0, minute, reading, 0) for minute, reading in [(0, 999999), (1, 4), (1, 5)])
+    >>> mended = mend(day + b"cut")
+    >>> len(mended.kept), mended.reasons, mended.totals, mended.rollovers
+    (32, ['', '', 'minute not later', 'short'], {1: 5}, {1: 1})
+    """
+    given = bytes(records)
+    count = -(-len(given) // 16)
+    kept, reasons = _room(_BYTE, len(given)), _room(_BYTE, count)
+    totals, rollovers, size, meters = _room(_LONG, 16), _room(_LONG, 16), _SIZE(), _WORD()
+    _raise(_call("mend", (_BYTE * len(given)).from_buffer_copy(given), kept, reasons, totals, rollovers, ctypes.byref(size),
+                 ctypes.byref(meters), lent=False))
+    seen = [meter for meter in range(16) if meters.value >> meter & 1]
+    return Mended(bytes(kept[:size.value]), [_REASONS[reason] for reason in reasons], {meter: totals[meter] for meter in seen},
+                  {meter: rollovers[meter] for meter in seen})
 
 
 class Suspected(NamedTuple):

@@ -49,6 +49,11 @@ extern "C" {
         volumes: *mut f64, volumes_len: usize, named: *mut u8, named_len: usize, place: *mut u32,
         w: *mut f64, w_len: usize, iw: *mut u32, iw_len: usize,
     ) -> u32;
+    pub fn gritstrut_mend(
+        records: *const u8, records_len: usize, kept: *mut u8, kept_len: usize, reasons: *mut u8, reasons_len: usize,
+        totals: *mut u64, totals_len: usize, rollovers: *mut u64, rollovers_len: usize, kept_bytes: *mut usize,
+        meters: *mut u32,
+    ) -> u32;
     pub fn gritstrut_settle(
         n: usize, m: usize, p: usize, values: *const f64, values_len: usize, spreads: *const f64,
         spreads_len: usize, balances: *const f64, balances_len: usize, limits: *const f64, limits_len: usize,

@@ -7,7 +7,7 @@ mod settle;
 #[path = "../examples/valves.rs"]
 mod valves;
 
-use gritstrut::{lsei, nnls, Aim, ConstraintKind, Day, Ending, Failure, MatRef, Readings, Search, Slopes};
+use gritstrut::{lsei, mend, nnls, Aim, ConstraintKind, Day, Ending, Failure, MatRef, Readings, Reason, Search, Slopes};
 
 #[test]
 fn meters_balance() {
@@ -93,4 +93,18 @@ fn rows_may_stand_apart() {
     assert_eq!(nnls(wide, &[5.0, 6.0]), nnls(MatRef::new(&near, 2, 2), &[5.0, 6.0]));
     let short = MatRef { data: &apart[..4], rows: 2, cols: 2, stride: 3 };
     assert_eq!(nnls(short, &[5.0, 6.0]).map(|_| ()), Err(Failure::Length));
+}
+
+#[test]
+fn records_are_mended() {
+    let record = |minute: u32, reading: u32| {
+        let words = [1_u32, minute, reading, 0];
+        words.into_iter().flat_map(u32::to_le_bytes).collect::<Vec<u8>>()
+    };
+    let day = [record(0, 999_999), record(1, 4), record(1, 5), vec![7; 3]].concat();
+    let mended = mend(&day).unwrap();
+    assert_eq!(mended.kept, day[..32]);
+    assert_eq!(mended.reasons, [Reason::Kept, Reason::Kept, Reason::Minute, Reason::Short]);
+    assert_eq!((mended.totals[1], mended.rollovers[1]), (5, 1));
+    assert!(mended.meters[1] && !mended.meters[0]);
 }
