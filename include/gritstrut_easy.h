@@ -136,20 +136,20 @@ static inline const double *gritstrut_given(const double *array, const double *o
 /* -------------------------------------------------------------------------- nonnegative, and LSEI */
 
 /* min ||A x - b|| with x >= 0. rounds 0 allows the most, three for each column. */
-typedef struct gritstrut_nonnegative {
+typedef struct gritstrut_nnls_problem {
     size_t rows, columns;
     const double *a; /* rows * columns */
     const double *b; /* rows */
     size_t rounds;
-} gritstrut_nonnegative;
+} gritstrut_nnls_problem;
 
-typedef struct gritstrut_nonnegative_answer {
+typedef struct gritstrut_nnls_answer {
     double x[GRITSTRUT_MOST_COLUMNS];
     uint32_t rounds, factorings;
-} gritstrut_nonnegative_answer;
+} gritstrut_nnls_answer;
 
-static inline uint32_t gritstrut_solve_nnls(const gritstrut_nonnegative *of,
-                                            gritstrut_nonnegative_answer *answer,
+static inline uint32_t gritstrut_solve_nnls(const gritstrut_nnls_problem *of,
+                                            gritstrut_nnls_answer *answer,
                                             gritstrut_workspace *work)
 {
     const size_t m = of->rows, n = of->columns;
@@ -163,21 +163,21 @@ static inline uint32_t gritstrut_solve_nnls(const gritstrut_nonnegative *of,
 }
 
 /* min ||E x - f|| with C x = d and G x >= h. */
-typedef struct gritstrut_least_squares {
+typedef struct gritstrut_lsei_problem {
     size_t unknowns, equalities, rows, inequalities;
     const double *c, *d; /* equalities * unknowns, equalities */
     const double *e, *f; /* rows * unknowns, rows */
     const double *g, *h; /* inequalities * unknowns, inequalities */
-} gritstrut_least_squares;
+} gritstrut_lsei_problem;
 
-typedef struct gritstrut_least_squares_answer {
+typedef struct gritstrut_lsei_answer {
     double x[GRITSTRUT_MOST_UNKNOWNS];
     double multipliers[GRITSTRUT_MOST_EQUALITIES + GRITSTRUT_MOST_INEQUALITIES]; /* equalities' first */
     uint32_t place;
-} gritstrut_least_squares_answer;
+} gritstrut_lsei_answer;
 
-static inline uint32_t gritstrut_solve_lsei(const gritstrut_least_squares *of,
-                                            gritstrut_least_squares_answer *answer,
+static inline uint32_t gritstrut_solve_lsei(const gritstrut_lsei_problem *of,
+                                            gritstrut_lsei_answer *answer,
                                             gritstrut_workspace *work)
 {
     const size_t n = of->unknowns, mc = of->equalities, me = of->rows, mg = of->inequalities;

@@ -36,10 +36,10 @@ static const double unit[N * N] = {1, 0, 0, 0, 0, 1, 0, 0, 0, 0, 1, 0, 0, 0, 0, 
 static void try_least_squares(void)
 {
     static const double a[6] = {1, 2, 3, 4, 5, 7}, b[3] = {1, 0, 2};
-    static gritstrut_nonnegative of;
-    static gritstrut_nonnegative_answer answer;
-    static gritstrut_least_squares squares;
-    static gritstrut_least_squares_answer solved;
+    static gritstrut_nnls_problem of;
+    static gritstrut_nnls_answer answer;
+    static gritstrut_lsei_problem squares;
+    static gritstrut_lsei_answer solved;
     double x[N], multipliers[2];
     uint32_t rounds = 0, factorings = 0, place = 0;
 
@@ -104,6 +104,8 @@ static void try_day(void)
     HOLDS(gritstrut_reconcile_readings(&readings, &reconciled, &work) == GRITSTRUT_DONE);
     HOLDS(gritstrut_reconcile(N, M, before, N, after, N, spreads, N, header, N, x, N, named, N, &place, LENT) == GRITSTRUT_DONE);
     HOLDS(same(x, reconciled.volumes, sizeof x) && same(named, reconciled.named, sizeof named));
+    readings.before = NULL;
+    HOLDS(gritstrut_reconcile_readings(&readings, &reconciled, &work) == GRITSTRUT_LENGTH);
     HOLDS(gritstrut_volume(before[1], after[1]) == 790.0 && gritstrut_volume(before[0], after[0]) == 1200.0);
 
     day.meters = N;
@@ -152,6 +154,14 @@ static void try_day(void)
     HOLDS(same(numbers + 2 * N, suspected.tests, sizeof x) && same(groups, suspected.groups, sizeof groups));
     HOLDS(same(marks, suspected.marks, sizeof marks) && same(&finding, &suspected.finding, sizeof finding));
     HOLDS(misfit == suspected.misfit);
+    {
+        static const uint8_t still[N] = {1, 0, 0, 0};
+        day.still = still;
+        HOLDS(gritstrut_suspect_day(&day, &suspected, &work) == GRITSTRUT_DONE);
+        HOLDS(gritstrut_suspect(N, M, values, N, spreads, N, header, N, still, N, numbers, 3 * N, groups, N, marks, N, &misfit,
+                                &finding, &place, LENT) == GRITSTRUT_DONE);
+        HOLDS(same(numbers, suspected.shares, sizeof x) && suspected.shares[0] == 0.0);
+    }
 }
 
 static void try_mending(void)
@@ -183,7 +193,7 @@ static void try_step(void)
 {
     static const uint8_t kinds[3] = {GRITSTRUT_FLOOR, GRITSTRUT_EQUALITY, GRITSTRUT_EQUALITY};
     static const double rows[3 * N] = {0, 0, 0, 1, 1, 1, -1, -1, 1, 1, -1, -1}, sums[3] = {70.2, -2.6, -2.6};
-    static const double lower[N] = {0.5, -HUGE_VAL, -HUGE_VAL, -HUGE_VAL};
+    static const double lower[N] = {1.0, -HUGE_VAL, -HUGE_VAL, -HUGE_VAL};
     const double zeros[N] = {0, 0, 0, 0}, open[N] = {HUGE_VAL, HUGE_VAL, HUGE_VAL, HUGE_VAL};
     static gritstrut_problem problem;
     static gritstrut_step_answer step;
@@ -208,7 +218,7 @@ static void try_step(void)
     HOLDS(relaxation == step.relaxation && same(report, step.report, sizeof report));
     HOLDS(own.rounds == tally.rounds && own.factorings == tally.factorings && tally.factorings > 0);
     HOLDS(gritstrut_check_step(&problem, &step, 1e-9, verdict, &work) == GRITSTRUT_DONE && verdict[GRITSTRUT_TEST] == 0);
-    HOLDS(step.lower_multipliers[0] >= 0.0 && step.upper_multipliers[0] == 0.0);
+    HOLDS(step.lower_multipliers[0] > 0.1 && step.upper_multipliers[0] == 0.0);
     step.d[3] += 1.0;
     HOLDS(gritstrut_check_step(&problem, &step, 1e-9, verdict, &work) == GRITSTRUT_DONE);
     HOLDS(strcmp(gritstrut_test_word(verdict), "stationarity") == 0 && strcmp(gritstrut_part_word(verdict), "variable") == 0);
@@ -243,6 +253,8 @@ static void try_step(void)
     HOLDS(step.report[GRITSTRUT_EXACT_PLACE] == 0);
     problem.lower = NULL;
     HOLDS(gritstrut_solve_step(&problem, &step, NULL, &work) == GRITSTRUT_DONE && step.d[0] == 0.0);
+    problem.gradient = header;
+    HOLDS(gritstrut_solve_step(&problem, &step, NULL, &work) == GRITSTRUT_DONE && step.d[0] == -1.0 && step.d[2] == 1.0);
 }
 
 static void try_hessian(void)
