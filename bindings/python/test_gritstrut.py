@@ -73,6 +73,47 @@ class Arrays(unittest.TestCase):
         self.assertEqual(answers, [plain] * 200)
 
 
+class ByHand(unittest.TestCase):
+    def near(self, found, owed, within=1e-9):
+        self.assertEqual(len(found), len(owed))
+        for one, two in zip(found, owed):
+            self.assertLess(abs(one - two), within, (found, owed))
+
+    def test_volumes_that_zero_holds(self):
+        given = dict(values=[3, 10], spreads=[1, 1], balances=[[1, 1]], nonnegative=True)
+        day = gritstrut.settle(**given)
+        self.near(day.volumes, [0, 0], 1e-3)
+        self.assertEqual((len(day.balance_multipliers), len(day.limit_multipliers)), (1, 2))
+        bound = gritstrut.certify(**given, volumes=day.volumes, balance_multipliers=day.balance_multipliers,
+                                  limit_multipliers=day.limit_multipliers)
+        self.assertEqual(bound, day.bound)
+        self.near(gritstrut.settle([3, 10], [1, 1], [[1, 1]]).volumes, [-3.5, 3.5])
+
+    def test_what_meters_show(self):
+        found = gritstrut.suspect(VALUES, SPREADS, BALANCES)
+        self.near(found.shares, [0.16, 0.16, 0.64, 0.04])
+        self.near(found.spreads, [spread * math.sqrt(1 - share) for spread, share in zip(SPREADS, found.shares)])
+        self.near(found.tests, [0.8, 0.8, -0.8, -0.8])
+        self.near([found.misfit], [0.64])
+        self.assertEqual((found.freedom, found.agree, found.groups), (1, True, [0, 0, 0, 0]))
+        self.assertEqual(gritstrut.suspect(VALUES, SPREADS, BALANCES, still=[True, False, False, False]).shares[0], 0.0)
+
+    def test_sides_of_checked_steps(self):
+        sum_of_two = [gritstrut.equality([1, 1], -2)]
+        for problem, owed in [(gritstrut.Problem([1.0], [-2.0], upper=[1.5]), [1.5]),
+                              (gritstrut.Problem([1.0], [2.0], lower=[-1.5]), [-1.5]),
+                              (gritstrut.Problem([1, 1], constraints=sum_of_two, upper=[0.5, math.inf]), [0.5, 1.5]),
+                              (gritstrut.Problem([1, 1], constraints=sum_of_two, lower=[1.5, -math.inf]), [1.5, 0.5])]:
+            step = gritstrut.step(problem)
+            self.near(step.d, owed)
+            self.assertEqual(gritstrut.check(problem, step.d, step.multipliers), gritstrut.Verdict(True))
+
+    def test_multipliers_of_a_search(self):
+        found = gritstrut.search(lambda x: 5 + (x[0] - 1) ** 2 + (x[1] - 2.5) ** 2, [2, 0], tol=1e-12,
+                                 constraints={"type": "ineq", "fun": lambda x: x[0] - 2 * x[1] + 2})
+        self.near(found.multipliers, [0.8], 1e-5)
+
+
 class Refusals(unittest.TestCase):
     def refused(self, number, place, call, *words, **named):
         with self.assertRaises(gritstrut.Refused) as caught:

@@ -7,7 +7,11 @@ mod settle;
 #[path = "../examples/valves.rs"]
 mod valves;
 
-use gritstrut::{lsei, mend, nnls, Aim, ConstraintKind, Day, Ending, Failure, MatRef, Readings, Reason, Search, Slopes};
+use gritstrut::subproblem::{solve, Linearization};
+use gritstrut::{
+    lsei, mend, nnls, Aim, Checked, ConstraintKind, Day, Ending, Failure, MatRef, Part, Problem, Readings, Reason, Search,
+    Slopes, Test, Verdict,
+};
 
 #[test]
 fn meters_balance() {
@@ -107,4 +111,63 @@ fn records_are_mended() {
     assert_eq!(mended.reasons, [Reason::Kept, Reason::Kept, Reason::Minute, Reason::Short]);
     assert_eq!((mended.totals[1], mended.rollovers[1]), (5, 1));
     assert!(mended.meters[1] && !mended.meters[0]);
+}
+
+/// One variable, its factor 1, and a gradient against a bound.
+fn bounded<'a>(gradient: &'a [f64], lower: &'a [f64], upper: &'a [f64]) -> Problem<'a> {
+    Problem { factor: &[1.0], gradient, constraints: &[], values: &[], jacobian: &[], lower, upper }
+}
+
+#[test]
+fn sides_hold_checked_steps() {
+    let (below, above) = (bounded(&[2.0], &[-1.5], &[9.0]), bounded(&[-2.0], &[-9.0], &[1.5]));
+    for (problem, d) in [(below, -1.5), (above, 1.5)] {
+        let step = problem.solve().unwrap();
+        assert!((step.d[0] - d).abs() < 1e-12);
+        let (lowers, uppers) = problem.sides(&step.d, &step.multipliers);
+        let (d, multipliers) = (&step.d[..], &step.multipliers[..]);
+        let checked = Checked { d, multipliers, lower_multipliers: &lowers, upper_multipliers: &uppers };
+        assert_eq!(problem.check(&checked, 1e-9), Ok(Verdict::Yes));
+        let turned = Checked { lower_multipliers: &uppers, upper_multipliers: &lowers, ..checked };
+        assert_eq!(problem.check(&turned, 1e-9), Ok(Verdict::No(Test::Stationarity, Part::Variable(0))));
+    }
+}
+
+#[test]
+fn bounds_that_mean_nothing() {
+    let bounds = [f64::INFINITY];
+    assert_eq!(bounded(&[-2.0], &bounds, &bounds).solve().map(|_| ()), Err(Failure::Bound { place: 0 }));
+    let (gradient, values, jacobian, kinds) = (&[-2.0][..], &[][..], &[][..], &[][..]);
+    let model = Linearization { gradient, values, jacobian, kinds, lower: &bounds, upper: &bounds };
+    assert_eq!(solve(&[1.0], &model).unwrap().d, [2.0]);
+}
+
+#[test]
+fn searches_tell_what_they_found() {
+    let mut aim = Aim {
+        x0: &[2.0, 0.0],
+        kinds: &[ConstraintKind::Ineq],
+        lower: &[],
+        upper: &[],
+        ftol: 1e-12,
+        budget: 500,
+        slopes: Slopes::Forward,
+    };
+    let mut counts = vec![];
+    for slopes in [Slopes::Forward, Slopes::Central] {
+        aim.slopes = slopes;
+        let (mut search, mut count) = (Search::begin(&aim).unwrap(), 0);
+        let value = |function: usize, x: &[f64]| match function {
+            0 => {
+                count += 1;
+                5.0 + (x[0] - 1.0).powi(2) + (x[1] - 2.5).powi(2)
+            }
+            _ => x[0] - 2.0 * x[1] + 2.0,
+        };
+        assert_eq!(search.run(value, |_, _, _| unreachable!()), Ok(Ending::Converged));
+        assert!((search.multipliers()[0] - 0.8).abs() < 1e-5);
+        assert!((search.values()[0] - 5.8).abs() < 1e-9 && search.values()[1].abs() < 1e-9);
+        counts.push(count);
+    }
+    assert!(counts[0] < counts[1], "central differences cost twice: {counts:?}");
 }
