@@ -677,6 +677,52 @@ def _bounds(bounds, n):
             [math.inf if high is None else float(high) for _, high in pairs])
 
 
+class _Machine:
+    """The library's machine, and the functions that answer it."""
+
+    def __init__(self, fun, x0, args, jac, constraints):
+        self.start = _flat(x0)
+        self.functions = _Functions(fun, x0, args, jac, constraints)
+        self.n, self.m = len(self.start), len(self.functions.kinds)
+        self.machine, self.words, self.place = _room(_DOUBLE, 1024), _room(_WORD, 32), _WORD(_NOWHERE)
+        self.number, self.njev, self.nit, self.known = 0, 0, 0, False
+
+    def begin(self, bounds, tol, maxfev, differences):
+        scheme = 0 if self.functions.told else differences
+        kinds = (_BYTE * self.m)(*self.functions.kinds)
+        self.number = _call("search_begin", _SIZE(self.n), _SIZE(self.m), kinds, _floats(bounds[0]), _floats(bounds[1]),
+                            _floats(self.start), _DOUBLE(tol), _WORD(maxfev), _WORD(scheme), self.machine, self.words,
+                            ctypes.byref(self.place))
+
+    def accepted(self):
+        return self.machine[_X:_X + self.n]
+
+    def answer(self):
+        """What the question that stands is told."""
+        x, every = self.machine[_POINT:_POINT + self.n], range(1 + self.m)
+        if self.words[0] == _ASKED["slopes"]:
+            self.njev += 1
+            return [slope for function in every for slope in self.functions.slopes(function, x)]
+        if self.words[0] in (_ASKED["start"], _ASKED["trial"]):
+            return [self.functions.value(function, x) for function in every]
+        return [self.functions.value(self.m - self.words[5], x)]
+
+    def go_on(self):
+        """Answers a question; whether another point was accepted by that. The start is the first, and is no other."""
+        before = self.accepted()
+        self.number = _call("search_tell", _floats(self.answer()), self.machine, self.words)
+        moved = self.known and self.accepted() != before
+        self.known, self.nit = True, self.nit + moved
+        return moved
+
+    def found(self, stopped):
+        ended, functions = self.words[0], self.functions
+        message = "stopped by the callback" if stopped and ended not in _ENDS else _ENDS.get(ended, "not begun")
+        return Found(x=functions.point(self.accepted()), fun=self.machine[_VALUES], success=ended == 6, status=ended,
+                     message=message, nfev=functions.nfev, njev=self.njev, nit=self.nit,
+                     multipliers=functions.point(self.machine[_MULTIPLIERS:_MULTIPLIERS + self.m]))
+
+
 def search(fun, x0, args=(), jac=None, bounds=None, constraints=(), tol=1e-6, maxfev=10000, callback=None) -> Found:
     """The x of least fun(x) under constraints and bounds, as SciPy's `minimize(method="SLSQP")` is called.
 
@@ -691,43 +737,18 @@ def search(fun, x0, args=(), jac=None, bounds=None, constraints=(), tol=1e-6, ma
     >>> found.message, [round(entry, 6) for entry in found.x], round(found.fun, 6)
     ('converged', [1.4, 1.7], 0.8)
     """
-    start = _flat(x0)
-    n = len(start)
-    functions = _Functions(fun, x0, args, jac, constraints)
-    m = len(functions.kinds)
-    lower, upper = _bounds(bounds, n)
-    scheme = 0 if functions.told else 2 if jac == "3-point" else 1
-    machine, words, place = _room(_DOUBLE, 1024), _room(_WORD, 32), _WORD(_NOWHERE)
-    number = _call("search_begin", _SIZE(n), _SIZE(m), (_BYTE * m)(*functions.kinds), _floats(lower), _floats(upper), _floats(start),
-                   _DOUBLE(tol), _WORD(maxfev), _WORD(scheme), machine, words, ctypes.byref(place))
-    counts = {"njev": 0, "nit": 0}
-    shown, stopped = None, False
-    while number == 0 and words[0] in _ASKED.values() and not stopped:
-        x = machine[_POINT:_POINT + n]
-        if words[0] == _ASKED["slopes"]:
-            told = [slope for each in range(1 + m) for slope in functions.slopes(each, x)]
-            counts["njev"] += 1
-        elif words[0] in (_ASKED["start"], _ASKED["trial"]):
-            told = [functions.value(each, x) for each in range(1 + m)]
-        else:
-            told = [functions.value(m - words[5], x)]
-        number = _call("search_tell", _floats(told), machine, words)
-        accepted = machine[_X:_X + n]
-        if shown is not None and accepted != shown:
-            counts["nit"] += 1
-            try:
-                if callback is not None:
-                    callback(functions.point(accepted))
-            except StopIteration:
-                stopped = True
-        shown = accepted
-    if number != 17:
-        _raise(number, place, {15: "variable"})
-    ended = words[0]
-    message = "stopped by the callback" if stopped and ended not in _ENDS else _ENDS.get(ended, "not begun")
-    return Found(x=functions.point(machine[_X:_X + n]), fun=machine[_VALUES], success=ended == 6, status=ended, message=message,
-                 nfev=functions.nfev, njev=counts["njev"], nit=counts["nit"],
-                 multipliers=_shape(machine[_MULTIPLIERS:_MULTIPLIERS + m], x0))
+    machine = _Machine(fun, x0, args, jac, constraints)
+    machine.begin(_bounds(bounds, machine.n), tol, maxfev, 2 if jac == "3-point" else 1)
+    stopped = False
+    while machine.number == 0 and machine.words[0] in _ASKED.values() and not stopped:
+        try:
+            if machine.go_on() and callback is not None:
+                callback(machine.functions.point(machine.accepted()))
+        except StopIteration:
+            stopped = True
+    if machine.number != 17:
+        _raise(machine.number, machine.place, {15: "variable"})
+    return machine.found(stopped)
 
 
 if __name__ == "__main__":

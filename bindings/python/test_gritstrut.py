@@ -168,8 +168,7 @@ def flow_slopes(valve, x):
 
 class Valves(unittest.TestCase):
     def find(self, within, jac, told, **more):
-        slopes = (lambda x: [[a + b for a, b in zip(flow_slopes(0, x), flow_slopes(1, x))],
-                             ]) if told else None
+        slopes = (lambda x: [a + b for a, b in zip(flow_slopes(0, x), flow_slopes(1, x))]) if told else None
         spare = (lambda x: [flow_slopes(0, x), flow_slopes(1, x)]) if told else None
         constraints = [{"type": "eq", "fun": lambda x: flow(0, x) + flow(1, x) - 520.0, "jac": slopes},
                        {"type": "ineq", "fun": lambda x: [flow(i, x) - LEAST[i] for i in range(2)], "jac": spare}]
