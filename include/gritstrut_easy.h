@@ -11,8 +11,8 @@
  * - An answer struct has its arrays inside, as long as the largest sizes ask: entries past your own
  *   sizes are not written. Its place is GRITSTRUT_NOWHERE where there is none, and
  *   gritstrut_place_word says what it counts. An answer is written only as gritstrut.h says.
- * - A gritstrut_workspace is 66 KiB: make it static, or allocate it once. One for each thread. Beside
- *   what the library takes, a function here takes up to 7 KiB of stack (settling and certifying).
+ * - A gritstrut_workspace is 66 KiB: make it static, or allocate it once. One for each thread. Of
+ *   stack under 10 KiB was measured for gritstrut_settle_day, which writes the limits down.
  *
  *     static gritstrut_workspace work;
  *     gritstrut_day day = {0};
