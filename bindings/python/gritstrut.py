@@ -36,7 +36,7 @@ __all__ = ["Refused", "settle", "certify", "reconcile", "mend", "suspect", "nnls
 if __name__ == "__main__":
     sys.modules.setdefault("gritstrut", sys.modules["__main__"])
 
-VERSION = (0, 3)
+VERSION = (0, 3)  # of the library that this file calls: its first two numbers
 _SIZE, _DOUBLE, _WORD, _BYTE, _LONG = ctypes.c_size_t, ctypes.c_double, ctypes.c_uint32, ctypes.c_uint8, ctypes.c_uint64
 _NOWHERE = 2 ** 32 - 1
 
@@ -119,8 +119,8 @@ _lent = threading.local()
 def version() -> str:
     """The version of the library that is loaded.
 
-    >>> version()
-    '0.3.0'
+    >>> version().startswith("%d.%d." % VERSION)
+    True
     """
     number = _library.gritstrut_version()
     return f"{number // 10000}.{number // 100 % 100}.{number % 100}"

@@ -53,7 +53,7 @@ pub use workspace::Workspace;
 /// The version of the library that was linked: 10000 * first + 100 * second + third.
 ///
 /// ```
-/// assert_eq!(gritstrut::version() / 100, 3);
+/// assert!(gritstrut::version() >= 300);
 /// ```
 pub fn version() -> u32 {
     // SAFETY: it takes nothing and reads nothing.

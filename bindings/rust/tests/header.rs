@@ -1,4 +1,5 @@
-//! The declarations of src/ffi.rs are those of the header: the same names, types and order.
+//! The declarations of src/ffi.rs are those of the header: the same names, types and order; and the crate's version is the
+//! library's.
 
 use std::collections::BTreeMap;
 use std::path::Path;
@@ -85,4 +86,11 @@ fn declarations_are_the_headers() {
     for (name, parameters) in known {
         assert_eq!(declared.get(&name), Some(&parameters), "gritstrut_{name}");
     }
+}
+
+#[test]
+fn version_is_the_librarys() {
+    let number = gritstrut::version();
+    let version = format!("{}.{}.{}", number / 10000, number / 100 % 100, number % 100);
+    assert_eq!(version, env!("CARGO_PKG_VERSION"));
 }
