@@ -1,6 +1,6 @@
 /* Holds gritstrut_sqrt against the machine's root on many bit patterns, and times both.
  *
- *     rt staticlib gritstrut
+ *     tools/library
  *     cc -std=c99 -D_POSIX_C_SOURCE=199309L -O2 -Wall -Wextra -I include bench/root.c target/staticlib/libgritstrut.a -lm -o target/root && target/root
  */
 #include <inttypes.h>

@@ -11,7 +11,7 @@
 #include <math.h>
 #include <stdio.h>
 #include <string.h>
-#include "gritstrut.h"
+#include "gritstrut_easy.h"
 
 /* ---------------------------------------------------------------------------------- the problem */
 
@@ -83,37 +83,32 @@ static double slope(int function, int variable, const double *x) {
 
 /* ----------------------------------------------------------------------------------- the search */
 
-/* All that the search knows, and the workspaces that it is lent. */
-static double machine[GRITSTRUT_SEARCH_MACHINE];
-static uint32_t words[GRITSTRUT_SEARCH_WORDS];
-static double w[GRITSTRUT_FLOATS];
-static uint32_t iw[GRITSTRUT_WORDS];
+/* All that the search knows, and the workspace that it is lent. */
+static gritstrut_search search;
+static gritstrut_workspace work;
+static gritstrut_aim aim;
 
 /* How often the objective's value was worked out: this is what the budget counts. */
 static unsigned evaluations = 0;
 
-/* The answer to the question that stands, and how many numbers it has: 0 where none stands. */
-static size_t answer(double *told) {
-    const double *point = machine + GRITSTRUT_SEARCH_POINT;
-    int function;
-    switch (words[GRITSTRUT_SEARCH_ASKED]) {
+/* The answer to the question that stands. */
+static void answer(double *told) {
+    const double *point = gritstrut_point(&search);
+    int function, i, j;
+    switch (gritstrut_asked(&search)) {
     case GRITSTRUT_SEARCH_START: /* all values, the objective's first */
     case GRITSTRUT_SEARCH_TRIAL:
-        for (int j = 0; j < FUNCTIONS; j++) told[j] = value(j, point);
+        for (j = 0; j < FUNCTIONS; j++) told[j] = value(j, point);
         evaluations++;
-        return FUNCTIONS;
+        break;
     case GRITSTRUT_SEARCH_SLOPES: /* all slopes, the objective's row first */
-        for (int j = 0; j < FUNCTIONS; j++)
-            for (int i = 0; i < VARIABLES; i++) told[j * VARIABLES + i] = slope(j, i, point);
-        return FUNCTIONS * VARIABLES;
-    case GRITSTRUT_SEARCH_RAISED: /* the value of one function */
-    case GRITSTRUT_SEARCH_LOWERED:
-        function = (int)GRITSTRUT_SEARCH_FUNCTION(words);
+        for (j = 0; j < FUNCTIONS; j++)
+            for (i = 0; i < VARIABLES; i++) told[j * VARIABLES + i] = slope(j, i, point);
+        break;
+    default: /* the value of one function, a coordinate raised or lowered */
+        function = (int)GRITSTRUT_SEARCH_FUNCTION(search.words);
         told[0] = value(function, point);
         if (function == DISTANCE) evaluations++;
-        return 1;
-    default: /* the run has ended */
-        return 0;
     }
 }
 
@@ -127,66 +122,53 @@ static double violation(const double *values) {
 static void show_accepted(void) {
     static double shown[VARIABLES];
     static int lines = 0;
-    const double *x = machine + GRITSTRUT_SEARCH_X;
-    const double *values = machine + GRITSTRUT_SEARCH_VALUES;
-    if (isnan(values[DISTANCE])) return;
+    const double *x = gritstrut_accepted(&search);
+    const double *values = gritstrut_accepted_values(&search);
+    if (values[DISTANCE] != values[DISTANCE]) return; /* NaN: not known yet */
     if (lines > 0 && memcmp(shown, x, sizeof shown) == 0) return;
     printf("%11u %13.9f %12.1e\n", evaluations, values[DISTANCE], violation(values));
     memcpy(shown, x, sizeof shown);
     lines++;
 }
 
-/* How the run has ended, in words. */
-static const char *ending(void) {
-    switch (words[GRITSTRUT_SEARCH_ASKED]) {
-    case GRITSTRUT_SEARCH_CONVERGED:
-        return "converged";
-    case GRITSTRUT_SEARCH_INFEASIBLE:
-        return "infeasible";
-    case GRITSTRUT_SEARCH_EXHAUSTED:
-        return "exhausted";
-    case GRITSTRUT_SEARCH_NONFINITE:
-        return "a number that is not finite";
-    default:
-        return "not begun";
-    }
-}
-
 int main(int argc, char **argv) {
-    const double *x = machine + GRITSTRUT_SEARCH_X;
+    const double *x = gritstrut_accepted(&search);
     /* bench/valves.py has the answer with 60 digits */
     const double exact[VARIABLES] = {0.6541058292025478, 0.6419612970802866, 5.9868761104890575};
-    const double ftol = 1e-9;
-    const uint32_t budget = 200;
-    uint32_t scheme = GRITSTRUT_SEARCH_TOLD, place = 0, number;
     double told[FUNCTIONS * VARIABLES], away = 0.0;
-    size_t count;
+    uint32_t number;
+    int i;
 
-    if (argc > 1 && strcmp(argv[1], "forward") == 0) scheme = GRITSTRUT_SEARCH_FORWARD;
-    if (argc > 1 && strcmp(argv[1], "central") == 0) scheme = GRITSTRUT_SEARCH_CENTRAL;
+    aim.variables = VARIABLES;
+    aim.constraints = CONSTRAINTS;
+    aim.kinds = kinds;
+    aim.lower = lower;
+    aim.upper = upper;
+    aim.start = set_points;
+    aim.ftol = 1e-9;
+    aim.budget = 200;
+    aim.scheme = GRITSTRUT_SEARCH_TOLD;
+    if (argc > 1 && strcmp(argv[1], "forward") == 0) aim.scheme = GRITSTRUT_SEARCH_FORWARD;
+    if (argc > 1 && strcmp(argv[1], "central") == 0) aim.scheme = GRITSTRUT_SEARCH_CENTRAL;
 
-    number = gritstrut_search_begin(VARIABLES, CONSTRAINTS, kinds, CONSTRAINTS, lower, VARIABLES,
-                                    upper, VARIABLES, set_points, VARIABLES, ftol, budget, scheme,
-                                    machine, GRITSTRUT_SEARCH_MACHINE,
-                                    words, GRITSTRUT_SEARCH_WORDS, &place,
-                                    w, GRITSTRUT_FLOATS, iw, GRITSTRUT_WORDS);
-    if (number == GRITSTRUT_BOUND) printf("the bounds of the %s mean nothing\n", names[place]);
+    number = gritstrut_begin_search(&aim, &search, &work);
+    if (number == GRITSTRUT_BOUND) printf("the bounds of the %s mean nothing\n", names[search.place]);
 
     puts("evaluations     objective    violation");
-    while (number == GRITSTRUT_DONE && (count = answer(told)) > 0) {
-        number = gritstrut_search_tell(told, count, machine, GRITSTRUT_SEARCH_MACHINE,
-                                       words, GRITSTRUT_SEARCH_WORDS,
-                                       w, GRITSTRUT_FLOATS, iw, GRITSTRUT_WORDS);
+    while (number == GRITSTRUT_DONE && gritstrut_wanted(&search) > 0) {
+        answer(told);
+        number = gritstrut_tell_search(&search, told, &work);
         show_accepted();
     }
     if (number != GRITSTRUT_DONE && number != GRITSTRUT_NONFINITE) {
-        printf("refused %u\n", (unsigned)number);
+        printf("refused %u: %s\n", (unsigned)number, gritstrut_message(number));
         return 1;
     }
 
-    for (int i = 0; i < VARIABLES; i++) away = fmax(away, fabs(x[i] - exact[i]));
-    printf("%s: openings %.4f and %.4f, header at %.4f bar, flows %.2f and %.2f m3/h\n", ending(),
-           x[FIRST], x[SECOND], x[HEADER], flow(FIRST, x), flow(SECOND, x));
+    for (i = 0; i < VARIABLES; i++) away = fmax(away, fabs(x[i] - exact[i]));
+    printf("%s: openings %.4f and %.4f, header at %.4f bar, flows %.2f and %.2f m3/h\n",
+           gritstrut_search_word(&search), x[FIRST], x[SECOND], x[HEADER], flow(FIRST, x),
+           flow(SECOND, x));
     printf("%u evaluations, away from the answer by %.1e\n", evaluations, away);
-    return words[GRITSTRUT_SEARCH_ASKED] != GRITSTRUT_SEARCH_CONVERGED;
+    return gritstrut_asked(&search) != GRITSTRUT_SEARCH_CONVERGED;
 }

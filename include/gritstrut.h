@@ -1,13 +1,14 @@
 /* Gritstrut: constrained least squares, every function proved.
  *
- * Link with libgritstrut.a (`rt staticlib gritstrut` writes target/staticlib/libgritstrut.a).
+ * Link with libgritstrut.a or libgritstrut.so (README.md, "From C, Rust and Python").
+ * gritstrut_easy.h has these functions with structs in the place of their lists of arguments.
  *
  * For all functions:
  *
  * - No heap, no globals, no locks: they are re-entrant, and two threads may call them at once
  *   with buffers of their own. They need the two workspaces, stack (under 4 KiB was measured for
- *   a step, under 7 KiB for a search) and, of the C library, memset and
- *   memmove alone.
+ *   a step, under 5 KiB for settled volumes, under 7 KiB for a search) and, of the C library,
+ *   memset, memmove and memcpy alone.
  * - A slice is a pointer and then its length in entries. Matrices are dense and row-major: entry
  *   (i, j) of a matrix of n columns is at i * n + j.
  * - What the caller must see to, since no function can test it: every pointer is not null, aligned
@@ -292,7 +293,8 @@ uint32_t gritstrut_suspect(size_t n, size_t m, const double *values, size_t valu
  * identity writes 1 on the diagonal of b and +0 elsewhere. times writes B v (n) to out. cholesky
  * writes to l the factor of B = L L', reading the lower triangle of b; +0 stands above the
  * diagonal of l. update revises b by the damped BFGS formula from the step s (n) and the change
- * of gradient y (n). */
+ * of gradient y (n).
+ * These four names, without hessian_, are kept for one version: call those below. */
 uint32_t gritstrut_identity(size_t n, double *b, size_t b_len,
                             double *w, size_t w_len, uint32_t *iw, size_t iw_len);
 uint32_t gritstrut_times(size_t n, const double *b, size_t b_len, const double *v, size_t v_len,
@@ -303,6 +305,31 @@ uint32_t gritstrut_cholesky(size_t n, const double *b, size_t b_len, double *l, 
 uint32_t gritstrut_update(size_t n, double *b, size_t b_len, const double *s, size_t s_len,
                           const double *y, size_t y_len,
                           double *w, size_t w_len, uint32_t *iw, size_t iw_len);
+
+static inline uint32_t gritstrut_hessian_identity(size_t n, double *b, size_t b_len, double *w,
+                                                  size_t w_len, uint32_t *iw, size_t iw_len)
+{
+    return gritstrut_identity(n, b, b_len, w, w_len, iw, iw_len);
+}
+static inline uint32_t gritstrut_hessian_times(size_t n, const double *b, size_t b_len,
+                                               const double *v, size_t v_len, double *out,
+                                               size_t out_len, double *w, size_t w_len,
+                                               uint32_t *iw, size_t iw_len)
+{
+    return gritstrut_times(n, b, b_len, v, v_len, out, out_len, w, w_len, iw, iw_len);
+}
+static inline uint32_t gritstrut_hessian_cholesky(size_t n, const double *b, size_t b_len, double *l,
+                                                  size_t l_len, double *w, size_t w_len,
+                                                  uint32_t *iw, size_t iw_len)
+{
+    return gritstrut_cholesky(n, b, b_len, l, l_len, w, w_len, iw, iw_len);
+}
+static inline uint32_t gritstrut_hessian_update(size_t n, double *b, size_t b_len, const double *s,
+                                                size_t s_len, const double *y, size_t y_len,
+                                                double *w, size_t w_len, uint32_t *iw, size_t iw_len)
+{
+    return gritstrut_update(n, b, b_len, s, s_len, y, y_len, w, w_len, iw, iw_len);
+}
 
 /* The same with B kept as its lower triangle, row by row: b has n(n + 1)/2 entries, entry (i, j),
  * j <= i, at i(i + 1)/2 + j. Numbers and answers are those of the square form on the square that
@@ -471,9 +498,9 @@ uint32_t gritstrut_check(size_t n, size_t m, const double *factor, size_t factor
 #define GRITSTRUT_FILE 7568
 
 /* Writes a problem as the record program's input, so that the step can be run again elsewhere from
- * the same bits. In: the problem as gritstrut_step takes it, its numbers as bits (uint64_t; of
- * an array of doubles (const uint64_t *)factor), so that a NaN's payload is part of the problem and
- * of the file. The widths of constraints that are no bands are not: they are not read. Out: the
+ * the same bits. In: the problem as gritstrut_step takes it, its numbers as bits (uint64_t: copy
+ * doubles there by memcpy, as gritstrut_easy.h does), so that a NaN's payload is part of the problem
+ * and of the file. The widths of constraints that are no bands are not: they are not read. Out: the
  * file in the first *written bytes of out, the rest of it untouched; out of GRITSTRUT_FILE bytes is
  * always long enough. place: the variable with 15. The records stand in the order D, L, G, E or I
  * with its W directly after it, A, B, T, each by row then column; an entry whose bits are those of

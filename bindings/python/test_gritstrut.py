@@ -1,0 +1,211 @@
+"""What the docstrings of gritstrut.py do not show: the kinds of arrays, threads, refusals, and the search of examples/valves.c."""
+import array
+import doctest
+import math
+import os
+import subprocess
+import sys
+import threading
+import types
+import unittest
+
+sys.path.insert(0, os.environ.get("GRITSTRUT_PYTHON", os.path.dirname(os.path.abspath(__file__))))
+import gritstrut  # noqa: E402
+
+VALUES, SPREADS, BALANCES = [1200.0, 790.0, 1310.0, 700.0], [10.0, 10.0, 20.0, 5.0], [[1.0, 1.0, -1.0, -1.0]]
+
+
+class Stored(list):
+    """Stands in for NumPy's array where NumPy is not there: it is not a list of numbers to whoever asks, but has tolist()."""
+
+    __module__ = "numpy"
+
+    def tolist(self):
+        return [each.tolist() if hasattr(each, "tolist") else each for each in self]
+
+
+def numpy_or_stand_in():
+    try:
+        import numpy
+        return numpy
+    except ImportError:
+        stand_in = types.ModuleType("numpy")
+        stand_in.array = lambda numbers: Stored(Stored(each) if isinstance(each, list) else each for each in numbers)
+        return stand_in
+
+
+class Arrays(unittest.TestCase):
+    def test_kinds_of_arrays_are_alike(self):
+        plain = gritstrut.settle(VALUES, SPREADS, BALANCES)
+        flat = array.array("d", VALUES)
+        self.assertEqual(gritstrut.settle(flat, tuple(SPREADS), BALANCES), plain)
+        self.assertEqual(gritstrut.settle(memoryview(flat), SPREADS, [array.array("d", BALANCES[0])]), plain)
+        self.assertEqual(gritstrut.settle([1200, 790, 1310, 700], [10, 10, 20, 5], BALANCES[0]), plain)
+
+    def test_numpy_goes_in_and_comes_out(self):
+        numpy = numpy_or_stand_in()
+        before = sys.modules.get("numpy")
+        sys.modules["numpy"] = numpy
+        try:
+            given = numpy.array(VALUES)
+            settled = gritstrut.settle(given, numpy.array(SPREADS), numpy.array(BALANCES))
+            self.assertIs(type(settled.volumes), type(given))
+            self.assertEqual(list(settled.volumes), gritstrut.settle(VALUES, SPREADS, BALANCES).volumes)
+            found = gritstrut.search(lambda x: (x[0] - 1) ** 2, numpy.array([3.0]))
+            self.assertIs(type(found.x), type(given))
+        finally:
+            if before is None:
+                del sys.modules["numpy"]
+        if isinstance(numpy, types.ModuleType) and not hasattr(numpy, "ndarray"):
+            print("NumPy is not there: a stand-in was tried in its place")
+
+    def test_text_is_no_number(self):
+        self.assertRaises(TypeError, gritstrut.settle, "1234", SPREADS, BALANCES)
+
+    def test_threads_have_workspaces_of_their_own(self):
+        plain, answers = gritstrut.settle(VALUES, SPREADS, BALANCES), []
+        work = lambda: answers.extend(gritstrut.settle(VALUES, SPREADS, BALANCES) for _ in range(50))  # noqa: E731
+        threads = [threading.Thread(target=work) for _ in range(4)]
+        for each in threads:
+            each.start()
+        for each in threads:
+            each.join()
+        self.assertEqual(answers, [plain] * 200)
+
+
+class ByHand(unittest.TestCase):
+    def near(self, found, owed, within=1e-9):
+        self.assertEqual(len(found), len(owed))
+        for one, two in zip(found, owed):
+            self.assertLess(abs(one - two), within, (found, owed))
+
+    def test_volumes_that_zero_holds(self):
+        given = dict(values=[3, 10], spreads=[1, 1], balances=[[1, 1]], nonnegative=True)
+        day = gritstrut.settle(**given)
+        self.near(day.volumes, [0, 0], 1e-3)
+        self.assertEqual((len(day.balance_multipliers), len(day.limit_multipliers)), (1, 2))
+        bound = gritstrut.certify(**given, volumes=day.volumes, balance_multipliers=day.balance_multipliers,
+                                  limit_multipliers=day.limit_multipliers)
+        self.assertEqual(bound, day.bound)
+        self.near(gritstrut.settle([3, 10], [1, 1], [[1, 1]]).volumes, [-3.5, 3.5])
+
+    def test_what_meters_show(self):
+        found = gritstrut.suspect(VALUES, SPREADS, BALANCES)
+        self.near(found.shares, [0.16, 0.16, 0.64, 0.04])
+        self.near(found.spreads, [spread * math.sqrt(1 - share) for spread, share in zip(SPREADS, found.shares)])
+        self.near(found.tests, [0.8, 0.8, -0.8, -0.8])
+        self.near([found.misfit], [0.64])
+        self.assertEqual((found.freedom, found.agree, found.groups), (1, True, [0, 0, 0, 0]))
+        self.assertEqual(gritstrut.suspect(VALUES, SPREADS, BALANCES, still=[True, False, False, False]).shares[0], 0.0)
+
+    def test_sides_of_checked_steps(self):
+        sum_of_two = [gritstrut.equality([1, 1], -2)]
+        for problem, owed in [(gritstrut.Problem([1.0], [-2.0], upper=[1.5]), [1.5]),
+                              (gritstrut.Problem([1.0], [2.0], lower=[-1.5]), [-1.5]),
+                              (gritstrut.Problem([1, 1], constraints=sum_of_two, upper=[0.5, math.inf]), [0.5, 1.5]),
+                              (gritstrut.Problem([1, 1], constraints=sum_of_two, lower=[1.5, -math.inf]), [1.5, 0.5])]:
+            step = gritstrut.step(problem)
+            self.near(step.d, owed)
+            self.assertEqual(gritstrut.check(problem, step.d, step.multipliers), gritstrut.Verdict(True))
+
+    def test_multipliers_of_a_search(self):
+        found = gritstrut.search(lambda x: 5 + (x[0] - 1) ** 2 + (x[1] - 2.5) ** 2, [2, 0], tol=1e-12,
+                                 constraints={"type": "ineq", "fun": lambda x: x[0] - 2 * x[1] + 2})
+        self.near(found.multipliers, [0.8], 1e-5)
+
+
+class Refusals(unittest.TestCase):
+    def refused(self, number, place, call, *words, **named):
+        with self.assertRaises(gritstrut.Refused) as caught:
+            call(*words, **named)
+        self.assertEqual((caught.exception.number, caught.exception.place), (number, place))
+
+    def test_each_with_its_place(self):
+        self.refused(2, None, gritstrut.settle, VALUES, SPREADS[:3], BALANCES)
+        self.refused(2, None, gritstrut.settle, VALUES, SPREADS, [[1, 1]])
+        self.refused(10, None, gritstrut.settle, VALUES, SPREADS, BALANCES, tolerance=-1)
+        self.refused(12, 1, gritstrut.settle, [1, math.nan, 1, 1], SPREADS, BALANCES)
+        self.refused(13, 2, gritstrut.settle, VALUES, [1, 1, 0, 1], BALANCES)
+        self.refused(15, 0, gritstrut.settle, VALUES, SPREADS, BALANCES, limits=BALANCES, least=[math.inf])
+        self.refused(1, None, gritstrut.settle, [1] * 17, [1] * 17, [])
+        self.refused(12, 0, gritstrut.reconcile, [0.5], [1], [1], [])
+        self.refused(12, 0, gritstrut.reconcile, [-1], [1], [1], [])
+        self.refused(12, 0, gritstrut.reconcile, [0], [1000000], [1], [])
+        self.refused(15, 0, gritstrut.step, gritstrut.Problem([1.0], lower=[math.nan]))
+        self.refused(14, None, gritstrut.step, gritstrut.Problem([1.0], constraints=[gritstrut.band([1], 0, -1)]))
+        self.refused(16, None, gritstrut.search, lambda x: x[0], [0], bounds=[(1, 0)])
+        self.refused(15, 0, gritstrut.search, lambda x: x[0], [0], bounds=[(math.nan, 1)])
+        self.refused(1, None, gritstrut.nnls, [[1.0] * 67], [1.0])
+        self.refused(8, None, self.without_factor)
+        self.refused(1, None, gritstrut.Hessian, 17)
+
+    @staticmethod
+    def without_factor():
+        hessian = gritstrut.Hessian(1)
+        hessian.b[0] = -1.0
+        hessian.cholesky()
+
+    def test_library_that_is_not_there(self):
+        words = [sys.executable, "-c", "import sys; sys.path.insert(0, %r); import gritstrut" % os.path.dirname(gritstrut.__file__)]
+        ended = subprocess.run(words, env=dict(os.environ, GRITSTRUT_LIBRARY="/nowhere.so"), capture_output=True, text=True)
+        self.assertNotEqual(ended.returncode, 0)
+        self.assertIn("libgritstrut.so is not found", ended.stderr)
+
+
+SET_POINTS, SIZES, SUPPLIES, LEAST = (0.60, 0.55, 6.0), (900.0, 700.0), (8.0, 7.2), (150.0, 190.0)
+EXACT = (0.6541058292025478, 0.6419612970802866, 5.9868761104890575)
+
+
+def flow(valve, x):
+    return SIZES[valve] * 50.0 ** (x[valve] - 1.0) * math.sqrt(SUPPLIES[valve] - x[2])
+
+
+def flow_slopes(valve, x):
+    slopes = [0.0, 0.0, -0.5 / (SUPPLIES[valve] - x[2])]
+    slopes[valve] = math.log(50.0)
+    return [slope * flow(valve, x) for slope in slopes]
+
+
+class Valves(unittest.TestCase):
+    def find(self, within, jac, told, **more):
+        slopes = (lambda x: [a + b for a, b in zip(flow_slopes(0, x), flow_slopes(1, x))]) if told else None
+        spare = (lambda x: [flow_slopes(0, x), flow_slopes(1, x)]) if told else None
+        constraints = [{"type": "eq", "fun": lambda x: flow(0, x) + flow(1, x) - 520.0, "jac": slopes},
+                       {"type": "ineq", "fun": lambda x: [flow(i, x) - LEAST[i] for i in range(2)], "jac": spare}]
+        found = gritstrut.search(lambda x: sum((x[i] - SET_POINTS[i]) ** 2 for i in range(3)), SET_POINTS, jac=jac,
+                                 bounds=[(0.05, 1), (0.05, 1), (5.5, 6.5)], constraints=constraints, tol=1e-9, maxfev=200, **more)
+        self.assertLess(max(abs(a - b) for a, b in zip(found.x, EXACT)), within)
+        self.assertTrue(found.success)
+        return found
+
+    def test_all_schemes(self):
+        seen = []
+        told = self.find(1e-12, lambda x: [2.0 * (x[i] - SET_POINTS[i]) for i in range(3)], True, callback=seen.append)
+        self.assertEqual(told.nfev, 8)
+        self.assertEqual((len(seen), list(seen[-1])), (told.nit, list(told.x)))
+        self.assertEqual(self.find(1e-6, None, False).nfev, 29)
+        self.assertEqual(self.find(1e-9, "3-point", False).nfev, 50)
+
+    def test_callback_ends_it(self):
+        def stop(x):
+            raise StopIteration
+
+        found = gritstrut.search(lambda x: (x[0] - 1) ** 4, [5.0], callback=stop)
+        self.assertEqual((found.nit, found.success, found.message), (1, False, "stopped by the callback"))
+
+    def test_nonfinite_is_an_end(self):
+        found = gritstrut.search(lambda x: math.nan, [1.0])
+        self.assertEqual((found.success, found.message), (False, "a number that is not finite"))
+
+    def test_value_and_slopes_together(self):
+        found = gritstrut.search(lambda x: ((x[0] - 1) ** 2, [2 * (x[0] - 1)]), [5.0], jac=True, tol=1e-12)
+        self.assertTrue(found.success and abs(found.x[0] - 1) < 1e-6)
+
+
+def load_tests(loader, tests, pattern):
+    tests.addTests(doctest.DocTestSuite(gritstrut))
+    return tests
+
+
+if __name__ == "__main__":
+    unittest.main()
