@@ -28,6 +28,7 @@ from certain import Day, Rules, bits_of, float_of, same  # noqa: E402
 
 INF, NAN, NEAR = math.inf, math.nan, 2.0 ** -10
 JUNK, FLOATS, WORDS = float_of(0x7FF8DEADBEEF0123), 8200, 520
+ZERO_ROOM, JUNK_ROOM = bytes(8192 * 8 + 512 * 4), b"\xa5" * (8192 * 8 + 512 * 4)
 
 
 # ---- the library
@@ -57,9 +58,10 @@ class Library:
     def room_left(self):
         """zero, junk or mixed, of the first 8192 and 512; and whether the rest is junk."""
         floats, words = bytes(self.w), bytes(self.iw)
-        rest = set(floats[8192 * 8:]) | set(words[512 * 4:]) == {0xA5}
-        seen = set(floats[:8192 * 8]) | set(words[:512 * 4])
-        return ("zero" if seen == {0} else "junk" if seen == {0xA5} else "mixed") if rest else "past the end"
+        if floats[8192 * 8:] + words[512 * 4:] != JUNK_ROOM[:8 * (FLOATS - 8192) + 4 * (WORDS - 512)]:
+            return "past the end"
+        seen = floats[:8192 * 8] + words[:512 * 4]
+        return "zero" if seen == ZERO_ROOM else "junk" if seen == JUNK_ROOM else "mixed"
 
     def lsei(self, n, mc, me, mg, lists):
         x, mu, place = (ctypes.c_double * max(n, 1))(), (ctypes.c_double * max(mc + mg, 1))(), ctypes.c_uint32(77)
