@@ -112,7 +112,7 @@ pub const ROWS: &[Row] = &[
         }
         call
     }),
-    ("any bits", Share::Weight(4), &[Number(12), Number(13)], |op, _, draw| {
+    ("any bits", Share::Weight(4), &[Number(0), Number(5), Number(11)], |op, _, draw| {
         let mut call = rows(op, draw, Palette::Bits);
         call.inputs[VALUES] = draw.reals(Palette::Bits, call.sizes[0]);
         let spreads = draw.reals(Palette::Bits, call.sizes[0]);
