@@ -19,7 +19,7 @@ use Rattle.interval.specs.Held.{AtMost, Holds}
 use Rattle.interval.specs.Intervals.{isFinite, isPositive, larger, divUp, point, plus, minus, times, magnitude, product, sumWithin, addUp, mulUp}
 use Rattle.interval.specs.declared.Interval.{Interval}
 use Rattle.interval.proofs.Least.{up-is}
-use Rattle.interval.proofs.Containment.{finite, larger-is, adds, multiplies, divides, roots, point-holds, plus-holds, minus-holds, times-holds, product-holds, magnitude-bounds, sum-holds, up-bounds}
+use Rattle.interval.proofs.Containment.{finite, finite-at-most, larger-is, adds, multiplies, divides, roots, point-holds, plus-holds, minus-holds, times-holds, product-holds, magnitude-bounds, sum-holds, up-bounds}
 use Rattle.certain.specs.Day.{Day, Sound, AsGood, WithinTolerance, apart, balanced, limited, reach, exactly, read, report}
 use Rattle.certain.specs.Bound.{allBelow, areFinite, arePositive, noneNegative, dayFinite, reportFinite, rowWithin, pullWithin, fitTerm, openTerm, slackTerm, fitUp, openUp, slackUp, fourfold, reachUp, bound, closes, keeps, kept}
 use Rattle.certain.specs.Claims.{AllFinite, ReachIsBounded, WithinBound, NoMeterBeyond, BoundIsEnough, BoundIsOfNumbers, KeptIsWithin}
@@ -91,11 +91,6 @@ positive-finite (fin s m e) h = tt
 
 positive-value : (x : Float) → isPositive x ≡ true → whole 0 <ℚ value x
 positive-value x h = above-zero x (positive-finite x h) (and-left (lt +0 x) (lt x (inf false)) h)
-
-finite-at-most : (q : ℚ) (x : Float) → Finite x → AtMost q x → q ≤ℚ value x
-finite-at-most q nan f h = absurd f
-finite-at-most q (inf s) f h = absurd f
-finite-at-most q (fin s m e) f h = h
 
 -- ---- the whole
 module _ (n m p : ℕ) (values spreads balances limits least x y z : List Float) where

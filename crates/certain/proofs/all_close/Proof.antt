@@ -1,6 +1,7 @@
 use mathlib.Core.Bool.{true}
 use Rattle.certain.specs.Bound.{allBelow, closes}
-use Rattle.certain.proofs.Laws.{all-none, all-more, all-done, all-broken, not-true, not-false, close-is, row-in, row-starts}
+use Rattle.certain.proofs.Laws.{all-none, all-more, all-done, all-broken, close-is, row-in, row-starts}
+use Rattle.interval.proofs.Answers.{not-true, not-false}
 use native.Mathlib.Omega.{arith}
 use Prim.Native.Nat.{_-_, _≤_}
 use mathlib.Core.Path.{_≡_}
