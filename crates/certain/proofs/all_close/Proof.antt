@@ -3,7 +3,8 @@ use mathlib.Core.Path.{_≡_, sym, _∙_}
 use Prim.Native.Nat.{_-_, _≤_}
 use native.Mathlib.Omega.{arith}
 use Rattle.certain.specs.Bound.{allBelow, closes}
-use Rattle.certain.proofs.Laws.{all-none, all-more, all-done, all-broken, not-true, not-false, row-ends}
+use Rattle.certain.proofs.Laws.{all-none, all-more, all-done, all-broken, row-ends}
+use Rattle.interval.proofs.Answers.{not-true, not-false}
 use borrow.Author.Needs.{needs}
 use Rattle.certain.proofs.all_close.Statement.{statement}
 use Rattle.certain.proofs.all_close.Tie as tie
