@@ -7,11 +7,12 @@ use Prim.Native.Nat.{ℕ, _+_, _-_, _*_, _≤_, _<_}
 use native.Mathlib.Omega.{arith}
 use borrow.Author.Tests.{lt-ltb, le-ltb, le-leb, lt-leb}
 use lib.Dec.{leb, ltb}
-use lib.ListN.{length, getD, set, length-replicate}
+use lib.ListN.{length, getD, set, length-set, length-replicate}
+use lib.Seq.{ext-getD, getD-set-same, getD-set-other}
 use lib.Ieee.{Float, nan}
 use Rattle.numbers.specs.Numbers.{+0, _⊗_, Σ, at, nth, tab}
-use Rattle.numbers.proofs.Cases.{lt-or-ge}
-use Rattle.numbers.proofs.Lists.{length-tab, tab-of, tab-same}
+use Rattle.numbers.proofs.Cases.{lt-or-ge, eq-or-ne}
+use Rattle.numbers.proofs.Lists.{length-tab, getD-tab, tab-of, tab-same}
 use Rattle.numbers.proofs.Sums.{Σ-same}
 use Rattle.workspace.specs.inner.Readings.{Written, Block, Span}
 use Rattle.day_volumes.specs.Found.{laid, rowTimes, flag, noFigures, noSigns}
@@ -137,3 +138,30 @@ figures-length = length-replicate 130 +0
 pub signs-length : length noSigns ≡ 51
 unfolding noSigns
 signs-length = length-replicate {A = ℕ} 51 0
+
+-- an entry behind what is laid may be set before or afterwards
+pub laid-set : {A : Type 0} (d : A) (o c : ℕ) (g : ℕ → A) (t : List A) (k : ℕ) (v : A) → o + c ≤ k → laid d o c g (set t k v) ≡ set (laid d o c g t) k v
+unfolding laid
+laid-set {A} d o c g t k v h =
+    let F : ℕ → A = λ i. cond (leb o i && ltb i (o + c)) (g (i - o)) (getD t i d) in
+    let G : ℕ → A = λ i. cond (leb o i && ltb i (o + c)) (g (i - o)) (getD (set t k v) i d) in
+    let lt : length (set t k v) ≡ length t = length-set t k v in
+    let lr : length (set (tab (length t) F) k v) ≡ length t = length-set (tab (length t) F) k v ∙ length-tab (length t) F in
+    let ll : length (tab (length (set t k v)) G) ≡ length t = length-tab (length (set t k v)) G ∙ lt in
+    ext-getD d (tab (length (set t k v)) G) (set (tab (length t) F) k v) (ll ∙ sym lr)
+    (λ i l.
+    let y : i < length t = omega (arith, ll, l) in
+    let a : getD (tab (length (set t k v)) G) i d ≡ G i = getD-tab (length (set t k v)) G d i (omega (arith, lt)) in
+    ⊎-elim
+    (λ (q : i ≡ k).
+    let e : G i ≡ v = behind o c i (g (i - o)) (getD (set t k v) i d) (omega arith) (omega arith) ∙ ap (λ (j : ℕ). getD (set t k v) j d) q ∙ getD-set-same t k v d (omega arith) in
+    let u : getD (set (tab (length t) F) k v) i d ≡ v = ap (λ (j : ℕ). getD (set (tab (length t) F) k v) j d) q ∙ getD-set-same (tab (length t) F) k v d (omega (arith, length-tab (length t) F)) in
+    a ∙ e ∙ sym u)
+    (λ (q : i ≡ k → ⊥).
+    let e : G i ≡ F i = ap (λ (w : A). cond (leb o i && ltb i (o + c)) (g (i - o)) w) (getD-set-other t k i v d q) in
+    let u : getD (set (tab (length t) F) k v) i d ≡ F i = getD-set-other (tab (length t) F) k i v d q ∙ getD-tab (length t) F d i y in
+    a ∙ e ∙ sym u)
+    (eq-or-ne i k))
+
+pub laid-two : (o c : ℕ) (g : ℕ → ℕ) (t : List ℕ) (a b : ℕ) → o + c ≤ 48 → laid 0 o c g (set (set t 48 a) 49 b) ≡ set (set (laid 0 o c g t) 48 a) 49 b
+laid-two o c g t a b h = laid-set 0 o c g (set t 48 a) 49 b (omega arith) ∙ ap (λ (u : List ℕ). set u 49 b) (laid-set 0 o c g t 48 a h)

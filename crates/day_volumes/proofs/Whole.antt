@@ -1,11 +1,11 @@
 -- What is found, from its parts: the tests, the tables, and the whole.
 use mathlib.Core.Path.{_≡_, refl, sym, ap, _∙_}
-use mathlib.Core.Bool.{cond}
+use mathlib.Core.Bool.{cond, _&&_}
 use mathlib.Core.List.{List, [], _++_, append-nil}
 use Prim.Native.Nat.{ℕ, _+_, _-_, _*_, _≤_, _<_}
 use native.Mathlib.Omega.{arith}
-use lib.ListN.{length, getD, take, List·getD-append}
-use lib.Seq.{getD-append-add}
+use lib.ListN.{length, getD, set, take, length-set, List·getD-append}
+use lib.Seq.{getD-append-add, getD-set-same, getD-set-other}
 use lib.Ieee.{Float, nan}
 use Rattle.numbers.specs.Numbers.{at, nth, tab}
 use Rattle.numbers.proofs.Lists.{length-tab, getD-tab, tab-same}
@@ -13,18 +13,20 @@ use Rattle.workspace.specs.Tables.{Answer, done, refused}
 use Rattle.workspace.specs.declared.Outcome.{Outcome}
 use Rattle.workspace.specs.declared.Outcome.the-variants.{Done, Refused}
 use Rattle.workspace.specs.declared.Refusal.{Refusal}
-use Rattle.settle.specs.Settle.{Measured, Settled, measured, settled}
+use Rattle.interval.specs.Intervals.{isFinite}
+use Rattle.certain.specs.Bound.{closes, keeps, kept}
+use Rattle.settle.specs.Settle.{Measured, Settled, measured, isKept, settled}
 use Rattle.settle_call.specs.declared.Bounded.{Bounded}
 use Rattle.settle_call.specs.declared.Bounded.the-variants as bounded
 use Rattle.suspect.specs.Suspect.{Tests, shares, newSpreads, tests, stills, stillOf, testsFrom, suspect}
 use Rattle.suspect.specs.declared.Finding.{Finding}
 use Rattle.suspect_call.specs.Promise.{numbersOf}
-use Rattle.day_volumes.specs.Posed.{isStock, toleranceOf, spreads, values, balances, limits, least, posed}
-use Rattle.day_volumes.specs.Found.{laid, noFigures, noSigns, Found, tested, found, figures, signs}
+use Rattle.day_volumes.specs.Posed.{isStock, balanceRow, limitRow, toleranceOf, spreads, values, balances, limits, least, posed}
+use Rattle.day_volumes.specs.Found.{laid, rowTimes, flag, noFigures, noSigns, Found, tested, found, figures, signs}
 use Rattle.day_volumes.specs.Found as Found·found
 use Rattle.day_volumes.specs.Promise.{Finds}
 use Rattle.day_volumes.specs.inner.Work.{LimitsIn, SettledTo, TestedTo, allFigures, testSigns, withinSigns, stillsOf, boundedOutcome, TestsTold, FoundPosed}
-use Rattle.day_volumes.proofs.Laid.{laid-as}
+use Rattle.day_volumes.proofs.Laid.{length-laid, laid-as, laid-two, figures-length, signs-length}
 
 -- ---- which items stand still
 
@@ -96,20 +98,28 @@ module _ (n m p q : ℕ) (z : List ℕ) (f values balances limits least : List F
       )
       refl
 
-  signs-are : (s : Settled) → withinSigns n m p q balances limits least (s .x) (toleranceOf f) (testSigns n (testsOf (s .x) .marks) (testsOf (s .x) .finding .freedom) (testsOf (s .x) .finding .agree) noSigns) ≡ signs m q f (tested z day s)
+  signs-are : m ≤ 16 → q ≤ 16 → (s : Settled) → withinSigns n m p q balances limits least (s .x) (toleranceOf f) (testSigns n (testsOf (s .x) .marks) (testsOf (s .x) .finding .freedom) (testsOf (s .x) .finding .agree) noSigns) ≡ signs m q f (tested z day s)
   unfolding signs Found·found.stills
-  signs-are s = refl
+  signs-are hm hq s =
+      let t = toleranceOf f in
+      let a = testsOf (s .x) .finding .freedom in
+      let b = flag (testsOf (s .x) .finding .agree) in
+      let g : ℕ → ℕ = λ j. flag (closes n j balances (s .x) t) in
+      let h : ℕ → ℕ = λ j. flag (keeps n (p - q + j) limits least (s .x) t) in
+      let u = laid 0 0 n (λ i. nth (testsOf (s .x) .marks) i) noSigns in
+      ap (λ (v : List ℕ). set v 50 (flag (isFinite t && kept n m p balances limits least (s .x) t)))
+      (ap (λ (v : List ℕ). laid 0 32 q h v) (laid-two 16 m g u a b (omega arith)) ∙ laid-two 32 q h (laid 0 16 m g u) a b (omega arith))
 
-  pub posed-done : (a : Answer Settled) (b : Bounded) (x x′ : List Float) (far : Float) (t′ : List Float) (s₁ s′ : List ℕ) → a ≡ settled day (toleranceOf f) → SettledTo a b x x′ → b ≡ bounded.Done far
+  pub posed-done : m ≤ 16 → q ≤ 16 → (a : Answer Settled) (b : Bounded) (x x′ : List Float) (far : Float) (t′ : List Float) (s₁ s′ : List ℕ) → a ≡ settled day (toleranceOf f) → SettledTo a b x x′ → b ≡ bounded.Done far
       → TestsTold n m q z f values balances x′ far t′ s₁ → s′ ≡ withinSigns n m p q balances limits least x′ (toleranceOf f) s₁ → FoundPosed z f day q Done t′ s′
-  posed-done (done s) b x x′ far t′ s₁ s′ ea k eb g h =
+  posed-done hm hq (done s) b x x′ far t′ s₁ s′ ea k eb g h =
       let o = k .the-outcome in
       let ef : far ≡ s .far = cc in
       let ex : x′ ≡ s .x = k .the-volumes in
       let gf : t′ ≡ figures m q f (tested z day s) = g .the-figures ∙ rw (ef, ex) (figures-are s) in
-      let gs : s′ ≡ signs m q f (tested z day s) = h ∙ rw (g .the-signs, ex) (signs-are s) in
+      let gs : s′ ≡ signs m q f (tested z day s) = h ∙ rw (g .the-signs, ex) (signs-are hm hq s) in
       record { the-outcome = rw (← ea) refl; the-figures = rw (← ea) gf; the-signs = rw (← ea) gs }
-  posed-done (refused r) b x x′ far t′ s₁ s′ ea k eb g h = let o = k .the-outcome in let y : _≡_ {A = ℕ} 0 1 = cc in absurd (let w : ⊥ = omega arith in w)
+  posed-done hm hq (refused r) b x x′ far t′ s₁ s′ ea k eb g h = let o = k .the-outcome in let y : _≡_ {A = ℕ} 0 1 = cc in absurd (let w : ⊥ = omega arith in w)
 
   pub posed-refused : (a : Answer Settled) (b : Bounded) (r : Refusal) (o : Outcome) (x x′ : List Float) (t : List Float) (s : List ℕ) → a ≡ settled day (toleranceOf f) → SettledTo a b x x′ → b ≡ bounded.Refused r
       → o ≡ boundedOutcome b → t ≡ noFigures → s ≡ noSigns → FoundPosed z f day q o t s
@@ -125,3 +135,51 @@ found-whole n m q z f v b p e rows least′ o t s ev eb k ee g =
     let d : measured n m p v (spreads n f) b (take e rows) (take p least′) ≡ posed n m q z f = rw (ev, eb, ee, k .the-rows, k .the-least, k .count) refl in
     let w : FoundPosed z f (posed n m q z f) q o t s = rw d at g in
     record { the-outcome = w .the-outcome; the-figures = w .the-figures; the-signs = w .the-signs }
+
+-- ---- what the verdict reads
+
+module _ (m q : ℕ) (f : List Float) (r : Found) where
+  -- the marks, and what is within
+  abbrev within : List ℕ
+  within =
+      laid 0 32 q (λ j. flag (keeps (r .day .n) (r .day .p - q + j) (r .day .limits) (r .day .least) (r .volumes .x) (toleranceOf f)))
+      (laid 0 16 m (λ j. flag (closes (r .day .n) j (r .day .balances) (r .volumes .x) (toleranceOf f)))
+      (laid 0 0 (r .day .n) (λ i. nth (r .tests .marks) i) noSigns))
+
+  within-length : length within ≡ 51
+  within-length = simp length-laid signs-length
+
+  pub kept-sign : nth (signs m q f r) 50 ≡ flag (isFinite (toleranceOf f) && isKept (r .day) (toleranceOf f) (r .volumes))
+  unfolding signs
+  kept-sign =
+      let a = r .tests .finding .freedom in let b = flag (r .tests .finding .agree) in
+      let l : length (set (set within 48 a) 49 b) ≡ 51 = simp length-set within-length in
+      getD-set-same (set (set within 48 a) 49 b) 50 _ 0 (omega (arith, l))
+
+  pub agree-sign : nth (signs m q f r) 49 ≡ flag (r .tests .finding .agree)
+  unfolding signs
+  agree-sign =
+      let a = r .tests .finding .freedom in let b = flag (r .tests .finding .agree) in
+      let l : length (set within 48 a) ≡ 51 = simp length-set within-length in
+      getD-set-other (set (set within 48 a) 49 b) 50 49 _ 0 (λ (e : 49 ≡ 50). let y : ⊥ = omega arith in y) ∙ getD-set-same (set within 48 a) 49 b 0 (omega (arith, l))
+
+  -- the figures of items, balances and limits
+  abbrev told : List Float
+  told =
+      laid nan 112 q (λ j. rowTimes (r .day .n) f (limitRow j) (r .volumes .x))
+      (laid nan 96 m (λ j. rowTimes (r .day .n) f (balanceRow j) (r .volumes .x))
+      (laid nan 80 m (λ j. rowTimes (r .day .n) f (balanceRow j) (r .day .values))
+      (laid nan 64 (r .day .n) (λ i. at (r .tests .shares) i)
+      (laid nan 48 (r .day .n) (λ i. at (r .tests .tests) i)
+      (laid nan 32 (r .day .n) (λ i. at (r .tests .newSpreads) i)
+      (laid nan 16 (r .day .n) (λ i. at (r .volumes .x) i)
+      (laid nan 0 (r .day .n) (λ i. at (r .day .values) i) noFigures)))))))
+
+  told-length : length told ≡ 130
+  told-length = simp length-laid figures-length
+
+  pub bound-figure : at (figures m q f r) 128 ≡ r .volumes .far
+  unfolding figures
+  bound-figure =
+      getD-set-other (set told 128 (r .volumes .far)) 129 128 _ nan (λ (e : 128 ≡ 129). let y : ⊥ = omega arith in y)
+      ∙ getD-set-same told 128 (r .volumes .far) nan (omega (arith, told-length))

@@ -71,14 +71,12 @@ figures m q f r =
     (laid nan 0 n (λ i. at (r .day .values) i) noFigures))))))))
     128 (r .volumes .far)) 129 (r .tests .finding .misfit)
 
--- Of item i the mark of the tests; the freedom; whether the meters agree; whether balance j is within the tolerance, and the sheet's limit j, which stand last among the limits; whether all is kept within it, and it is finite.
+-- Of item i the mark of the tests; whether balance j is within the tolerance, and the sheet's limit j, which stand last among the limits; the freedom; whether the meters agree; whether all is kept within it, and it is finite.
 unfoldable pub signs : (m q : ℕ) → List Float → Found → List ℕ
 signs m q f r =
     let d = r .day in let x = r .volumes .x in let t = toleranceOf f in
-    set
+    set (set (set
     (laid 0 32 q (λ j. flag (keeps (d .n) (d .p - q + j) (d .limits) (d .least) x t))
     (laid 0 16 m (λ j. flag (closes (d .n) j (d .balances) x t))
-    (set (set
-    (laid 0 0 (d .n) (λ i. nth (r .tests .marks) i) noSigns)
-    48 (r .tests .finding .freedom)) 49 (flag (r .tests .finding .agree)))))
-    50 (flag (isFinite t && isKept d t (r .volumes)))
+    (laid 0 0 (d .n) (λ i. nth (r .tests .marks) i) noSigns)))
+    48 (r .tests .finding .freedom)) 49 (flag (r .tests .finding .agree))) 50 (flag (isFinite t && isKept d t (r .volumes)))

@@ -52,7 +52,7 @@ same-length-2 : tie.Need-same-length-2
 same-length-2 c = c .before .before .before .put-within .kept .1 .1 .1 .1 .0 ∙ c .before .before .before .before .before .before .before .before .before .before .tell-tests .kept .1 .1 .1 .1 .1 .1 .1 .0
 
 returns-2 : tie.Need-returns-2
-returns-2 c = let s = c .before .before .before .before .before .before .before .before .before .before .before .before .before .before .before .before .before .before .before .before .before .before .before .before .before .before .before .before .before .before .before .before .before in let a = s .args in posed-done (a .n) (a .m) (a .p) (a .q) (a .z .now) (a .f .now) (a .values .now) (a .balances .now) (a .limits .now) (a .least .now) _ _ _ _ _ _ _ _ refl (c .before .before .before .before .before .before .before .before .before .before .before .before .before .before .before .before .before .before .before .settle-day .ensures) (c .before .before .before .before .before .before .before .before .before .before .before .before .before .before .before .b .given .1) (c .before .before .before .before .before .before .before .before .before .before .tell-tests .ensures) (c .before .before .before .put-within .ensures)
+returns-2 c = let s = c .before .before .before .before .before .before .before .before .before .before .before .before .before .before .before .before .before .before .before .before .before .before .before .before .before .before .before .before .before .before .before .before .before in let a = s .args in posed-done (a .n) (a .m) (a .p) (a .q) (a .z .now) (a .f .now) (a .values .now) (a .balances .now) (a .limits .now) (a .least .now) (s .pre .0 .m16) (s .pre .0 .q16) _ _ _ _ _ _ _ _ refl (c .before .before .before .before .before .before .before .before .before .before .before .before .before .before .before .before .before .before .before .settle-day .ensures) (c .before .before .before .before .before .before .before .before .before .before .before .before .before .before .before .b .given .1) (c .before .before .before .before .before .before .before .before .before .before .tell-tests .ensures) (c .before .before .before .put-within .ensures)
 
 pub find-posed-spec : {M : Type 1} → statement M
 find-posed-spec =

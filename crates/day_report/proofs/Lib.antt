@@ -1,4 +1,0 @@
-pub mod Names
-pub mod Days
-pub mod Whole
-pub mod Verdict
