@@ -1,2 +1,1 @@
-pub mod Balances
-pub mod Cells
+pub mod Closes
