@@ -77,7 +77,7 @@ unfoldable pub testMarks : (share : Float) (mark : ℕ) → List ℕ
 testMarks share mark = markText (isUnchecked share) (ascii "unchecked") ++ (markText (eqb mark 2) (ascii "look here") ++ markText (eqb mark 1) (ascii "suspected"))
 
 -- a dash where there is none
-abbrev pub orDash : List ℕ → List ℕ
+unfoldable pub orDash : List ℕ → List ℕ
 orDash [] = ascii "  -"
 orDash (c ∷ cs) = c ∷ cs
 

@@ -2,7 +2,7 @@
 use mathlib.Core.Bool.{Bool, true, false, cond}
 use mathlib.Core.List.{List, [], _∷_, _++_}
 use Prim.Native.Nat.{ℕ, _+_}
-use lib.Dec.{eqb}
+use lib.Dec.{ltb, eqb}
 use Rattle.workspace.specs.Tables.{numberOf, placeOf}
 use Rattle.workspace.specs.declared.Refusal.{Refusal}
 use Rattle.ascii.specs.Text.{ascii, decimalText}
@@ -111,8 +111,12 @@ plainText number =
     (cond (eqb number 7) (ascii "the working did not end within its rounds")
     (ascii "the call was not taken")))
 
+-- the name of the balance at a place; past the 16 there is none
+unfoldable pub balanceNamed : List ℕ → (place : ℕ) → List ℕ
+balanceNamed texts place = cond (ltb place 16) (nameText texts (balanceName place)) []
+
 unfoldable pub reasonText : List ℕ → (number place : ℕ) → List ℕ
-reasonText texts number place = cond (eqb number 11) (nameText texts (balanceName place) ++ ascii " depends on the other balances") (plainText number)
+reasonText texts number place = cond (eqb number 11) (balanceNamed texts place ++ ascii " depends on the other balances") (plainText number)
 
 unfoldable pub refusalText : List ℕ → Refusal → List ℕ
 refusalText texts why = ascii "refused " ++ (decimalText (numberOf why) ++ (ascii ": " ++ (reasonText texts (numberOf why) (placeOf why) ++ ascii "\n")))

@@ -2,8 +2,8 @@
 use native.Mathlib.Omega.{arith}
 use Rattle.numbers.specs.Numbers.{tab}
 use Rattle.ascii.specs.Text.{ascii}
-use Rattle.day_text.proofs.put_long.Statement.{statement}
-use Rattle.day_text.proofs.put_long.Tie as tie
+use Rattle.day_text.proofs.faults.put_long.Statement.{statement}
+use Rattle.day_text.proofs.faults.put_long.Tie as tie
 
 slice-aggregate-put-text : tie.Need-slice-aggregate-put-text
 slice-aggregate-put-text c = omega arith
