@@ -21,7 +21,7 @@ use Rattle.decimals.specs.Decimal.{numeralFrom, numeral, minusText, isDigit, va
 use Rattle.decimals.specs.Claims.{areDigits, HalfAway}
 use Rattle.decimals.proofs.Runs.{numeral-append, in-limits}
 use Rattle.decimals.proofs.Grammar.{reads-point}
-use Rattle.decimals_fixed.specs.Fixed.{thousandths, thousandthsText, signedText, fixedText}
+use Rattle.decimals_fixed.specs.Fixed.{thousandths, thousandthsText, signedText, smallText, fixedText}
 use Rattle.decimals_fixed.specs.Claims.{ReadsBack, ReadsWritten, ComesBack}
 use Rattle.decimals_fixed.proofs.Rounding.{is-nearest}
 
@@ -147,11 +147,11 @@ small : (a d t : ℕ) → 0 < d → t < 10 ^ 15 → HalfAway (1000 * a) d t → 
 small a d t D h n = let m : t * d ≤ 10 ^ 15 * d = mul-le-mul-right d (omega arith) in omega (arith, n .below)
 
 pub comes-back : ComesBack
-unfolding fixedText
-comes-back s m e front rest h q =
+unfolding fixedText smallText
+comes-back s m e front rest h z q =
     let t = thousandths (fin s m e) in
     let n = is-nearest s m e in
-    let text : fixedText (fin s m e) ≡ signedText s t = rw (lt-ltb (m * up e) (2 ^ 53 * down e) (small (m * up e) (down e) t (down-pos e) h n)) in
+    let text : fixedText (fin s m e) ≡ signedText s t = rw (lt-ltb (m * up e) (2 ^ 53 * down e) (small (m * up e) (down e) t (down-pos e) h n), z) in
     record {
       t = t;
       near = n;

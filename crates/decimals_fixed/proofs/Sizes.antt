@@ -4,8 +4,8 @@ use mathlib.Core.Path.{_≡_, refl, sym, ap, _∙_, subst}
 use mathlib.Core.Logic.{⊎-elim}
 use mathlib.Core.Bool.{Bool, true, false, not, _&&_}
 use mathlib.Core.List.{[], _∷_, _++_}
-use Prim.Native.Nat.{ℕ, suc, _+_, _-_, _*_, _/_, _%_, _^_, _≤_, _<_}
-use native.Mathlib.Nat.{mul-assoc, mul-right-comm, mul-le-mul, mul-le-mul-right, mul-lt-mul-of-pos-right, lt-of-mul-lt-mul-right, le-of-mul-le-mul-right, lt-of-lt-of-le, lt-of-le-of-lt, le-trans, le-of-eq}
+use Prim.Native.Nat.{ℕ, zero, suc, _+_, _-_, _*_, _/_, _%_, _^_, _≤_, _<_}
+use native.Mathlib.Nat.{mul-assoc, mul-right-comm, mul-le-mul, mul-le-mul-right, mul-lt-mul-of-pos-right, lt-of-mul-lt-mul-right, le-of-mul-le-mul-right, lt-of-lt-of-le, lt-of-le-of-lt, le-trans, le-of-eq, mul-pos}
 use native.Mathlib.Omega.{arith}
 use borrow.Author.Tests.{lt-ltb, le-ltb, ne-eqb}
 use lib.Dec.{T, leb, ltb, lit≤}
@@ -13,7 +13,7 @@ use lib.Pow.{pow-pos, pow-mono}
 use lib.Ieee.{Float, nan, inf, fin, binary64, up, down, ne, isNan, ofFields, ofBits}
 use lib.Ieee.Compare.{differs-from-itself, nan-differs}
 use lib.Ieee.Exact.{HasValue, odd-sign}
-use lib.Ieee.Fits.{down-pos}
+use lib.Ieee.Fits.{up-pos, down-pos}
 use lib.Ieee.Nearest.{closest, closest-same}
 use Rattle.io.specs.Digits.{digits}
 use Rattle.numbers.proofs.Cases.{lt-or-ge}
@@ -21,7 +21,7 @@ use Rattle.numbers.proofs.Patterns.{ofBits-is}
 use Rattle.numbers.specs.Numbers.{tab}
 use Rattle.ascii.specs.Text.{ascii, decimalText}
 use Rattle.decimals.specs.Decimal.{minusText}
-use Rattle.decimals_fixed.specs.Fixed.{thousandths, thousandthsText, signedText, fixedText}
+use Rattle.decimals_fixed.specs.Fixed.{thousandths, thousandthsText, signedText, tinyText, smallText, fixedText}
 use Rattle.decimals_fixed.specs.inner.Work.{unitsOf}
 
 -- ---- the number of a pattern
@@ -92,6 +92,23 @@ units-over b h =
     places : (b : ℕ) → 4845873199050653696 ≤ b → 1075 ≤ b / 4503599627370496 - 1
     places b h = omega arith
 
+-- ---- zero alone has no size
+pub units-zero : (b : ℕ) → ltb 0 b ≡ ltb 0 (unitsOf b)
+unfolding unitsOf
+units-zero b = ⊎-elim
+    (λ (l : b < 4503599627370496). rw (lt-ltb b 4503599627370496 l) refl)
+    (λ (l : 4503599627370496 ≤ b). rw (le-ltb b 4503599627370496 l)
+    (let p : 0 < 2 ^ (b / 4503599627370496 - 1) = pow-pos (b / 4503599627370496 - 1) in
+    let q : 0 < (4503599627370496 + b % 4503599627370496) * 2 ^ (b / 4503599627370496 - 1) = mul-pos (omega arith) p in
+    lt-ltb 0 b (omega arith) ∙ sym (lt-ltb 0 _ q)))
+    (lt-or-ge b 4503599627370496)
+
+same-zero : (m a u n d : ℕ) → 0 < a → 0 < u → 0 < d → m * a * u ≡ n * d → ltb 0 n ≡ ltb 0 m
+same-zero zero a u zero d A U D q = refl
+same-zero zero a u (suc n) d A U D q = absurd (let p : 0 < suc n * d = mul-pos (omega arith) D in omega (arith, p, q))
+same-zero (suc m) a u zero d A U D q = absurd (let p : 0 < suc m * a * u = mul-pos (mul-pos (omega arith) A) U in omega (arith, p, q))
+same-zero (suc m) a u (suc n) d A U D q = lt-ltb 0 (suc n) (omega arith) ∙ sym (lt-ltb 0 (suc m) (omega arith))
+
 -- ---- the texts
 pub text-nan : (x : Float) → ne x x ≡ true → 110 ∷ 97 ∷ 110 ∷ [] ≡ fixedText x
 unfolding fixedText ascii tab
@@ -113,16 +130,16 @@ text-thousandths s t = refl
 
 -- x is n / u in size: below 2 ^ 53 by its thousandths, and from there on by a word
 module _ (n u : ℕ) (U : 0 < u) where
-  pub text-small : (x : Float) (s : Bool) → HasValue x s n u → n < 2 ^ 53 * u → signedText s (closest (1000 * n) u) ≡ fixedText x
-  unfolding fixedText thousandths
-  text-small nan s v h = absurd v
-  text-small (inf t) s v h = absurd v
-  text-small (fin t m e) s (p, q) h =
+  pub text-small : (x : Float) (s : Bool) (size : ℕ) → ltb 0 size ≡ ltb 0 n → HasValue x s n u → n < 2 ^ 53 * u → smallText s size (closest (1000 * n) u) ≡ fixedText x
+  unfolding fixedText thousandths smallText
+  text-small nan s size z v h = absurd v
+  text-small (inf t) s size z v h = absurd v
+  text-small (fin t m e) s size z (p, q) h =
       let under : m * up e < 2 ^ 53 * down e = lt-of-mul-lt-mul-right u
       (lt-of-le-of-lt (le-of-eq q) (lt-of-lt-of-le (mul-lt-mul-of-pos-right h (down-pos e)) (le-of-eq (mul-right-comm (2 ^ 53) u (down e))))) in
       let same : closest (1000 * n) u ≡ closest (1000 * (m * up e)) (down e) =
       closest-same (1000 * n) u (1000 * (m * up e)) (down e) U (down-pos e) (mul-assoc 1000 n (down e) ∙ ap (λ (z : ℕ). 1000 * z) (sym q) ∙ sym (mul-assoc 1000 (m * up e) u)) in
-      rw (lt-ltb (m * up e) (2 ^ 53 * down e) under, same, p)
+      rw (lt-ltb (m * up e) (2 ^ 53 * down e) under, same, p, z, same-zero m (up e) u n (down e) (up-pos e) U (down-pos e) q)
 
   pub text-large : (x : Float) (s : Bool) → HasValue x s n u → 2 ^ 53 * u ≤ n → minusText s ++ (108 ∷ 97 ∷ 114 ∷ 103 ∷ 101 ∷ []) ≡ fixedText x
   unfolding fixedText ascii tab

@@ -1,6 +1,6 @@
 -- What is shown of numbers written with three decimals: Rounding and Back of proofs/ prove it. Definitions only.
 use mathlib.Core.Path.{_≡_}
-use mathlib.Core.Bool.{Bool, _&&_}
+use mathlib.Core.Bool.{Bool, false, _&&_}
 use mathlib.Core.List.{List, [], _++_}
 use Prim.Native.Nat.{ℕ, _+_, _*_, _/_, _^_, _<_}
 use lib.Dec.{ltb}
@@ -12,7 +12,7 @@ use Rattle.ascii.specs.Text.{decimalText}
 use Rattle.decimals.specs.declared.Reading.the-variants.{Number}
 use Rattle.decimals.specs.Decimal.{numeral, digitsOf, valueOf, within, decimalAt}
 use Rattle.decimals.specs.Claims.{HalfAway}
-use Rattle.decimals_fixed.specs.Fixed.{thousandths, signedText, fixedText}
+use Rattle.decimals_fixed.specs.Fixed.{thousandths, signedText, isTiny, fixedText}
 
 -- The printed thousandths are the nearest to 1000 |x|, with |x| = m * up e / down e, and no other number is.
 abbrev pub Nearest : Type 0
@@ -32,11 +32,11 @@ ReadsWritten =
     → digitsOf rest ≡ []
     → decimalAt (front ++ (signedText s t ++ rest)) (length front) ≡ within (s && ltb 0 t) t 3 (length front) (length front + length (signedText s t))
 
--- A number below 10 ^ 12 comes back from its text within half a unit of the last place: what is read is t / 1000 rounded once, and t is at most half away from 1000 |x|.
+-- A number below 10 ^ 12, but not one that is not zero and would read as zero, comes back from its text within half a unit of the last place: what is read is t / 1000 rounded once, and t is at most half away from 1000 |x|.
 pub record Back (s : Bool) (m : ℕ) (e : ℤ) (front rest : List ℕ) : Type 0 where
   pub t : ℕ
   pub near : HalfAway (1000 * (m * up e)) (down e) t
   pub read : decimalAt (front ++ (fixedText (fin s m e) ++ rest)) (length front) ≡ Number (valueOf (s && ltb 0 t) t 3) (length front + length (fixedText (fin s m e)))
 
 abbrev pub ComesBack : Type 0
-ComesBack = (s : Bool) (m : ℕ) (e : ℤ) (front rest : List ℕ) → thousandths (fin s m e) < 10 ^ 15 → digitsOf rest ≡ [] → Back s m e front rest
+ComesBack = (s : Bool) (m : ℕ) (e : ℤ) (front rest : List ℕ) → thousandths (fin s m e) < 10 ^ 15 → isTiny m (thousandths (fin s m e)) ≡ false → digitsOf rest ≡ [] → Back s m e front rest

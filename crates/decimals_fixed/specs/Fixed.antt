@@ -2,7 +2,7 @@
 use mathlib.Core.Bool.{Bool, cond, _&&_}
 use mathlib.Core.List.{List, _++_}
 use Prim.Native.Nat.{ℕ, _*_, _/_, _^_}
-use lib.Dec.{ltb}
+use lib.Dec.{ltb, eqb}
 use lib.Ieee.{Float, nan, inf, fin, up, down}
 use lib.Ieee.Nearest.{closest}
 use Rattle.io.specs.Digits.{digits}
@@ -23,8 +23,19 @@ thousandthsText t = decimalText (t / 1000) ++ (ascii "." ++ digits 10 3 t)
 unfoldable pub signedText : Bool → ℕ → List ℕ
 signedText s t = minusText (s && ltb 0 t) ++ thousandthsText t
 
+-- what is not zero and would read as zero: it is said to be below, or above
+unfoldable pub tinyText : Bool → List ℕ
+tinyText s = cond s (ascii ">-0.001") (ascii "<0.001")
+
+-- m is 0 for zero alone, and t are the thousandths
+abbrev pub isTiny : (m t : ℕ) → Bool
+isTiny m t = eqb t 0 && ltb 0 m
+
+unfoldable pub smallText : Bool → (m t : ℕ) → List ℕ
+smallText s m t = cond (isTiny m t) (tinyText s) (signedText s t)
+
 -- a number below 2 ^ 53 in size by its thousandths, and words for what is no such number
 unfoldable pub fixedText : Float → List ℕ
 fixedText nan = ascii "nan"
 fixedText (inf s) = minusText s ++ ascii "inf"
-fixedText (fin s m e) = cond (ltb (m * up e) (2 ^ 53 * down e)) (signedText s (thousandths (fin s m e))) (minusText s ++ ascii "large")
+fixedText (fin s m e) = cond (ltb (m * up e) (2 ^ 53 * down e)) (smallText s m (thousandths (fin s m e))) (minusText s ++ ascii "large")

@@ -9,7 +9,7 @@ ghost use lib.Ieee.Nearest.{closest};
 ghost use Rattle.ascii.specs.Text.{padded};
 ghost use Rattle.ascii.specs.inner.Work.{Wrote};
 ghost use Rattle.decimals.specs.Decimal.{minusText};
-ghost use Rattle.decimals_fixed.specs.Fixed.{signedText, fixedText};
+ghost use Rattle.decimals_fixed.specs.Fixed.{signedText, tinyText, isTiny, smallText, fixedText};
 ghost use Rattle.decimals_fixed.specs.inner.Work.{unitsOf};
 
 // v / 2^d to the nearest whole number, and of two as near the even one.
@@ -91,6 +91,40 @@ fn put_thousandths(out: &mut [u8], negative: bool, t: u64) -> usize
     ascii::put_three(out, c, t)
 }
 
+// Whether a number that is not zero would read as zero; its size is 0 for zero alone.
+fn is_tiny(size: u64, t: u64) -> bool
+    ensures { λ r. ⌜ r ≡ isTiny size t ⌝ }
+{
+    if t == 0 {
+        return 0 < size;
+    }
+    false
+}
+
+// That a number is nearer to zero than a thousandth.
+fn put_tiny(out: &mut [u8], negative: bool) -> usize
+    requires { ⌜ 32 ≤ length (now out) ⌝ }
+    ensures { λ r. ⌜ Wrote (now (out .entry)) 0 (tinyText negative) (now (out .exit)) r ⌝ }
+    ensures { λ r. ⌜ r ≤ 21 ⌝ }
+{
+    if negative {
+        return ascii::put_text(out, 0, b">-0.001");
+    }
+    ascii::put_text(out, 0, b"<0.001")
+}
+
+// A number by its thousandths, and one that is not zero never as zero.
+fn put_small(out: &mut [u8], negative: bool, size: u64, t: u64) -> usize
+    requires { ⌜ (t ≤ 9007199254740992000) × (32 ≤ length (now out)) ⌝ }
+    ensures { λ r. ⌜ Wrote (now (out .entry)) 0 (smallText negative size t) (now (out .exit)) r ⌝ }
+    ensures { λ r. ⌜ r ≤ 21 ⌝ }
+{
+    if is_tiny(size, t) {
+        return put_tiny(out, negative);
+    }
+    put_thousandths(out, negative, t)
+}
+
 // A word with its sign.
 fn put_word(out: &mut [u8], negative: bool, word: &[u8]) -> usize
     requires { ⌜ (length (now word) ≤ 20) × (32 ≤ length (now out)) ⌝ }
@@ -118,7 +152,7 @@ fn put_number(out: &mut [u8; 32], x: f64) -> usize
     if 0x4340_0000_0000_0000 <= size {
         return put_word(out, negative, b"large");
     }
-    put_thousandths(out, negative, thousandths(size))
+    put_small(out, negative, size, thousandths(size))
 }
 
 // A float with three decimals, right-aligned in a width: at most 21 bytes.

@@ -12,11 +12,11 @@ use lib.Ieee.{Float, binary64, isNan, ne, toBits, ofBits}
 use lib.Ieee.Bits.{ofBits-toBits}
 use lib.Ieee.Exact.{HasValue}
 use Rattle.numbers.proofs.Patterns.{no-nan-le}
-use Rattle.decimals_fixed.specs.Fixed.{signedText}
+use Rattle.decimals_fixed.specs.Fixed.{smallText}
 use Rattle.decimals_fixed.specs.inner.Work.{unitsOf}
 use Rattle.ascii.specs.inner.Work.{Wrote}
 use Rattle.ascii.proofs.Writing.{as-text, wrote-all, wrote-front}
-use Rattle.decimals_fixed.proofs.Sizes.{pattern, infinite, units-under, units-over, text-nan, not-nan, text-inf, text-small, text-large}
+use Rattle.decimals_fixed.proofs.Sizes.{pattern, infinite, units-under, units-over, units-zero, text-nan, not-nan, text-inf, text-small, text-large}
 use Rattle.decimals_fixed.proofs.put_number.Statement.{statement}
 use Rattle.decimals_fixed.proofs.put_number.Tie as tie
 
@@ -78,15 +78,15 @@ returns-3 c =
 thousandths-requires : tie.Need-thousandths-requires
 thousandths-requires c κs = search needs
 
-put-thousandths-requires : tie.Need-put-thousandths-requires
-put-thousandths-requires c κs = search needs
+put-small-requires : tie.Need-put-small-requires
+put-small-requires c κs = search needs
 
 returns-4 : tie.Need-returns-4
 returns-4 c =
     let s = c .before .before .before .before .before .before in
-    let t = ap (signedText (leb 9223372036854775808 (b s))) (c .before .thousandths .ensures .0) in
-    let e = text-small (unitsOf (b s % 9223372036854775808)) (2 ^ 1074) (pow-pos 1074) (x s) (leb 9223372036854775808 (b s)) (value s (omega arith)) (units-under (b s % 9223372036854775808) (omega arith)) in
-    front (as-text (t ∙ e) (c .put-thousandths .ensures .0)) (c .put-thousandths .ensures .1)
+    let t = ap (smallText (leb 9223372036854775808 (b s)) (b s % 9223372036854775808)) (c .before .thousandths .ensures .0) in
+    let e = text-small (unitsOf (b s % 9223372036854775808)) (2 ^ 1074) (pow-pos 1074) (x s) (leb 9223372036854775808 (b s)) (b s % 9223372036854775808) (units-zero (b s % 9223372036854775808)) (value s (omega arith)) (units-under (b s % 9223372036854775808) (omega arith)) in
+    front (as-text (t ∙ e) (c .put-small .ensures .0)) (c .put-small .ensures .1)
 
 pub put-number-spec : {M : Type 1} → statement M
 put-number-spec =
@@ -103,5 +103,5 @@ put-number-spec =
     put-word-requires-2
     returns-3
     thousandths-requires
-    put-thousandths-requires
+    put-small-requires
     returns-4)
