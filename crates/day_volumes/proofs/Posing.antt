@@ -3,12 +3,12 @@ use mathlib.Core.Path.{_≡_, refl, sym, ap, subst, _∙_}
 use mathlib.Core.Bool.{Bool, true, false, cond, not}
 use mathlib.Core.List.{List, [], _∷_, _++_}
 use mathlib.Core.Logic.{⊎-elim}
-use Prim.Native.Nat.{ℕ, zero, suc, _+_, _-_, _*_, _≤_, _<_}
+use Prim.Native.Nat.{ℕ, suc, _+_, _-_, _*_, _≤_, _<_}
 use native.Mathlib.Nat.{suc-mul, zero-mul, mul-le-mul-right}
 use native.Mathlib.Numerals.{add-one}
 use native.Mathlib.Omega.{arith}
 use borrow.Author.Tests.{lt-ltb, le-ltb, eq-eqb, ne-eqb}
-use lib.Dec.{eqb, ltb}
+use lib.Dec.{eqb}
 use lib.IntN.{pos}
 use lib.ListN.{length, getD, set, take, length-append, List·getD-append}
 use lib.Seq.{take-all, take-suc-set, getD-take, getD-append-add, ext-getD, length-take-le}
@@ -21,7 +21,7 @@ use Rattle.workspace.proofs.Readings.{lit-+0, lit-one}
 use Rattle.householder.proofs.Leading.{lit--1}
 use Rattle.workspace.proofs.Writes.{written-as}
 use Rattle.totaliser.specs.Volume.{volume}
-use Rattle.day_volumes.specs.Posed.{balanceRow, valueOf, values, balances, isLimit, turned, limitEntry, leastOf, limits, least, isStock, isLine, isCeiling}
+use Rattle.day_volumes.specs.Posed.{balanceRow, valueOf, values, balances, isLimit, turned, limitEntry, leastOf, limits, least}
 use Rattle.day_volumes.specs.inner.Work.{Limiting, LimitsIn}
 
 -- ---- values

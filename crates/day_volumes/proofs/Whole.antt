@@ -1,10 +1,10 @@
 -- What is found, from its parts: the tests, the tables, and the whole.
-use mathlib.Core.Path.{_≡_, refl, sym, ap, _∙_}
+use mathlib.Core.Path.{_≡_, refl, ap, _∙_}
 use mathlib.Core.Bool.{cond, _&&_}
 use mathlib.Core.List.{List, [], _++_, append-nil}
 use Prim.Native.Nat.{ℕ, _+_, _-_, _*_, _≤_, _<_}
 use native.Mathlib.Omega.{arith}
-use lib.ListN.{length, getD, set, take, length-set, List·getD-append}
+use lib.ListN.{length, set, take, length-set, List·getD-append}
 use lib.Seq.{getD-append-add, getD-set-same, getD-set-other}
 use lib.Ieee.{Float, nan}
 use Rattle.numbers.specs.Numbers.{at, nth, tab}
