@@ -7,7 +7,7 @@
     oracle/day/day.py one --index K [--seed 1]           one drawn sheet, and the report that it is owed
     oracle/day/day.py report < SHEET                     the report that a sheet is owed
     oracle/day/day.py endless --program target/bin/day   input without an end: a refusal, and the program ends
-    oracle/day/day.py accuracy [--count 4000] [--seed 1]     days of four kinds beside their exact answers (exact.py): how far those that close are off
+    oracle/day/day.py accuracy [--count 4000] [--seed 1]     days of five kinds beside their exact answers (exact.py): how far those that close are off
     oracle/day/day.py example                            writes examples/plant.readings, a day of twelve meters
 
 sheet.py reads a sheet, report.py writes the report, draws.py draws sheets. It takes nothing but Python and a C compiler; the library is GRITSTRUT_LIBRARY
@@ -15,6 +15,7 @@ or, without it, the one that bench/library makes. The status is 1 where somethin
 never drawn.
 """
 import argparse
+import ctypes
 import os
 import random
 import re
@@ -26,7 +27,7 @@ from fractions import Fraction
 
 from draws import Plant, drawn
 from exact import least
-from report import ROOT, Library, limits_of, report_of, value_of
+from report import ROOT, Library, dot, limits_of, report_of, value_of
 from sheet import EXPECTED, Fault, sheet_of
 
 SLIPS = (
@@ -303,34 +304,60 @@ def whole(rng):
     return plant
 
 
+def reconciled(library, sheet):
+    """gritstrut_reconcile on a sheet of meters alone: its volumes where it is done, all are at least zero and every float sum is within; else None."""
+    items, n, m, size = sheet.items, len(sheet.items), len(sheet.balances), ctypes.c_size_t
+    volumes, named, place = (ctypes.c_double * n)(), (ctypes.c_uint8 * n)(), ctypes.c_uint32(0)
+    whole = lambda numbers: ((ctypes.c_uint32 * n)(*numbers), size(n))
+    number = library.made.gritstrut_reconcile(
+        size(n), size(m), *whole([item.old for item in items]), *whole([item.new for item in items]), *library.lent([item.spread for item in items]),
+        *library.lent([c for _, row in sheet.balances for c in row[:n]]), volumes, size(n), named, size(n), ctypes.byref(place), *library.room())
+    x = list(volumes)
+    return x if number == 0 and min(x) >= 0 and all(abs(dot(row[:n], x)) <= sheet.tolerance for _, row in sheet.balances) else None
+
+
+def settled(library, sheet):
+    """The volumes of a sheet that may be signed but for what the tests say; else None."""
+    a = library(sheet)
+    return a.x if a.number == 0 and all(a.closes + a.keeps) and a.bound <= 2.0 ** -10 else None
+
+
 def accuracy(options):
     """Days of five kinds, each with its exact answer: how many close, and how far those are off, in spreads."""
     library, good = Library(), True
-    print(f"{'kind':<8} {'days':>7} {'refused':>8} {'open':>7} {'uncertain':>9} {'closes':>7} {'to 1e-9':>8} {'to 1e-6':>8} {'to 1e-3':>8} {'off more':>9} {'most':>9}")
+    library.made.gritstrut_reconcile.restype = ctypes.c_uint32
+    print(f"{'kind':<8} {'by':<10} {'days':>7} {'not':>7} {'closes':>7} {'to 1e-9':>8} {'to 1e-6':>8} {'to 1e-3':>8} {'off more':>9} {'most':>9}")
     for kind in (plain, idle, weighed, held, whole):
-        counts, most = dict.fromkeys(("refused", "open", "uncertain", "closes", "fine", "good", "fair", "off"), 0), 0.0
+        ways = {"settled": settled} if kind is whole else {"reconciled": reconciled, "settled": settled}
+        counts, most = {way: [0] * 6 for way in ways}, dict.fromkeys(ways, 0.0)
         for index in range(options.count):
             rng = random.Random(f"accuracy {kind.__name__} {options.seed} {index}")
             plant = kind(rng)
             plant.tolerance = "0.001"
             sheet = sheet_of("\n".join(" ".join(words) for words in plant.lines()).encode())
-            a = library(sheet)
-            if a.number or not all(a.closes + a.keeps) or not a.bound <= 2.0 ** -10:
-                counts["refused" if a.number else "uncertain" if all(a.closes + a.keeps) else "open"] += 1
-                continue
-            limits, n = limits_of(sheet, len(sheet.items))[0], len(sheet.items)
-            answer = least([value_of(item) for item in sheet.items], [item.spread for item in sheet.items], [row[:n] for _, row in sheet.balances],
-                           [row for row, _ in limits], [b for _, b in limits])
-            counts["closes"] += 1
-            if answer is None:
-                counts["off"] += 1
-                continue
-            off = float(max(abs(Fraction(x) - y) / Fraction(item.spread) for x, y, item in zip(a.x, answer[0], sheet.items)))
-            counts["fine" if off <= 1e-9 else "good" if off <= 1e-6 else "fair" if off <= 1e-3 else "off"] += 1
-            most = max(most, off)
-        good &= not counts["off"]
-        print(f"{kind.__name__:<8} {options.count:>7,} " + " ".join(f"{counts[key]:>{width},}" for key, width in zip(counts, (8, 7, 9, 7, 8, 8, 8, 9))) + f" {most:>9.2g}", flush=True)
+            answers = {way: solve(library, sheet) for way, solve in ways.items()}
+            best = exact_of(sheet) if any(answers.values()) else None
+            for way, x in answers.items():
+                if x is None:
+                    counts[way][0] += 1
+                    continue
+                off = float("inf") if best is None else float(max(abs(Fraction(v) - y) / Fraction(item.spread) for v, y, item in zip(x, best, sheet.items)))
+                counts[way][1] += 1
+                counts[way][2 + sum(off > edge for edge in (1e-9, 1e-6, 1e-3))] += 1
+                most[way] = max(most[way], off)
+        good &= counts["settled"][5] == 0
+        for way in ways:
+            cells = " ".join(f"{count:>{width},}" for count, width in zip(counts[way], (7, 7, 8, 8, 8, 9)))
+            print(f"{kind.__name__:<8} {way:<10} {options.count:>7,} {cells} {most[way]:>9.2g}", flush=True)
     return good
+
+
+def exact_of(sheet):
+    """The least corrections as fractions, or None where no volumes close the balances and keep the limits exactly."""
+    limits, n = limits_of(sheet, len(sheet.items))[0], len(sheet.items)
+    answer = least([value_of(item) for item in sheet.items], [item.spread for item in sheet.items], [row[:n] for _, row in sheet.balances],
+                   [row for row, _ in limits], [b for _, b in limits])
+    return answer and answer[0]
 
 
 # ---- the example

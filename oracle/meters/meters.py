@@ -4,7 +4,7 @@
     oracle/meters/meters.py exact --count 100000 --seed 1   draws plants, works the tests out in fractions, and compares:
                                                             misfit over itself or 1, tests over its root or 1, shares and
                                                             new spreads over spreads; tests where the share is above 2^-18
-    oracle/meters/meters.py days --count 10000 --seed 1     draws days of examples/plant.sheet: false alarms, who is named
+    oracle/meters/meters.py days --count 10000 --seed 1     draws days of the meters of examples/plant.sheet: false alarms, who is named
     oracle/meters/meters.py stuck                           three days of it with one meter wrong: all that is told
 
 GRITSTRUT_LIBRARY names the static library; without it bench/library builds one. Status: 0 where nothing differs.
@@ -19,6 +19,9 @@ import sys
 from fractions import Fraction
 
 ROOT = os.path.dirname(os.path.dirname(os.path.dirname(os.path.abspath(__file__))))
+sys.path.insert(1, os.path.join(ROOT, "oracle", "day"))
+import sheet  # noqa: E402
+
 LIMITS = [Fraction(x, 1000) for x in (0, 3841, 5991, 7815, 9488, 11070, 12592, 14067, 15507, 16919, 18307, 19675, 21026, 22362, 23685, 24996, 26296)]
 TINY, SEEN, CLOSE = Fraction(1, 2 ** 20), Fraction(1, 2 ** 18), 1e-9
 # how near the numbers must be: where the spreads lie within this factor of each other, and elsewhere
@@ -261,16 +264,13 @@ def run_exact(options):
 # ---- the plant of the manual
 
 def shipped():
-    names, spreads, rows, volumes = [], [], [], []
-    with open(os.path.join(ROOT, "examples", "plant.sheet")) as sheet:
-        for words in map(str.split, sheet):
-            if words and words[0] == "meter":
-                names.append(words[1])
-                volumes.append((int(words[3]) - int(words[2])) % 1000000)
-                spreads.append(float(words[4]))
-            elif words and words[0] == "balance":
-                rows.append([float(x) for x in words[2:]])
-    return names, spreads, rows, volumes
+    """The meters of examples/plant.sheet and its balances, as far as they are of meters."""
+    with open(os.path.join(ROOT, "examples", "plant.sheet"), "rb") as source:
+        plant = sheet.sheet_of(source.read())
+    meters = [i for i, item in enumerate(plant.items) if item.kind == "meter"]
+    items = [plant.items[i] for i in meters]
+    return ([item.name.decode() for item in items], [item.spread for item in items], [[row[i] for i in meters] for _, row in plant.balances],
+            [(item.new - item.old) % 1000000 for item in items])
 
 
 def tested(library, volumes, spreads, rows):
