@@ -2,7 +2,7 @@
 """A second reading of docs/RULES.md, "The day's sheet" and "The day's report", and drawn sheets to hold the program against it.
 
     oracle/day/day.py sheets --program target/bin/day [--count 40000] [--seed 1]    the sheets of examples/ and drawn ones through the program, byte by byte
-    oracle/day/day.py slips [--count 2000] [--seed 1]    wrong readings of the rules: on how many of the sheets each is told
+    oracle/day/day.py slips [--count 3000] [--seed 1]    wrong readings of the rules: on how many of the sheets each is told
     oracle/day/day.py worked                             the sheets of crates/sheet_worked, whose faults are proved: this reading tells the same
     oracle/day/day.py one --index K [--seed 1]           one drawn sheet, and the report that it is owed
     oracle/day/day.py report < SHEET                     the report that a sheet is owed
@@ -69,7 +69,7 @@ SLIPS = (
 # ---- what was drawn
 
 VERDICTS = ("closes", "closes, but the meters disagree", "closes, but no meter is checked", "does not close", "not certain", "refused 5", "refused 6",
-            "refused 9", "refused 11")
+            "refused 7", "refused 9", "refused 11")
 MARKS = ("rolled", "below zero", "at its floor", "at its capacity", "unchecked", "look here", "suspected")
 AIMS = (*VERDICTS, *MARKS, "look at two", "look at one", "<0.001", ">-0.001", "large", "-large", "no", "floor kept", "ceiling kept", "floor missed",
         "ceiling missed", "not certain to 1000 spreads", "refused 11 of a later balance", "a fault after line 9", "found a word", "found the end of the line",
@@ -164,7 +164,7 @@ def examples(program, library):
 
 
 def sheets(options):
-    library, seen, wrong = Library(), {word: 0 for word in (*AIMS, "nan", "inf", "-inf", "refused 7")}, []
+    library, seen, wrong = Library(), {word: 0 for word in (*AIMS, "nan", "inf", "-inf")}, []
     agree = examples(options.program, library)
 
     def one(span):
@@ -383,7 +383,7 @@ def example(options):
 
 def main():
     parser = argparse.ArgumentParser(description=__doc__, formatter_class=argparse.RawDescriptionHelpFormatter)
-    verbs = {"sheets": (sheets, 40000), "slips": (slips, 2000), "worked": (worked, 1), "one": (one, 1), "report": (report, 1), "endless": (endless, 1),
+    verbs = {"sheets": (sheets, 40000), "slips": (slips, 3000), "worked": (worked, 1), "one": (one, 1), "report": (report, 1), "endless": (endless, 1),
              "accuracy": (accuracy, 4000), "example": (example, 1)}
     commands = parser.add_subparsers(dest="verb", required=True)
     for verb, (_, count) in verbs.items():

@@ -19,7 +19,7 @@ def some_name(rng, taken):
         elif kind == 2:
             name = "meter-of-header-"[:rng.randrange(8, 16)] + rng.choice("ABCxyz")
         else:
-            name = rng.choice((*NAMES, "a", "b", "A#1", "a.b", "title", "doubt", "floor", "e5", "E+1", "n,m", '"q"', "<b>"))
+            name = rng.choice((*NAMES, "a", "b", "A#1", "a.b", "title", "doubt", "floor", "e5", "E+1", "n,m", "q'", "b>"))
         if name.lower() not in taken:
             taken.add(name.lower())
             return name
@@ -90,6 +90,8 @@ class Plant:
             return ["line", name, f"{max(1.0, self.true[i] * rng.choice((1.5, 2, 5, 1, 0.8))):.{rng.randrange(3)}f}"]
         if kind == "stock":
             before = rng.uniform(0, 9000)
+            if self.true[i] == self.noise[i] == 0:
+                return ["stock", name, f"{before:.2f}", f"{before:.2f}", self.spreads[i]]
             return ["stock", name, f"{before:.{rng.randrange(4)}f}", f"{before - self.measured(i):.{rng.randrange(4)}f}", self.spreads[i]]
         return ["meter", name, *readings_of(rng, min(999999, max(0, round(self.measured(i)))), rolled), self.spreads[i]]
 
@@ -196,10 +198,10 @@ def pinned(rng):
 
 def standstill(rng):
     """Meters that did not turn, alone in their balances or not."""
-    plant = Plant(rng, most=6, headers=rng.choice((1, 1, 2)), kinds=("meter",) * 5 + ("line",))
+    plant = Plant(rng, most=6, headers=rng.choice((1, 1, 2)), kinds=("meter",) * 5 + ("line", "stock"))
     whole = rng.random() < 0.6
     for i in range(len(plant.kinds)):
-        if plant.kinds[i] == "meter" and (whole or rng.random() < 0.4):
+        if plant.kinds[i] != "line" and (whole or rng.random() < 0.4):
             plant.true[i], plant.noise[i] = 0.0, 0.0
     if whole and rng.random() < 0.7:
         plant.kinds = ["meter"] * len(plant.kinds)
@@ -350,10 +352,15 @@ def damaged(rng, lines, fault):
     elif fault == 3:
         lines.insert(rng.randrange(len(lines) + 1), ["tolerance", rng.choice(("1", "0.001", "x", ""))])
     elif fault == 4:
-        lines.insert(rng.randrange(last + 1, len(lines) + 1), rng.choice((["meter", fresh, "1", "2", "3"], ["line", fresh, "5"], ["stock", fresh, "1", "2", "x"])))
+        if rng.random() < 0.4:
+            lines.insert(lines.index(of["meter"][0]) + 1, ["floor", fresh, "1", meter])
+        else:
+            lines.insert(rng.randrange(last + 1, len(lines) + 1), rng.choice((["meter", fresh, "1", "2", "3"], ["line", fresh, "5"], ["stock", fresh, "1", "2", "x"])))
     elif fault == 5:
         for k in range(rng.choice((16, 17, 17, 18)) - len(items)):
             lines.insert(first, rng.choice((["meter", f"more{k}", "1", "2", "3"], ["line", f"more{k}", "5"])))
+        if rng.random() < 0.7:
+            lines.append(["meter", fresh, "1", "2", "3"])
     elif fault == 6:
         if rng.random() < 0.5:
             lines.remove(balance)
@@ -376,7 +383,7 @@ def damaged(rng, lines, fault):
         if rng.random() < 0.3:
             del named[2:]
     elif fault == 14:
-        a, b = rng.choice(plain), rng.choice(plain)
+        a, b = rng.choice(((rng.choice(plain), rng.choice(plain)), (item, rng.choice(of["balance"]))))
         if a[0] != "tolerance" and b[0] != "tolerance":
             b[1] = rng.choice((a[1], a[1], a[1].swapcase(), a[1][:8] + "~"))
     elif fault == 15:
@@ -411,7 +418,7 @@ def damaged(rng, lines, fault):
         line = rng.choice((balance, rng.choice(several)))
         line.insert(rng.randrange(3, len(line) + 1), rng.choice(("+", "-")))
     elif fault == 26:
-        balance.insert(rng.choice((2, at)), rng.choice(("0", "-0", "0.0", "+1", "1e5", ".5", "-", "-x", "0,98", "1" * 16, "2" + meter, "-" + meter)))
+        balance.insert(rng.choice((2, at)), rng.choice(("0", "0", "0", "0", "0", "-0", "0.0", "0.00", "+1", "1e5", ".5", "-", "-x", "0,98", "1" * 16, "2" + meter, "-" + meter)))
     elif fault == 27:
         kind = rng.randrange(5)
         if kind == 0:
@@ -455,7 +462,7 @@ def written(rng, lines, plain=False):
             out.append(rng.choice(("", " ", "\t \t", "# header 1, Tuesday", "  # indented", "\t#", "#", "\t\t", "#title x")))
         gap = rng.choice((" ", " ", "  ", "\t", " \t "))
         before, after = ("", "") if plain or rng.random() < 0.8 else (rng.choice((" ", "\t", "   ")), rng.choice((" ", "\t", "")))
-        remark = "" if plain or rng.random() < 0.85 or words[0] in ("title", "doubt") else rng.choice((" # old, new", "\t#", " #x = y", "  # \xe9\x00", "# y", " # a # b"))
+        remark = "" if plain or rng.random() < 0.85 or words[0] in ("title", "doubt") else rng.choice((" # old, new", "\t#", " #x = y", "  # \xe9\x00", " # a # b") + ("#y",) * (rng.random() < 0.1))
         out.append(before + gap.join(words) + remark + after)
     text = "".join(line + (end if rng.random() < 0.98 else rng.choice(("\n", "\r\n", "\r\r\n"))) for line in out)
     if rng.random() < 0.2:

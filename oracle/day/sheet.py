@@ -160,7 +160,7 @@ class Reading:
                 self.fault(TEXT, text if self.slip == "a text's fault shows the whole text" else text[at:])
         return text
 
-    def name(self, words):
+    def name(self, words, later=False):
         word = words.pop(0) if words else b""
         if not is_letter(word) and not (self.slip == "a name may begin with a digit" and word[:1].isdigit()):
             self.fault(NAME, word)
@@ -173,8 +173,8 @@ class Reading:
             if applies:
                 self.fault(expected, word)
         given = self.sheet.names()
-        if self.slip == "balances may have a meter's name":
-            given = [item.name for item in self.sheet.items]
+        if self.slip == "balances may have a meter's name" and later:
+            given = given[len(self.sheet.items):]
         same = (lambda x: x) if self.slip == "names that differ in capitals are two" else lowered
         if self.slip == "names differ in their first 8 bytes":
             same = (lambda x: lowered(x[:8]))
@@ -251,7 +251,7 @@ class Reading:
         self.metered(first)
         if len(self.sheet.balances) >= (17 if self.slip == "17 balances are taken" else 16):
             self.fault(FEW_BALANCES, first)
-        name = self.name(words)
+        name = self.name(words, later=True)
         row = self.terms(words, True)
         self.sheet.balances.append((name, row))
 
@@ -259,7 +259,7 @@ class Reading:
         self.metered(first)
         if len(self.sheet.limits) >= (17 if self.slip == "17 limits are taken" else 16):
             self.fault(FEW_LIMITS, first)
-        name = self.name(words)
+        name = self.name(words, later=True)
         if words and is_letter(words[0]) and self.slip != "a floor without an amount is told as a number":
             self.fault(ONE_NAME, words[0])
         amount = self.number(words, DECIMAL)
