@@ -563,7 +563,7 @@ def test():
     xml.etree.ElementTree.fromstring(picture)
     for name in sorted(name for name in os.listdir(os.path.join(ROOT, "examples")) if name.endswith(".report")):
         test_room(xml.etree.ElementTree.fromstring(draw(stored("examples", name))))
-    need(draw(stored("examples", "plant.report")) == stored("docs", "day.svg"), "docs/day.svg is not the picture of examples/plant.report")
+    need(draw(stored("examples", "plant.report")).encode().decode("latin-1") == stored("docs", "day.svg"), "docs/day.svg is not the picture of examples/plant.report")
     print("256 pictures fit on A4, hold every number to scale, mark what is marked and overprint nothing; docs/day.svg is drawn from the example's report")
 
 
@@ -576,9 +576,9 @@ def main():
             sys.exit(__doc__)
         elif names:
             with open(names[0], encoding="latin-1", newline="") as report:
-                sys.stdout.write(draw(report.read(), names[0]))
+                sys.stdout.buffer.write(draw(report.read(), names[0]).encode())
         else:
-            sys.stdout.write(draw(sys.stdin.buffer.read().decode("latin-1"), "standard input"))
+            sys.stdout.buffer.write(draw(sys.stdin.buffer.read().decode("latin-1"), "standard input").encode())
     except (Complaint, OSError) as complaint:
         sys.exit(str(complaint))
 
