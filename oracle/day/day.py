@@ -2,7 +2,7 @@
 """A second reading of docs/RULES.md, "The day's sheet" and "The day's report", and drawn sheets to hold the program against it.
 
     oracle/day/day.py sheets --program target/bin/day [--count 40000] [--seed 1]    the sheets of examples/ and drawn ones through the program, byte by byte
-    oracle/day/day.py slips [--count 3000] [--seed 1]    wrong readings of the rules: on how many of the sheets each is told
+    oracle/day/day.py slips [--count 3000] [--seed 1] [--enough K]    wrong readings of the rules: on how many of the sheets each is told; up to the K-th
     oracle/day/day.py worked                             the sheets of crates/sheet_worked, whose faults are proved: this reading tells the same
     oracle/day/day.py one --index K [--seed 1]           one drawn sheet, and the report that it is owed
     oracle/day/day.py report < SHEET                     the report that a sheet is owed
@@ -196,12 +196,14 @@ def slips(options):
     told = {}
     for slip in SLIPS:
         told[slip] = 0
-        for d, owed in zip(data, right):
+        for looked, (d, owed) in enumerate(zip(data, right), 1):
             try:
                 told[slip] += report_of(d, library, slip) != owed
             except (ValueError, IndexError, ZeroDivisionError, KeyError, AssertionError, UnicodeEncodeError):
                 told[slip] += 1
-        print(f"  {told[slip]:6,} of {options.count:,} sheets tell: {slip}", flush=True)
+            if told[slip] == options.enough:
+                break
+        print(f"  {told[slip]:6,} of {looked:,} sheets tell: {slip}", flush=True)
     untold = [slip for slip in SLIPS if not told[slip]]
     print(f"{len(SLIPS)} slips, {len(untold)} untold" + "".join(f"; {slip}" for slip in untold))
     return not untold
@@ -392,6 +394,7 @@ def main():
         command.add_argument("--count", type=int, default=count)
         command.add_argument("--seed", type=int, default=1)
         command.add_argument("--index", type=int, default=0)
+        command.add_argument("--enough", type=int, default=0)
         command.add_argument("--program", required=verb == "endless")
     options = parser.parse_args()
     if options.program:
