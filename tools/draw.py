@@ -29,7 +29,7 @@ class Report:
     """`items` are (name, kind, old, new, volume, corrected, new spread, correction, in spreads, test, marks), `balances` and `limits` lists of words."""
 
     def __init__(self, text, path):
-        self.path, self.lines, self.at = path, text.split("\n"), 0
+        self.path, self.lines, self.at = path, text.replace("\r\n", "\n").split("\n"), 0
         self.verdict, self.items, self.balances, self.limits, self.doubts = self.take(), [], [], [], []
         self.refused = self.verdict.startswith("refused ")
         if self.refused and self.lines[1:] in ([], [""]):
