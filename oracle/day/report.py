@@ -154,7 +154,8 @@ class Library:
             groups, size(n), marks, size(n), ctypes.byref(misfit), finding, ctypes.byref(place), *self.room())
         assert number == 0, number
         a.shares, a.spreads, a.tests = (list(numbers)[k * n:(k + 1) * n] for k in range(3))
-        a.marks, a.misfit, a.freedom, a.agree = list(marks), misfit.value, finding[0], finding[2]
+        a.marks, a.groups, a.misfit = list(marks), list(groups), misfit.value
+        a.freedom, a.agree, a.explained = finding[0], finding[2], finding[3]
         self.keep(a, sheet, balances, limits)
         return a
 
