@@ -5,7 +5,7 @@ use Prim.Native.Nat.{ℕ, _+_}
 use lib.Dec.{eqb}
 use lib.Ieee.{Float}
 use Rattle.ascii.specs.Text.{ascii, padded}
-use Rattle.decimals_fixed.specs.Fixed.{fixedText}
+use Rattle.decimals.specs.Fixed.{fixedText}
 
 -- a blank and a word, right-aligned in 12 bytes: a longer one pushes the row
 abbrev pub cell : List ℕ → List ℕ

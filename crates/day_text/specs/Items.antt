@@ -7,7 +7,7 @@ use lib.Ieee.{Float, lt, le}
 use Rattle.io.specs.Digits.{digits}
 use Rattle.numbers.specs.Numbers.{+0, near, _⊖_, _⊗_, _⊘_}
 use Rattle.ascii.specs.Text.{ascii}
-use Rattle.decimals_fixed.specs.Fixed.{fixedText}
+use Rattle.decimals.specs.Fixed.{fixedText}
 use Rattle.day_text.specs.Places.{nameCell, oldReading, newReading, kindOf, spreadOf, contentBefore, contentAfter, valueOf, correctedOf, newSpreadOf, testOf, shareOf, markOf}
 use Rattle.day_text.specs.Cells.{cell, numberCell}
 

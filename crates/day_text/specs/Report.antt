@@ -7,7 +7,7 @@ use lib.ListN.{length}
 use lib.Ieee.{Float, lt}
 use Rattle.numbers.specs.Numbers.{near, at}
 use Rattle.ascii.specs.Text.{ascii, decimalText}
-use Rattle.decimals_fixed.specs.Fixed.{fixedText}
+use Rattle.decimals.specs.Fixed.{fixedText}
 use Rattle.suspect.specs.Suspect.{limits}
 use Rattle.day_text.specs.Places.{textFrom, titlePlace, doubtPlace, toleranceOf, boundOf, misfitOf, freedomOf}
 use Rattle.day_text.specs.Tables.{itemTable, balanceTable, limitTable}

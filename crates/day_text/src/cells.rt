@@ -3,12 +3,12 @@ ghost use mathlib.Core.Path.{_≡_};
 ghost use Prim.Native.Nat.{_+_, _≤_, _<_};
 ghost use lib.ListN.{length};
 ghost use Rattle.ascii.specs.inner.Work.{Wrote};
-ghost use Rattle.decimals_fixed.specs.Fixed.{fixedText};
+ghost use Rattle.decimals.specs.Fixed.{fixedText};
 ghost use Rattle.day_text.specs.Places.{nameCell, nameText, textFrom};
 ghost use Rattle.day_text.specs.Cells.{numberCell, withinText};
 use ascii::put_byte;
 use ascii::put_text;
-use decimals_fixed::put_fixed;
+use decimals::put_fixed;
 use sheet_parts::trim;
 
 // A number with three decimals, after a blank.

@@ -5,7 +5,7 @@ use borrow.Author.Tests.{eq-eqb, ne-eqb}
 use Rattle.ascii.proofs.Writing.{wrote-then, as-text}
 use Rattle.ascii.specs.Text.{ascii}
 use Rattle.day_text.specs.Report.{misfitText}
-use Rattle.decimals_fixed.specs.Fixed.{fixedText}
+use Rattle.decimals.specs.Fixed.{fixedText}
 use Rattle.numbers.specs.Numbers.{tab}
 use Rattle.day_text.proofs.head.put_misfit.Statement.{statement}
 use Rattle.day_text.proofs.head.put_misfit.Tie as tie
