@@ -194,7 +194,7 @@ uint32_t gritstrut_lsei(size_t n, size_t mc, size_t me, size_t mg,
 /* A day's volumes of n meters, from 0 to 16, corrected so that m balances, from 0 to 16, come to
  * zero: the least squares of the corrections, each over its meter's spread, with no volume below
  * zero, as LSEI works them out. Where the balances fix a meter at zero, or one stands twice, that
- * can be far from the least though the balances close (docs/MANUAL.md, "A day that closes and is
+ * can be far from the least though the balances close (docs/ACCURACY.md, "A day that closes and is
  * wrong"). In: the totaliser readings before and after (n each, 0 to 999,999; the volume between
  * them is after - before, plus 1,000,000 where that is below zero, so a full turn cannot be
  * seen), spreads (n), balances (m * n, a row of coefficients each). Out: volumes (n), and named
@@ -371,6 +371,18 @@ uint32_t gritstrut_mend(const uint8_t *records, size_t records_len,
                         uint64_t *totals, size_t totals_len,
                         uint64_t *rollovers, size_t rollovers_len,
                         size_t *kept_bytes, uint32_t *meters);
+
+/* The day's report for a sheet, byte for byte what the program `day` writes (docs/MANUAL.md): the
+ * verdict is its first line. `report` has at least GRITSTRUT_REPORT bytes; the report goes to its
+ * front, `count` is how long it is, and the bytes behind it stay. Any bytes are taken as a sheet;
+ * what is wrong with them is told in the report.
+ *
+ * 0 written; 2 `report` is shorter, and nothing is written. It has no workspace, and takes some
+ * 190 KiB of stack. */
+#define GRITSTRUT_REPORT 81920
+
+uint32_t gritstrut_report(const uint8_t *sheet, size_t sheet_len,
+                          uint8_t *report, size_t report_len, size_t *count);
 
 /* The entries of a step's report. A step has two stages: the exact problem, and where that is
  * refused the relaxed one. */

@@ -175,5 +175,8 @@ row-in i j n m l h k s = let t : suc j * n ≤ m * n = mul-le-mul-right n k in o
 pub row-starts : (j n m l : ℕ) → j < m → m * n ≤ l → j * n ≤ l
 row-starts j n m l k s = let t : suc j * n ≤ m * n = mul-le-mul-right n k in omega arith
 
+pub row-ends : (j n m l : ℕ) → j < m → m * n ≤ l → j * n + n ≤ l
+row-ends j n m l k s = let t : suc j * n ≤ m * n = mul-le-mul-right n k in omega arith
+
 pub index-in : (i n l : ℕ) → i < n → n ≤ l → 0 + i * 1 < l
 index-in i n l h k = omega arith

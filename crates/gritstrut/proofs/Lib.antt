@@ -8,3 +8,4 @@ pub mod Searches
 pub mod Suspecting
 pub mod Settling
 pub mod Costs
+pub mod Reporting

@@ -284,7 +284,7 @@ up-bounds zero f g h = nothing
 up-bounds (suc n) f g h = adds (sumUp n f) (f n) (Σℚ n g) (g n) (up-bounds n f g h) (h n)
 
 -- ---- roots
-root-fits : (r : Float) → T (fits binary64 r) → T (fits binary64 (sqrtOf r))
+pub root-fits : (r : Float) → T (fits binary64 r) → T (fits binary64 (sqrtOf r))
 unfolding sqrtOf
 root-fits nan f = nan-fits binary64
 root-fits (inf false) f = inf-fits binary64 false
