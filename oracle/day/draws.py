@@ -405,7 +405,7 @@ def damaged(rng, lines, fault):
         if "=" in balance:
             balance.remove("=")
     elif fault == 22:
-        balance.insert(rng.randrange(at, len(balance) + 1), "=")
+        balance.insert(rng.randrange(min(at, len(balance)), len(balance) + 1), "=")
     elif fault == 23:
         if limits:
             rng.choice(limits).extend(["=", meter])
@@ -416,7 +416,7 @@ def damaged(rng, lines, fault):
         line[len(line) - 1] += rng.choice(("=", "==", "=b"))
     elif fault == 25:
         line = rng.choice((balance, rng.choice(several)))
-        line.insert(rng.randrange(3, len(line) + 1), rng.choice(("+", "-")))
+        line.insert(rng.randrange(min(3, len(line)), len(line) + 1), rng.choice(("+", "-")))
     elif fault == 26:
         balance.insert(rng.choice((2, at)), rng.choice(("0", "0", "0", "0", "0", "-0", "0.0", "0.00", "+1", "1e5", ".5", "-", "-x", "0,98", "1" * 16, "2" + meter, "-" + meter)))
     elif fault == 27:
