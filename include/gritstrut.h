@@ -194,7 +194,7 @@ uint32_t gritstrut_lsei(size_t n, size_t mc, size_t me, size_t mg,
 /* A day's volumes of n meters, from 0 to 16, corrected so that m balances, from 0 to 16, come to
  * zero: the least squares of the corrections, each over its meter's spread, with no volume below
  * zero, as LSEI works them out. Where the balances fix a meter at zero, or one stands twice, that
- * can be far from the least though the balances close (docs/MANUAL.md, "A day that closes and is
+ * can be far from the least though the balances close (docs/ACCURACY.md, "A day that closes and is
  * wrong"). In: the totaliser readings before and after (n each, 0 to 999,999; the volume between
  * them is after - before, plus 1,000,000 where that is below zero, so a full turn cannot be
  * seen), spreads (n), balances (m * n, a row of coefficients each). Out: volumes (n), and named

@@ -25,8 +25,12 @@ ROOT = os.path.dirname(HERE)
 NOBODY = {"user": 65534, "group": 65534, "extra_groups": []}
 CLOSES = open(os.path.join(ROOT, "examples", "plant.sheet"), "rb").read()
 REPORT = open(os.path.join(ROOT, "crates", "day", "stdout"), "rb").read()
-OPEN = b"meter a 0 100 1\nmeter b 0 50 1\nbalance h 1 1\ntolerance 0.001\n"
-TWICE = b"meter a 0 100 1\nmeter b 0 50 1\nbalance h 1 -1\nbalance g 1 -1\ntolerance 0.001\n"
+TWO = b"title t\nmeter a 0 100 1\nmeter b 0 50 1\n"
+UNSIGNED = (("the meters disagree", b"closes, but the meters disagree: look at a or b first", TWO + b"balance h a = b\ntolerance 0.001\n"),
+            ("no meter is checked", b"closes, but no meter is checked", b"title t\nmeter a 5 5 1\nmeter b 7 7 1\nbalance h a = b\ntolerance 0.001\n"),
+            ("not certain", b"not certain", open(os.path.join(ROOT, "examples", "twice.sheet"), "rb").read()),
+            ("does not close", b"does not close", TWO + b"balance h 0.1 a = 0.3 b\ntolerance 0\n"))
+TWICE = TWO + b"balance h a = b\nbalance g a = b\ntolerance 0.001\n"
 RECORDS = open(os.path.join(ROOT, "examples", "meters.records"), "rb").read()
 ANSWER = b"ok\nrelaxation 0000000000000000\nd 0 3fda9fbe76c8b43c\nd 1 3fda9fbe76c8b43e\nd 2 bffa9fbe76c8b439\nd 3 bfba9fbe76c8b444\nm 0 3fda9fbe76c8b43e\nm 1 0000000000000000\n"
 DAY = open(os.path.join(ROOT, "examples", "day.readings"), "rb").read()
@@ -96,7 +100,8 @@ def statuses(room):
             row(f"{name}{how}: standard input", (0, mark(owed), b""), (lambda r: (r[0], mark(r[1]), r[2]))(run(words, good)))
             row(f"{name}{how}: a file", (0, mark(owed), b""), (lambda r: (r[0], mark(r[1]), r[2]))(run([*words, file])))
             if name == "day":
-                row(f"{name}{how}: does not close", (1, b"does"), begun(run(words, OPEN)))
+                for what, first, unsigned in UNSIGNED:
+                    row(f"{name}{how}: {what}", (1, first), (lambda r: (r[0], r[1].split(b"\n")[0]))(run(words, unsigned)))
             row(f"{name}{how}: refused", (2, b"refused"), begun(run(words, bad)))
             row(f"{name}{how}: an empty input is refused", (2, b"refused"), begun(run(words)))
             row(f"{name}{how}: two files", (2, b""), begun(run([*words, file, file])))
@@ -123,6 +128,9 @@ FAKES = (
     ("bytes as they are, no line feed at the end", r"printf 'closes\n\000\377\r\n\n  x'", 0, b"closes\n\0\xff\r\n\n  x"),
     ("a verdict without a line feed", "printf closes", 0, b"closes"),
     ("a first line that is no verdict", "echo closest", 3, b"closest\n"),
+    ("a first line that is nearly a verdict", "echo closes,", 3, b"closes,\n"),
+    ("a first line that goes on after its verdict", "echo not certain to 10 spreads", 3, b"not certain to 10 spreads\n"),
+    ("a verdict that says but", "echo closes, but no meter is checked", 1, b"closes, but no meter is checked\n"),
     ("nothing", ":", 3, b""),
     ("a word on standard error after the report", "echo closes; echo bad >&2", 3, b"closes\n"),
     ("a status of its own", "echo closes; exit 7", 3, b"closes\n"),

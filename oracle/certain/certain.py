@@ -211,6 +211,10 @@ class Rules:
         return (x, x) if math.isfinite(x) else (-INF, INF)
 
     def add(self, a, b):
+        if a == (0, 0) and self.slip != "a sum with nothing is moved":
+            return b
+        if b == (0, 0) and self.slip != "a sum with nothing is moved":
+            return a
         return self.down(a[0] + b[0]), self.up(a[1] + b[1])
 
     def sub(self, a, b):
@@ -232,7 +236,15 @@ class Rules:
         p = x * y
         if self.slip == "an infinite product keeps its side" and p == INF:
             return self.down(p), p
-        return (self.down(p), self.up(p)) if math.isfinite(p) else (-INF, INF)
+        if not math.isfinite(p):
+            return -INF, INF
+        if x == 0 or y == 0 or (self.slip == "a product that vanishes is zero" and p == 0):
+            return 0.0, 0.0
+        if x == 1 or (self.slip == "a product by two is not moved" and x == 2):
+            return (p, p) if x == 2 else (y, y)
+        if x == -1:
+            return (y, y) if self.slip == "a product by -1 keeps its sign" else (-y, -y)
+        return self.down(p), self.up(p)
 
     def within(self, pairs):
         total = self.of(0.0)
@@ -302,7 +314,8 @@ SLIPS = ("the next float above -0 is +0", "-infinity stays", "a NaN bounds by ze
          "a number is divided by infinity", "a quotient is not moved up", "a root is not moved up", "a difference takes like ends",
          "three products of ends", "the low end counts as it is", "an infinite product keeps its side", "the spread is not squared",
          "a witness below zero is taken", "an open balance counts once", "the reach is twice the sum",
-         "a balance is looked at from one side", "a limit is kept by its low end")
+         "a balance is looked at from one side", "a limit is kept by its low end", "a sum with nothing is moved", "a product that vanishes is zero",
+         "a product by two is not moved", "a product by -1 keeps its sign")
 
 
 # ---- drawn floats
@@ -321,7 +334,7 @@ def drawn(r):
     if kind == 4:
         return r.choice(SPECIAL)
     if kind == 5:
-        return float(r.randint(-1000, 1000))
+        return float(r.randint(-1000, 1000) if r.random() < 0.7 else r.randint(-2, 2))
     if kind == 6:
         return r.uniform(-2, 2)
     return float_of((1023 + r.randint(-60, 60)) << 52 | r.getrandbits(52) | r.getrandbits(1) << 63)

@@ -71,7 +71,9 @@ def written(x):
     above = 2 * (exact - whole)
     if above > 1 or (above == 1 and whole % 2):
         whole += 1
-    return (sign if whole else "") + f"{whole // 1000}.{whole % 1000:03d}"
+    if whole == 0:
+        return "0.000" if x == 0 else ">-0.001" if x < 0 else "<0.001"
+    return f"{sign}{whole // 1000}.{whole % 1000:03d}"
 
 
 def nearest(negative, digits, places):

@@ -19,6 +19,10 @@ import sys
 from fractions import Fraction
 
 ROOT = os.path.dirname(os.path.dirname(os.path.dirname(os.path.abspath(__file__))))
+sys.path.insert(1, os.path.join(ROOT, "oracle", "day"))
+import report  # noqa: E402
+import sheet  # noqa: E402
+
 LIMITS = [Fraction(x, 1000) for x in (0, 3841, 5991, 7815, 9488, 11070, 12592, 14067, 15507, 16919, 18307, 19675, 21026, 22362, 23685, 24996, 26296)]
 TINY, SEEN, CLOSE = Fraction(1, 2 ** 20), Fraction(1, 2 ** 18), 1e-9
 # how near the numbers must be: where the spreads lie within this factor of each other, and elsewhere
@@ -55,17 +59,6 @@ class Library:
             sys.exit(f"refused {number} at {place.value}: {values} {spreads} {rows}")
         return {"shares": numbers[:n], "spreads": numbers[n:2 * n], "tests": numbers[2 * n:], "groups": list(groups), "marks": list(marks),
                 "misfit": misfit.value, "freedom": finding.freedom, "first": finding.first, "agree": bool(finding.agree), "explained": bool(finding.explained)}
-
-    def reconcile(self, volumes, spreads, rows):
-        n, m, size = len(volumes), len(rows), ctypes.c_size_t
-        doubles, whole = (lambda xs: (ctypes.c_double * len(xs))(*xs)), (lambda xs: (ctypes.c_uint32 * len(xs))(*xs))
-        out, named, place = (ctypes.c_double * n)(), (ctypes.c_uint8 * n)(), ctypes.c_uint32()
-        number = self.native.gritstrut_reconcile(
-            size(n), size(m), whole([0] * n), size(n), whole(volumes), size(n), doubles(spreads), size(n), doubles([c for row in rows for c in row]), size(m * n),
-            out, size(n), named, size(n), ctypes.byref(place), self.floats, size(8192), self.words, size(512))
-        if number:
-            sys.exit(f"refused {number} at {place.value}")
-        return list(out)
 
 
 # ---- the tests in fractions
@@ -260,79 +253,81 @@ def run_exact(options):
 
 # ---- the plant of the manual
 
-def shipped():
-    names, spreads, rows, volumes = [], [], [], []
-    with open(os.path.join(ROOT, "examples", "plant.sheet")) as sheet:
-        for words in map(str.split, sheet):
-            if words and words[0] == "meter":
-                names.append(words[1])
-                volumes.append((int(words[3]) - int(words[2])) % 1000000)
-                spreads.append(float(words[4]))
-            elif words and words[0] == "balance":
-                rows.append([float(x) for x in words[2:]])
-    return names, spreads, rows, volumes
+class Plant:
+    """examples/plant.sheet: its days, settled and tested as the day's program does. A line's value is no measurement, and stays."""
 
+    def __init__(self):
+        self.library = report.Library()
+        self.library.keep = lambda *_: None
+        with open(os.path.join(ROOT, "examples", "plant.sheet"), "rb") as source:
+            self.sheet = sheet.sheet_of(source.read())
+        self.items = self.sheet.items
+        self.names, self.spreads = [item.name.decode() for item in self.items], [item.spread for item in self.items]
+        self.meters = [i for i, item in enumerate(self.items) if item.kind == "meter"]
+        self.values = [report.value_of(item) for item in self.items]
+        self.true = self.tested(self.values)[0].x
 
-def tested(library, volumes, spreads, rows):
-    corrected = library.reconcile(volumes, spreads, rows)
-    still = [int(v == 0 and x <= s / 2 ** 20) for v, x, s in zip(volumes, corrected, spreads)]
-    largest = max(range(len(volumes)), key=lambda i: abs(corrected[i] - volumes[i]) / spreads[i])
-    return library.suspect([float(v) for v in volumes], spreads, rows, still), largest
+    def tested(self, values):
+        """What is told of a day of these values, and where the largest correction in spreads stands."""
+        for item, value in zip(self.items, values):
+            if item.kind != "line":
+                item.old, item.new = (0, int(value)) if item.kind == "meter" else (value, 0.0)
+        limits, first = report.limits_of(self.sheet, len(self.items))
+        a = self.library.ask(self.sheet, [report.value_of(item) for item in self.items], self.spreads, [row[:len(self.items)] for _, row in self.sheet.balances],
+                             limits, first, None)
+        return a, max(range(len(self.items)), key=lambda i: abs(a.x[i] - values[i]) / self.spreads[i])
 
-
-def a_day(rng, true, spreads, meter=None, off=0.0, scale=1.0):
-    volumes = [rng.gauss(x, scale * s) for x, s in zip(true, spreads)]
-    if meter is not None:
-        volumes[meter] += off * spreads[meter]
-    return [max(0, round(x)) for x in volumes]
+    def day(self, rng, meter=None, off=0.0, scale=1.0):
+        values = [v if item.kind == "line" else rng.gauss(x, scale * item.spread) for v, x, item in zip(self.values, self.true, self.items)]
+        if meter is not None:
+            values[meter] += off * self.spreads[meter]
+        return self.tested([max(0, round(v)) if item.kind == "meter" else v for v, item in zip(values, self.items)])
 
 
 def run_days(options):
-    library = Library()
-    names, spreads, rows, volumes = shipped()
-    true, rng = library.reconcile(volumes, spreads, rows), random.Random(options.seed)
+    plant, rng = Plant(), random.Random(options.seed)
+    names = plant.names
     for scale in (1.0, 1.2):
-        alarms = sum(not tested(library, a_day(rng, true, spreads, scale=scale), spreads, rows)[0]["agree"] for _ in range(options.count))
+        alarms = sum(not plant.day(rng, scale=scale)[0].agree for _ in range(options.count))
         print(f"sound days, noise of {scale} spreads: {100 * alarms / options.count:.1f} % disagree")
     for off in (3.0, 5.0, 10.0):
         found, right, old, near, explained = 0, 0, 0, 0, 0
         for index in range(options.count):
-            meter = index % len(names)
-            told, largest = tested(library, a_day(rng, true, spreads, meter, off * rng.choice((-1, 1))), spreads, rows)
-            if not told["agree"]:
+            meter = plant.meters[index % len(plant.meters)]
+            told, largest = plant.day(rng, meter, off * rng.choice((-1, 1)))
+            if not told.agree:
                 found += 1
-                right += told["marks"][meter] == 2
+                right += told.marks[meter] == 2
                 old += largest == meter
-                near += told["groups"][largest] == told["groups"][meter]
-                explained += told["explained"]
+                near += told.groups[largest] == told.groups[meter]
+                explained += told.explained
         print(f"one meter off by {off:g} spreads: {100 * found / options.count:.0f} % disagree; of these the meter is among those to look at first in "
               f"{100 * right / found:.0f} %, has the largest correction in spreads in {100 * old / found:.0f} %, is not told apart from the one that has it in {100 * near / found:.0f} %, one meter explains it in {100 * explained / found:.0f} %")
-    told, _ = tested(library, volumes, spreads, rows)
+    told, _ = plant.tested(plant.values)
     print("meter, share, new spread, shows from (4 s / root of the share), group: found and named at that size")
-    for i, name in enumerate(names):
-        share, hits, right, size = told["shares"][i], 0, 0, 4 / math.sqrt(told["shares"][i])
+    for i in plant.meters:
+        hits, right, size = 0, 0, 4 / math.sqrt(told.shares[i])
         for _ in range(options.count // 10):
-            day, _ = tested(library, a_day(rng, true, spreads, i, size * rng.choice((-1, 1))), spreads, rows)
-            hits += not day["agree"]
-            right += day["marks"][i] == 2
-        print(f"    {name:12} {share:.3f} {told['spreads'][i]:7.2f} {size * spreads[i]:7.1f} {names[told['groups'][i]]:12} {1000 * hits // options.count} % {1000 * right // options.count} %")
+            day, _ = plant.day(rng, i, size * rng.choice((-1, 1)))
+            hits += not day.agree
+            right += day.marks[i] == 2
+        print(f"    {names[i]:12} {told.shares[i]:.3f} {told.spreads[i]:7.2f} {size * plant.spreads[i]:7.1f} {names[told.groups[i]]:12} {1000 * hits // options.count} % {1000 * right // options.count} %")
     return True
 
 
 def run_stuck(options):
-    library = Library()
-    names, spreads, rows, volumes = shipped()
+    plant = Plant()
     for what, meter, value in (("as it is", None, 0), ("dryer stuck", "dryer", 0), ("evaporator stuck", "evaporator", 0),
                                ("tank-101 ten spreads up", "tank-101", None)):
-        day = list(volumes)
+        day = list(plant.values)
         if meter:
-            i = names.index(meter)
-            day[i] = volumes[i] + round(10 * spreads[i]) if value is None else value
-        told, largest = tested(library, day, spreads, rows)
-        print(f"{what}: {'agree' if told['agree'] else 'disagree'}, misfit {told['misfit']:.3f}, freedom {told['freedom']}, "
-              f"one meter explains it: {told['explained']}, largest correction in spreads: {names[largest]}")
-        print("    look first: " + (", ".join(f"{names[i]} ({told['tests'][i]:.2f})" for i in range(len(names)) if told["marks"][i] == 2) or "-"))
-        print("    suspected:  " + (", ".join(f"{names[i]} ({told['tests'][i]:.2f})" for i in range(len(names)) if told["marks"][i] == 1) or "-"))
+            i = plant.names.index(meter)
+            day[i] = plant.values[i] + round(10 * plant.spreads[i]) if value is None else value
+        told, largest = plant.tested(day)
+        print(f"{what}: {'agree' if told.agree else 'disagree'}, misfit {told.misfit:.3f}, freedom {told.freedom}, "
+              f"one meter explains it: {told.explained}, largest correction in spreads: {plant.names[largest]}")
+        for word, mark in (("look first:", 2), ("suspected: ", 1)):
+            print(f"    {word} " + (", ".join(f"{plant.names[i]} ({told.tests[i]:.2f})" for i in range(len(day)) if told.marks[i] == mark) or "-"))
     return True
 
 

@@ -1,7 +1,7 @@
 -- The claims on the bound and on what is kept: each operation by its containment (crate `interval`), each term by its law (Terms.antt). Assumes nothing.
-use mathlib.Core.Path.{_≡_, refl, ap, _∙_}
+use mathlib.Core.Path.{_≡_, refl, sym, ap, subst, _∙_}
 use mathlib.Core.Bool.{Bool, true, false, cond, _&&_, false≢true}
-use mathlib.Core.Logic.{⊎-elim}
+use mathlib.Core.Logic.{⊎-elim, inl, inr}
 use mathlib.Core.List.{List}
 use Prim.Native.Nat.{ℕ, zero, suc, _+_, _*_, _≤_, _<_}
 use native.Mathlib.Nat.{eq-or-lt-of-le}
@@ -18,11 +18,12 @@ use Rattle.interval.specs.Next.{nextUp}
 use Rattle.interval.specs.Held.{AtMost, Holds}
 use Rattle.interval.specs.Intervals.{isFinite, isPositive, larger, divUp, point, plus, minus, times, magnitude, product, sumWithin, addUp, mulUp}
 use Rattle.interval.specs.declared.Interval.{Interval}
+use Rattle.interval.proofs.Ends.{Higher}
 use Rattle.interval.proofs.Least.{up-is}
-use Rattle.interval.proofs.Containment.{finite, larger-is, adds, multiplies, divides, roots, point-holds, plus-holds, minus-holds, times-holds, product-holds, magnitude-bounds, sum-holds, up-bounds}
+use Rattle.interval.proofs.Containment.{finite, finite-at-most, larger-is, adds, multiplies, divides, root-fits, roots, point-holds, plus-holds, minus-holds, times-holds, product-holds, magnitude-bounds, sum-holds, up-bounds}
 use Rattle.certain.specs.Day.{Day, Sound, AsGood, WithinTolerance, apart, balanced, limited, reach, exactly, read, report}
 use Rattle.certain.specs.Bound.{allBelow, areFinite, arePositive, noneNegative, dayFinite, reportFinite, rowWithin, pullWithin, fitTerm, openTerm, slackTerm, fitUp, openUp, slackUp, fourfold, reachUp, bound, closes, keeps, kept}
-use Rattle.certain.specs.Claims.{AllFinite, ReachIsBounded, WithinBound, NoMeterBeyond, BoundIsEnough, BoundIsOfNumbers, KeptIsWithin}
+use Rattle.certain.specs.Claims.{AllFinite, ReachIsBounded, WithinBound, NoMeterBeyond, BoundIsEnough, BoundIsOfNumbers, SmallIsFinite, KeptIsWithin}
 use Rattle.certain.proofs.Certain.{none-farther, no-meter-farther}
 use Rattle.certain.proofs.Terms as terms
 
@@ -91,11 +92,6 @@ positive-finite (fin s m e) h = tt
 
 positive-value : (x : Float) → isPositive x ≡ true → whole 0 <ℚ value x
 positive-value x h = above-zero x (positive-finite x h) (and-left (lt +0 x) (lt x (inf false)) h)
-
-finite-at-most : (q : ℚ) (x : Float) → Finite x → AtMost q x → q ≤ℚ value x
-finite-at-most q nan f h = absurd f
-finite-at-most q (inf s) f h = absurd f
-finite-at-most q (fin s m e) f h = h
 
 -- ---- the whole
 module _ (n m p : ℕ) (values spreads balances limits least x y z : List Float) where
@@ -288,3 +284,34 @@ module _ (n m p : ℕ) (values spreads balances limits least x : List Float) (t 
 
 pub kept-is-within : KeptIsWithin
 kept-is-within n m p values spreads balances limits least x t f h = is-within n m p values spreads balances limits least x t f h
+
+-- what is above some float is not -infinity
+not-lowest : (x r : Float) → Higher x r → r ≡ inf true → ⊥
+unfolding lt
+not-lowest x r (inl h) e = two-sides (sym h ∙ e)
+  where
+    two-sides : inf false ≡ inf true → ⊥
+    two-sides q = subst (λ (v : Float). T (lt v (inf false))) (sym q) tt
+not-lowest x r (inr h) e = none x (subst (λ (v : Float). T (lt x v)) e h)
+  where
+    none : (x : Float) → T (lt x (inf true)) → ⊥
+    none nan k = k
+    none (inf true) k = k
+    none (inf false) k = k
+    none (fin s m e) k = k
+
+-- so at most a finite float it is finite
+at-most-finite : (r t : Float) → (r ≡ inf true → ⊥) → Finite t → le r t ≡ true → Finite r
+unfolding le
+at-most-finite (fin s m e) t n f h = tt
+at-most-finite (inf true) t n f h = absurd (n refl)
+at-most-finite (inf false) (fin s m e) n f h = absurd (false≢true h)
+at-most-finite nan t n f h = absurd (false≢true h)
+at-most-finite (inf false) (inf s) n f h = absurd f
+at-most-finite (inf false) nan n f h = absurd f
+
+pub small-is-finite : SmallIsFinite
+unfolding bound
+small-is-finite n m p values spreads balances limits least x y z t f h =
+    let R = reachUp n m p values spreads balances limits least x y z in
+    at-most-finite (nextUp (sqrtOf R)) t (not-lowest (sqrtOf R) (nextUp (sqrtOf R)) (up-is (sqrtOf R) (root-fits R (reach-fits n m p values spreads balances limits least x y z)) .higher)) f h

@@ -1,6 +1,6 @@
 -- What the code decides and sums, from the definitions.
 use mathlib.Core.Path.{_≡_, refl, sym, ap, ap₂, _∙_}
-use mathlib.Core.Bool.{Bool, true, false, not, _&&_, false≢true, true≢false}
+use mathlib.Core.Bool.{Bool, true, false, _&&_}
 use mathlib.Core.Logic.{⊎-elim}
 use mathlib.Core.List.{List}
 use Prim.Native.Nat.{ℕ, zero, suc, _+_, _*_, _≤_, _<_}
@@ -39,15 +39,6 @@ all-broken (suc n) i f h k =
   where
     before : (i n : ℕ) → i < suc n → i ≤ n
     before i n l = omega arith
-
--- a test that is found true or false, of the same float
-pub not-true : (b : Bool) → not b ≡ true → b ≡ false
-not-true true h = absurd (false≢true h)
-not-true false h = refl
-
-pub not-false : (b : Bool) → not b ≡ false → b ≡ true
-not-false true h = refl
-not-false false h = absurd (true≢false h)
 
 pub zero-le : (v : Float) → le (ofBits binary64 0) v ≡ le +0 v
 zero-le v = ap (λ (z : Float). le z v) zero-is
@@ -183,6 +174,9 @@ row-in i j n m l h k s = let t : suc j * n ≤ m * n = mul-le-mul-right n k in o
 
 pub row-starts : (j n m l : ℕ) → j < m → m * n ≤ l → j * n ≤ l
 row-starts j n m l k s = let t : suc j * n ≤ m * n = mul-le-mul-right n k in omega arith
+
+pub row-ends : (j n m l : ℕ) → j < m → m * n ≤ l → j * n + n ≤ l
+row-ends j n m l k s = let t : suc j * n ≤ m * n = mul-le-mul-right n k in omega arith
 
 pub index-in : (i n l : ℕ) → i < n → n ≤ l → 0 + i * 1 < l
 index-in i n l h k = omega arith

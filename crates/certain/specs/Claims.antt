@@ -4,7 +4,7 @@ use Prim.Native.Nat.{ℕ, _*_, _<_}
 use mathlib.Core.List.{List}
 use mathlib.Core.Path.{_≡_}
 use mathlib.Core.Bool.{true, false}
-use lib.Ieee.{Float, lt}
+use lib.Ieee.{Float, lt, le}
 use Rattle.numbers.specs.Numbers.{+0, at}
 use Rattle.exact.specs.Exact.{ℚ, _≤ℚ_, whole, _+ℚ_, _-ℚ_, _*ℚ_, _/ℚ_, maxℚ, absℚ, squared, Σℚ, Finite, value}
 use Rattle.interval.specs.Held.{AtMost}
@@ -117,6 +117,11 @@ BoundIsEnough = (n m p : ℕ) (values spreads balances limits least x y z : List
 abbrev pub BoundIsOfNumbers : Type 0
 BoundIsOfNumbers = (n m p : ℕ) (values spreads balances limits least x y z : List Float)
     → Finite (bound n m p values spreads balances limits least x y z) → AllFinite n m p values spreads balances limits least x y z
+
+-- A bound that is at most some finite float is finite itself: it is never -infinity.
+abbrev pub SmallIsFinite : Type 0
+SmallIsFinite = (n m p : ℕ) (values spreads balances limits least x y z : List Float) (t : Float) → Finite t
+    → le (bound n m p values spreads balances limits least x y z) t ≡ true → Finite (bound n m p values spreads balances limits least x y z)
 
 -- ---- what it means that volumes are kept
 

@@ -194,14 +194,32 @@ pub fn bound(
 
 // ---- kept within a tolerance
 
+// What balance j comes to is at most t in size.
+pub fn closes(n: usize, j: usize, balances: &[f64], x: &[f64], t: f64) -> bool
+    requires { ⌜ (j * n + n ≤ length (now balances)) × (n ≤ length (now x)) ⌝ }
+    ensures { λ r. ⌜ r ≡ Definition.closes n j (now (balances .entry)) (now (x .entry)) t ⌝ }
+{
+    let c = row_within(n, j, balances, x);
+    c.magnitude() <= t
+}
+
+// What limit k comes to is not below its least by more than t.
+pub fn keeps(n: usize, k: usize, limits: &[f64], least: &[f64], x: &[f64], t: f64) -> bool
+    requires { ⌜ (k * n + n ≤ length (now limits)) × (k < length (now least)) × (n ≤ length (now x)) ⌝ }
+    ensures { λ r. ⌜ r ≡ Definition.keeps n k (now (limits .entry)) (now (least .entry)) (now (x .entry)) t ⌝ }
+{
+    let a = row_within(n, k, limits, x);
+    let missed = Interval::of(least[k]).sub(a);
+    missed.hi <= t
+}
+
 fn all_close(n: usize, m: usize, balances: &[f64], x: &[f64], t: f64) -> bool
     requires { ⌜ (m * n ≤ length (now balances)) × (n ≤ length (now x)) ⌝ }
     ensures { λ r. ⌜ r ≡ Definition.allBelow m (λ j. Definition.closes n j (now (balances .entry)) (now (x .entry)) t) ⌝ }
 {
     let mut j = 0;
     while j < m {
-        let c = row_within(n, j, balances, x);
-        if !(c.magnitude() <= t) {
+        if !closes(n, j, balances, x, t) {
             return false;
         }
         j += 1;
@@ -215,9 +233,7 @@ fn all_keep(n: usize, p: usize, limits: &[f64], least: &[f64], x: &[f64], t: f64
 {
     let mut k = 0;
     while k < p {
-        let a = row_within(n, k, limits, x);
-        let missed = Interval::of(least[k]).sub(a);
-        if !(missed.hi <= t) {
+        if !keeps(n, k, limits, least, x, t) {
             return false;
         }
         k += 1;

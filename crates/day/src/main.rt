@@ -14,11 +14,11 @@ fn sheet_room() -> [u8; 65537]
     [0; 65537]
 }
 
-// 8,192 zeros, for the report.
-fn report_room() -> [u8; 8192]
-    ensures { λ r. ⌜ 8192 ≡ length r ⌝ }
+// 81,920 zeros, for the report and the sheet in it.
+fn report_room() -> [u8; 81920]
+    ensures { λ r. ⌜ 81920 ≡ length r ⌝ }
 {
-    [0; 8192]
+    [0; 81920]
 }
 
 // Writes the report on a sheet.

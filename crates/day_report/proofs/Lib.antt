@@ -1,4 +1,2 @@
-pub mod Names
-pub mod Days
 pub mod Whole
 pub mod Verdict

@@ -1,160 +1,140 @@
--- The report says `closes` exactly where every balance is within the tolerance and no meter is marked.
-use mathlib.Core.Path.{_≡_, refl, sym, ap, _∙_}
-use mathlib.Core.Bool.{Bool, true, false, cond, _&&_}
-use mathlib.Core.List.{List, [], _∷_, _++_}
-use mathlib.Core.Logic.{⊎-elim}
-use Prim.Native.Nat.{ℕ, zero, suc, _+_, _≤_, _<_}
+-- The report says `closes` exactly where the volumes are kept and certain, and the meters agree.
+use mathlib.Core.Path.{_≡_, refl, sym, ap, subst}
+use mathlib.Core.Bool.{Bool, true, false, cond, not, _&&_}
+use mathlib.Core.List.{List}
+use Prim.Native.Nat.{ℕ}
 use native.Mathlib.Omega.{arith}
-use borrow.Author.Tests.{eq-eqb, eqb-true}
 use lib.Dec.{eqb}
-use lib.ListN.{getD}
-use lib.Ieee.{Float, lt}
-use Rattle.numbers.specs.Numbers.{+0, at, nth, tab}
-use Rattle.numbers.proofs.Cases.{lt-or-ge}
-use Rattle.numbers.proofs.Lists.{getD-tab}
+use lib.Ieee.{Float, nan, inf, fin, lt, le, round}
+use Rattle.exact.specs.Exact.{Finite}
 use Rattle.workspace.specs.Tables.{Answer, done, refused}
 use Rattle.workspace.proofs.Tests.{and-true}
-use Rattle.lsei.specs.Lsei.{Solution}
-use Rattle.reconcile.specs.Day.{isNamed, mark, named}
-use Rattle.ascii.specs.Text.{ascii}
-use Rattle.day_sheet.specs.Sheet.{Outcome, whole, fault, long, sheetOf}
-use Rattle.day_text.specs.Text.{toleranceOf, imbalance, isWithin, noneMarked, allWithin, closes, verdictText, metersTable, balancesTable, toleranceText, tablesText}
-use Rattle.day_report.specs.Refusals.{faultText, longText, toleranceRefused, refusalText}
-use Rattle.day_report.specs.Report.{dayIn, dayAnswer, answerText, dayText, sheetText, reportText}
+use Rattle.interval.specs.Intervals.{isFinite}
+use Rattle.interval.proofs.Containment as containment
+use Rattle.certain.proofs.Bounds as bounds
+use Rattle.settle.specs.Settle.{Measured, Settled, certified, isKept, settled}
+use Rattle.settle.proofs.Claims.{certified-is, settled-is-near, kept-is-within}
+use Rattle.sheet.specs.Sheet.{Outcome, whole, fault, long, sheetOf}
+use Rattle.day_volumes.specs.Posed.{toleranceOf, posed}
+use Rattle.day_volumes.specs.Found.{Found, tested, foundFrom, found, flag, figures, signs}
+use Rattle.day_volumes.proofs.Whole.{kept-sign, agree-sign, bound-figure}
+use Rattle.day_text.specs.Verdict.{doesNotClose, notCertain, closes, unchecked, disagree, certainEnough, verdictOf}
+use Rattle.day_text.specs.Places.{boundOf, freedomOf, agreeSign, keptSign}
+use Rattle.day_text.specs.Claims.{BeginsCloses}
+use Rattle.day_text.proofs.Closes.{closes-report}
+use Rattle.day_report.specs.Report.{answerText, outcomeText, dayReport}
 use Rattle.day_report.specs.Claims.{Closed, SaysCloses, ClosesExactly}
 
--- ---- of every meter, and of every balance
+-- ---- flags
 
-module _ (marks : List ℕ) where
-  none-all : (left i : ℕ) → noneMarked left i marks ≡ true → (k : ℕ) → i ≤ k → k < i + left → nth marks k ≡ 0
-  unfolding noneMarked
-  none-all zero i h k l g = absurd (omega arith)
-  none-all (suc left) i h k l g =
-      let p = and-true (eqb (nth marks i) 0) (noneMarked left (i + 1) marks) h in
-      ⊎-elim (λ (m : i < k). none-all left (i + 1) (p .1) k (omega arith) (omega arith)) (λ (m : k ≤ i). let e : k ≡ i = omega arith in rw e (eqb-true (nth marks i) 0 (p .0))) (lt-or-ge i k)
+flag-set : (b : Bool) → eqb (flag b) 0 ≡ false → b ≡ true
+flag-set true h = refl
+flag-set false h = absurd (let z : _≡_ {A = ℕ} 0 1 = cc in let y : ⊥ = omega arith in y)
 
-  none-so : (left i : ℕ) → ((k : ℕ) → i ≤ k → k < i + left → nth marks k ≡ 0) → noneMarked left i marks ≡ true
-  unfolding noneMarked
-  none-so zero i h = refl
-  none-so (suc left) i h = rw (eq-eqb (nth marks i) 0 (h i (omega arith) (omega arith)), none-so left (i + 1) (λ k l g. h k (omega arith) (omega arith))) refl
+flag-one : (b : Bool) → eqb (flag b) 1 ≡ true → b ≡ true
+flag-one true h = refl
+flag-one false h = absurd (let z : _≡_ {A = ℕ} 0 1 = cc in let y : ⊥ = omega arith in y)
 
-module _ (n : ℕ) (numbers x : List Float) where
-  Within : ℕ → Type 0
-  Within j = isWithin (toleranceOf numbers) (imbalance n numbers j x) ≡ true
+-- ---- the verdict, by its three tests
 
-  within-all : (left j : ℕ) → allWithin n left j numbers x ≡ true → (k : ℕ) → j ≤ k → k < j + left → Within k
-  unfolding allWithin Within
-  within-all zero j h k l g = absurd (omega arith)
-  within-all (suc left) j h k l g =
-      let p = and-true (isWithin (toleranceOf numbers) (imbalance n numbers j x)) (allWithin n left (j + 1) numbers x) h in
-      ⊎-elim (λ (m : j < k). within-all left (j + 1) (p .1) k (omega arith) (omega arith)) (λ (m : k ≤ j). let e : k ≡ j = omega arith in rw e (p .0)) (lt-or-ge j k)
+by-tests : (k l a u : Bool) → cond k doesNotClose (cond (not l) notCertain (cond a closes (cond u unchecked disagree))) ≡ closes → (k ≡ false) × (l ≡ true) × (a ≡ true)
+by-tests true l a u h = absurd (let z : _≡_ {A = ℕ} 0 1 = cc in let y : ⊥ = omega arith in y)
+by-tests false false a u h = absurd (let z : _≡_ {A = ℕ} 0 1 = cc in let y : ⊥ = omega arith in y)
+by-tests false true false true h = absurd (let z : _≡_ {A = ℕ} 0 1 = cc in let y : ⊥ = omega arith in y)
+by-tests false true false false h = absurd (let z : _≡_ {A = ℕ} 0 1 = cc in let y : ⊥ = omega arith in y)
+by-tests false true true u h = (refl, refl, refl)
 
-  within-so : (left j : ℕ) → ((k : ℕ) → j ≤ k → k < j + left → Within k) → allWithin n left j numbers x ≡ true
-  unfolding allWithin Within
-  within-so zero j h = refl
-  within-so (suc left) j h = rw (h j (omega arith) (omega arith), within-so left (j + 1) (λ k l g. h k (omega arith) (omega arith))) refl
+tests-of : (t : List Float) (s : List ℕ) → verdictOf t s ≡ closes → (eqb (keptSign s) 0 ≡ false) × (le (boundOf t) certainEnough ≡ true) × (eqb (agreeSign s) 1 ≡ true)
+unfolding verdictOf
+tests-of t s h = by-tests (eqb (keptSign s) 0) (le (boundOf t) certainEnough) (eqb (agreeSign s) 1) (eqb (freedomOf s) 0) h
 
--- ---- marks are names
+of-tests : (t : List Float) (s : List ℕ) → eqb (keptSign s) 0 ≡ false → le (boundOf t) certainEnough ≡ true → eqb (agreeSign s) 1 ≡ true → verdictOf t s ≡ closes
+unfolding verdictOf
+of-tests t s a b c = rw (a, b, c) refl
 
-mark-zero : (b : Bool) → _≡_ {A = ℕ} (cond b 1 0) 0 → b ≡ false
-mark-zero true h = absurd (omega arith)
-mark-zero false h = refl
+-- ---- a day that closes
 
-module _ (n : ℕ) (x : List Float) where
-  named-at : (i : ℕ) → i < n → nth (named n x) i ≡ mark (at x i)
-  unfolding named
-  named-at i h = getD-tab n (λ j. mark (at x j)) 0 i h
+certain-finite : Finite certainEnough
+unfolding round
+certain-finite = tt
 
-  unnamed : (i : ℕ) → i < n → nth (named n x) i ≡ 0 → isNamed (at x i) ≡ false
-  unnamed i h z = mark-zero (isNamed (at x i)) (sym (named-at i h) ∙ z)
+is-finite : (t : Float) → isFinite t ≡ true → Finite t
+is-finite t h = let p = and-true (lt t (inf false)) (lt (inf true) t) h in containment.finite t (p .0) (p .1)
 
-  unmarked : (i : ℕ) → i < n → isNamed (at x i) ≡ false → nth (named n x) i ≡ 0
-  unmarked i h z = named-at i h ∙ ap (λ (b : Bool). cond b 1 0) z
+module _ (d : Measured) (t : Float) (s : Settled) (e : settled d t ≡ done s) where
+  far-finite : le (s .far) certainEnough ≡ true → Finite (s .far)
+  far-finite h =
+      let q : s .far ≡ certified d (s .x) (s .y) (s .z) .far = ap (λ (u : Settled). u .far) (certified-is d t s e .0) in
+      subst Finite (sym q) (bounds.small-is-finite (d .n) (d .m) (d .p) (d .values) (d .spreads) (d .balances) (d .limits) (d .least) (s .x) (s .y) (s .z) certainEnough certain-finite (rw q at h))
 
--- ---- the first byte of each report
+module _ (bytes : List ℕ) (n m q d : ℕ) (texts wholes : List ℕ) (numbers : List Float) (e : sheetOf bytes ≡ whole n m q d texts wholes numbers) where
+  abbrev day : Measured
+  day = posed n m q wholes numbers
 
-closes-99 : (t r : List ℕ) → r ≡ ascii "closes\n" ++ t → getD r 0 0 ≡ 99
-unfolding ascii tab
-closes-99 t r e = ap (λ (l : List ℕ). getD l 0 0) e
+  abbrev told : Settled → Found
+  told s = tested wholes day s
 
-other : {A : Type 0} (t r : List ℕ) (b : ℕ) → r ≡ ascii "closes\n" ++ t → getD r 0 0 ≡ b → (b ≡ 99 → ⊥) → A
-other t r b e f n = absurd (n (sym f ∙ closes-99 t r e))
+  closed : (s : Settled) → settled day (toleranceOf numbers) ≡ done s → verdictOf (figures m q numbers (told s)) (signs m q numbers (told s)) ≡ closes → Closed bytes
+  closed s h v =
+      let k = tests-of (figures m q numbers (told s)) (signs m q numbers (told s)) v in
+      let a = flag-set (isFinite (toleranceOf numbers) && isKept day (toleranceOf numbers) s) (rw (kept-sign m q numbers (told s)) at (k .0)) in
+      let p = and-true (isFinite (toleranceOf numbers)) (isKept day (toleranceOf numbers) s) a in
+      let f : Finite (toleranceOf numbers) = is-finite (toleranceOf numbers) (p .0) in
+      let b : le (s .far) certainEnough ≡ true = rw (bound-figure m q numbers (told s)) at (k .1) in
+      record {
+        n = n;
+        m = m;
+        q = q;
+        d = d;
+        texts = texts;
+        wholes = wholes;
+        numbers = numbers;
+        s = s;
+        read = e;
+        volumes = h;
+        finite = f;
+        kept = p .1;
+        within = kept-is-within day (toleranceOf numbers) s f (p .1);
+        certain = b;
+        near = settled-is-near day (toleranceOf numbers) s h (far-finite day (toleranceOf numbers) s h b);
+        agree = flag-one (told s .tests .finding .agree) (rw (agree-sign m q numbers (told s)) at (k .2));
+      }
 
-module _ (n m : ℕ) (names readings : List ℕ) (numbers : List Float) where
-  -- where the reconciliation is done
-  done-closes : (s : Solution) (t : List ℕ) → tablesText n m names readings numbers (s .x) (named n (s .x)) ≡ ascii "closes\n" ++ t → closes n m numbers (s .x) (named n (s .x)) ≡ true
-  unfolding tablesText ascii tab
-  done-closes s t e = go (closes n m numbers (s .x) (named n (s .x))) refl e
-    where
-      go : (b : Bool) → closes n m numbers (s .x) (named n (s .x)) ≡ b → verdictText b ++ (metersTable n names readings numbers (s .x) (named n (s .x)) ++ (balancesTable n m names readings numbers (s .x) ++ toleranceText (toleranceOf numbers))) ≡ ascii "closes\n" ++ t
-          → closes n m numbers (s .x) (named n (s .x)) ≡ true
-      go true h f = h
-      go false h f = other t _ 100 f refl (λ z. let y : ⊥ = omega arith in y)
-
-  closes-done : (s : Solution) → closes n m numbers (s .x) (named n (s .x)) ≡ true
-      → tablesText n m names readings numbers (s .x) (named n (s .x))
-      ≡ ascii "closes\n" ++ (10 ∷ (metersTable n names readings numbers (s .x) (named n (s .x)) ++ (balancesTable n m names readings numbers (s .x) ++ toleranceText (toleranceOf numbers))))
-  unfolding tablesText ascii tab
-  closes-done s h = rw h refl
-
-  -- the answer behind a report that says so
-  Behind : Answer Solution → Type 0
-  Behind c = (s : Solution) × (c ≡ done s) × (closes n m numbers (s .x) (named n (s .x)) ≡ true)
-
-  behind : (c : Answer Solution) (t : List ℕ) → answerText n m names readings numbers c ≡ ascii "closes\n" ++ t → Behind c
-  unfolding Behind refusalText ascii tab
-  behind (done s) t e = (s, refl, done-closes s t e)
-  behind (refused r) t e = other t _ 114 e refl (λ z. let y : ⊥ = omega arith in y)
-
-  told : (t : List ℕ) → dayText n m names readings numbers ≡ ascii "closes\n" ++ t → (lt (toleranceOf numbers) +0 ≡ false) × Behind (dayAnswer (dayIn n m readings numbers))
-  unfolding dayText ascii tab
-  told t e = go (lt (toleranceOf numbers) +0) refl e
-    where
-      go : (b : Bool) → lt (toleranceOf numbers) +0 ≡ b → cond b toleranceRefused (answerText n m names readings numbers (dayAnswer (dayIn n m readings numbers))) ≡ ascii "closes\n" ++ t
-          → (lt (toleranceOf numbers) +0 ≡ false) × Behind (dayAnswer (dayIn n m readings numbers))
-      go true h f = other t _ 114 f refl (λ z. let y : ⊥ = omega arith in y)
-      go false h f = (h, behind (dayAnswer (dayIn n m readings numbers)) t f)
+  settled-closed : (a : Answer Settled) → settled day (toleranceOf numbers) ≡ a → BeginsCloses (answerText n m q d texts wholes numbers bytes (foundFrom wholes day a)) → Closed bytes
+  settled-closed (done s) h b = closed s h (closes-report .only n m q d texts wholes numbers (figures m q numbers (told s)) (signs m q numbers (told s)) bytes b)
+  settled-closed (refused r) h b = absurd (closes-report .no-refusal texts r b)
 
 -- ---- both ways
 
-closed : (bs : List ℕ) (o : Outcome) (t : List ℕ) → sheetOf bs ≡ o → sheetText o ≡ ascii "closes\n" ++ t → Closed bs
-unfolding Behind Within faultText ascii tab
-closed bs (whole n m names readings numbers) t e f =
-    let k = told n m names readings numbers t f in
-    let s = k .1 .0 in
-    let p = and-true (noneMarked n 0 (named n (s .x))) (allWithin n m 0 numbers (s .x)) (k .1 .2) in
-    record {
-      n = n;
-      m = m;
-      names = names;
-      readings = readings;
-      numbers = numbers;
-      s = s;
-      read = e;
-      tolerance = k .0;
-      reconciled = k .1 .1;
-      unmarked = λ i h. unnamed n (s .x) i h (none-all (named n (s .x)) n 0 (p .0) i (omega arith) (omega arith));
-      within = λ j h. within-all n numbers (s .x) m 0 (p .1) j (omega arith) (omega arith);
-    }
-closed bs (fault l x) t e f = other t _ 114 f refl (λ z. let y : ⊥ = omega arith in y)
-closed bs long t e f = other t _ 114 f refl (λ z. let y : ⊥ = omega arith in y)
+outcome-closed : (bytes : List ℕ) (o : Outcome) → sheetOf bytes ≡ o → BeginsCloses (outcomeText bytes o) → Closed bytes
+unfolding found
+outcome-closed bytes (whole n m q d texts wholes numbers) e b = settled-closed bytes n m q d texts wholes numbers e (settled (posed n m q wholes numbers) (toleranceOf numbers)) refl b
+outcome-closed bytes (fault line x w) e b = absurd (closes-report .no-fault line x w b)
+outcome-closed bytes long e b = absurd (closes-report .not-long b)
 
-only : (bs : List ℕ) → SaysCloses bs → Closed bs
-unfolding reportText
-only bs (t, e) = closed bs (sheetOf bs) t refl e
+only : (bytes : List ℕ) → SaysCloses bytes → Closed bytes
+unfolding dayReport
+only bytes b = outcome-closed bytes (sheetOf bytes) refl b
 
-all : (bs : List ℕ) → Closed bs → SaysCloses bs
-unfolding reportText dayText Within
-all bs c =
-    let a : noneMarked (c .n) 0 (named (c .n) (c .s .x)) ≡ true = none-so (named (c .n) (c .s .x)) (c .n) 0 (λ k l g. unmarked (c .n) (c .s .x) k (omega arith) (c .unmarked k (omega arith))) in
-    let b : allWithin (c .n) (c .m) 0 (c .numbers) (c .s .x) ≡ true = within-so (c .n) (c .numbers) (c .s .x) (c .m) 0 (λ k l g. c .within k (omega arith)) in
-    let d : closes (c .n) (c .m) (c .numbers) (c .s .x) (named (c .n) (c .s .x)) ≡ true = rw (a, b) refl in
-    let t : List ℕ =
-    10
-    ∷ (metersTable (c .n) (c .names) (c .readings) (c .numbers) (c .s .x) (named (c .n) (c .s .x))
-    ++ (balancesTable (c .n) (c .m) (c .names) (c .readings) (c .numbers) (c .s .x) ++ toleranceText (toleranceOf (c .numbers))))
-    in
-    (t, rw (c .read, c .tolerance, c .reconciled) (closes-done (c .n) (c .m) (c .names) (c .readings) (c .numbers) (c .s) d))
+finite-is : (t : Float) → Finite t → isFinite t ≡ true
+unfolding lt
+finite-is nan f = absurd f
+finite-is (inf s) f = absurd f
+finite-is (fin s m e) f = refl
+
+module _ (bytes : List ℕ) (c : Closed bytes) where
+  abbrev found-is : Found
+  found-is = tested (c .wholes) (posed (c .n) (c .m) (c .q) (c .wholes) (c .numbers)) (c .s)
+
+  verdict : verdictOf (figures (c .m) (c .q) (c .numbers) found-is) (signs (c .m) (c .q) (c .numbers) found-is) ≡ closes
+  verdict =
+      let k : isFinite (toleranceOf (c .numbers)) ≡ true = finite-is (toleranceOf (c .numbers)) (c .finite) in
+      of-tests (figures (c .m) (c .q) (c .numbers) found-is) (signs (c .m) (c .q) (c .numbers) found-is)
+      (rw (kept-sign (c .m) (c .q) (c .numbers) found-is, k, c .kept) refl) (rw (bound-figure (c .m) (c .q) (c .numbers) found-is) (c .certain)) (rw (agree-sign (c .m) (c .q) (c .numbers) found-is, c .agree) refl)
+
+  says : SaysCloses bytes
+  unfolding dayReport found
+  says = rw (c .read, c .volumes) (closes-report .all (c .n) (c .m) (c .q) (c .d) (c .texts) (c .wholes) (c .numbers) (figures (c .m) (c .q) (c .numbers) found-is) (signs (c .m) (c .q) (c .numbers) found-is) bytes verdict)
 
 pub closes-exactly : ClosesExactly
-closes-exactly = record { only = only; all = all }
+closes-exactly = record { only = only; all = says }

@@ -1,5 +1,4 @@
 -- What the day's program writes. Definitions only.
-pub mod Refusals
 pub mod Report
 pub mod Promise
 pub mod Claims

@@ -1,41 +1,22 @@
 -- The day's report: the bytes written for the bytes read (docs/RULES.md, "The day's report"). Definitions only.
-use mathlib.Core.Bool.{cond}
 use mathlib.Core.List.{List}
-use Prim.Native.Nat.{ℕ, _*_}
-use lib.ListN.{take, drop}
-use lib.Ieee.{Float, lt}
-use Rattle.numbers.specs.Numbers.{+0}
+use Prim.Native.Nat.{ℕ}
+use lib.Ieee.{Float}
 use Rattle.workspace.specs.Tables.{Answer, done, refused}
-use Rattle.nnls.specs.Counted.{Counted}
-use Rattle.lsei.specs.Lsei.{Solution}
-use Rattle.reconcile.specs.Day.{Day, dayOf, corrected, named}
-use Rattle.reconcile_call.specs.Promise.{meters}
-use Rattle.day_sheet.specs.Sheet.{Outcome, whole, fault, long, sheetOf}
-use Rattle.day_text.specs.Text.{toleranceOf, tablesText}
-use Rattle.day_report.specs.Refusals.{faultText, longText, toleranceRefused, refusalText}
+use Rattle.sheet.specs.Sheet.{Outcome, whole, fault, long, sheetOf}
+use Rattle.day_volumes.specs.Found.{Found, found, figures, signs}
+use Rattle.day_text.specs.Report.{reportText}
+use Rattle.day_text.specs.Refusals.{faultText, longText, refusalText}
 
--- the day that a sheet's tables hold
-abbrev pub dayIn : (n m : ℕ) (readings : List ℕ) (numbers : List Float) → Day
-dayIn n m readings numbers = dayOf n m (take n readings) (take n (drop 16 readings)) (take n numbers) (take (m * n) (drop 16 numbers))
+-- of a sheet with n items, m balances, q floors and ceilings and d doubts: what is found of its day, or why nothing is
+abbrev pub answerText : (n m q d : ℕ) (texts wholes : List ℕ) (numbers : List Float) (sheet : List ℕ) → Answer Found → List ℕ
+answerText n m q d texts wholes numbers sheet (done r) = reportText n m q d texts wholes numbers (figures m q numbers r) (signs m q numbers r) sheet
+answerText n m q d texts wholes numbers sheet (refused why) = refusalText texts why
 
--- the reconciliation of a day whose sizes and lengths are right: of the tests before the arithmetic those of the meters are left
-abbrev pub dayAnswer : Day → Answer Solution
-dayAnswer d = meters (d .before) (d .after) (d .spreads) (d .n) 0 (corrected d .answer)
+abbrev pub outcomeText : (sheet : List ℕ) → Outcome → List ℕ
+outcomeText sheet (whole n m q d texts wholes numbers) = answerText n m q d texts wholes numbers sheet (found n m q wholes numbers)
+outcomeText sheet (fault line e word) = faultText line e word
+outcomeText sheet long = longText
 
--- verdict and tables, with the corrected volumes and the meters that the reconciliation names
-abbrev pub answerText : (n m : ℕ) (names readings : List ℕ) (numbers : List Float) → Answer Solution → List ℕ
-answerText n m names readings numbers (done s) = tablesText n m names readings numbers (s .x) (named n (s .x))
-answerText n m names readings numbers (refused why) = refusalText names why
-
--- a tolerance below zero is told before the reconciliation; -0 is not below zero
-unfoldable pub dayText : (n m : ℕ) (names readings : List ℕ) (numbers : List Float) → List ℕ
-dayText n m names readings numbers =
-    cond (lt (toleranceOf numbers) +0) toleranceRefused (answerText n m names readings numbers (dayAnswer (dayIn n m readings numbers)))
-
-abbrev pub sheetText : Outcome → List ℕ
-sheetText (whole n m names readings numbers) = dayText n m names readings numbers
-sheetText (fault line e) = faultText line e
-sheetText long = longText
-
-unfoldable pub reportText : List ℕ → List ℕ
-reportText bs = sheetText (sheetOf bs)
+unfoldable pub dayReport : List ℕ → List ℕ
+dayReport bytes = outcomeText bytes (sheetOf bytes)

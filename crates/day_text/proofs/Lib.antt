@@ -1,2 +1,5 @@
-pub mod Balances
-pub mod Cells
+pub mod Constants
+pub mod Parts
+pub mod Rows
+pub mod Expecting
+pub mod Closes

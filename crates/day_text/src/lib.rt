@@ -1,199 +1,93 @@
-// The day's report where nothing is refused: its verdict and its tables, written into a lent buffer.
-mod rows;
-mod sums;
+// What the day's program writes: the report of a day, and the sentences of refusals.
+mod cells;
+mod faults;
+mod head;
+mod items;
+mod places;
+mod refusals;
+mod tables;
+mod verdict;
 
 ghost use mathlib.Core.Path.{_≡_};
-ghost use mathlib.Core.List.{_++_};
-ghost use Prim.Native.Nat.{_+_, _≤_, _<_};
+ghost use Prim.Native.Nat.{_+_, _≤_};
 ghost use lib.ListN.{length};
 ghost use Rattle.ascii.specs.inner.Work.{Wrote};
-ghost use Rattle.day_text.specs.Text.{verdictText, metersText, balanceRow, balancesText, metersTable, balancesTable, toleranceText, tablesText};
+ghost use Rattle.day_text.specs.Report.{toleranceText, sheetText, verdictLine, endText, reportText};
 ghost use Rattle.day_text.specs.inner.Work.{Tables};
-use crate::rows::put_balance;
-use crate::rows::put_meter;
-use crate::sums::closes;
-use crate::sums::fill_volumes;
-use crate::sums::imbalance;
-use crate::sums::is_within;
+use crate::cells::put_inline;
+use crate::head::put_head;
+use crate::places::TOLERANCE;
+use crate::tables::put_tables;
+use crate::verdict::put_verdict;
 use ascii::put_byte;
+use ascii::put_decimal;
 use ascii::put_text;
-use decimals_fixed::put_fixed;
+pub use faults::put_fault;
+pub use faults::put_long;
+pub use refusals::put_refusal;
 
-// A row for each meter.
-fn put_meters(
-    out: &mut [u8],
-    at: usize,
-    n: usize,
-    names: &[u8],
-    readings: &[u32],
-    numbers: &[f64],
-    x: &[f64],
-    marks: &[u8],
-) -> usize
-    requires { ⌜ (at + 2496 ≤ length (now out)) × Tables n 0 (now names) (now readings) (now numbers) × (length (now x) ≡ n) × (length (now marks) ≡ n) ⌝ }
-    ensures { λ r. ⌜ Wrote (now (out .entry)) at (metersText n 0 (now (names .entry)) (now (readings .entry)) (now (numbers .entry)) (now (x .entry)) (now (marks .entry))) (now (out .exit)) r ⌝ }
-    ensures { λ r. ⌜ r ≤ at + 2496 ⌝ }
+// The verdict, as a line.
+fn put_verdict_line(out: &mut [u8], n: usize, texts: &[u8], figures: &[f64], signs: &[u32]) -> usize
+    requires { ⌜ (401 ≤ length (now out)) × (n ≤ 16) × (length (now texts) ≡ 1992) × (length (now figures) ≡ 130) × (length (now signs) ≡ 51) ⌝ }
+    ensures { λ r. ⌜ Wrote (now (out .entry)) 0 (verdictLine n (now (texts .entry)) (now (figures .entry)) (now (signs .entry))) (now (out .exit)) r ⌝ }
+    ensures { λ r. ⌜ r ≤ 401 ⌝ }
 {
-    let mut to = at;
-    for i in 0..n {
-        let a = 16 * i;
-        let b = a + 16;
-        to = put_meter(
-            out,
-            to,
-            &names[a..b],
-            readings[i],
-            readings[16 + i],
-            x[i],
-            numbers[i],
-            marks[i],
-        );
-    }
-    to
-}
-
-// The row of balance j.
-fn put_row(
-    out: &mut [u8],
-    at: usize,
-    n: usize,
-    j: usize,
-    names: &[u8],
-    numbers: &[f64],
-    v: &[f64],
-    x: &[f64],
-) -> usize
-    requires { ⌜ (at + 66 ≤ length (now out)) × (n ≤ 16) × (j < 16) × (length (now names) ≡ 512) × (length (now numbers) ≡ 273) × (length (now v) ≡ n) × (length (now x) ≡ n) ⌝ }
-    ensures { λ r. ⌜ Wrote (now (out .entry)) at (balanceRow n j (now (names .entry)) (now (numbers .entry)) (now (v .entry)) (now (x .entry))) (now (out .exit)) r ⌝ }
-    ensures { λ r. ⌜ r ≤ at + 66 ⌝ }
-{
-    let measured = imbalance(n, j, numbers, v);
-    let left = imbalance(n, j, numbers, x);
-    let within = is_within(numbers[272], left);
-    let a = 256 + 16 * j;
-    let b = a + 16;
-    put_balance(out, at, &names[a..b], measured, left, within)
-}
-
-// A row for each balance.
-fn put_balances(
-    out: &mut [u8],
-    at: usize,
-    n: usize,
-    m: usize,
-    names: &[u8],
-    numbers: &[f64],
-    v: &[f64],
-    x: &[f64],
-) -> usize
-    requires { ⌜ (at + 1056 ≤ length (now out)) × (n ≤ 16) × (m ≤ 16) × (length (now names) ≡ 512) × (length (now numbers) ≡ 273) × (length (now v) ≡ n) × (length (now x) ≡ n) ⌝ }
-    ensures { λ r. ⌜ Wrote (now (out .entry)) at (balancesText n m 0 (now (names .entry)) (now (numbers .entry)) (now (v .entry)) (now (x .entry))) (now (out .exit)) r ⌝ }
-    ensures { λ r. ⌜ r ≤ at + 1056 ⌝ }
-{
-    let mut to = at;
-    for j in 0..m {
-        to = put_row(out, to, n, j, names, numbers, v, x);
-    }
-    to
-}
-
-// The table of meters, with its heading and the empty line after it.
-fn put_meter_table(
-    out: &mut [u8],
-    at: usize,
-    n: usize,
-    names: &[u8],
-    readings: &[u32],
-    numbers: &[f64],
-    x: &[f64],
-    marks: &[u8],
-) -> usize
-    requires { ⌜ (at + 2700 ≤ length (now out)) × Tables n 0 (now names) (now readings) (now numbers) × (length (now x) ≡ n) × (length (now marks) ≡ n) ⌝ }
-    ensures { λ r. ⌜ Wrote (now (out .entry)) at (metersTable n (now (names .entry)) (now (readings .entry)) (now (numbers .entry)) (now (x .entry)) (now (marks .entry))) (now (out .exit)) r ⌝ }
-    ensures { λ r. ⌜ r ≤ at + 2700 ⌝ }
-{
-    let a = put_text(
-        out,
-        at,
-        b"meter               old    new  rolled         volume      corrected     correction         spread     in spreads  marked\n",
-    );
-    let b = put_meters(out, a, n, names, readings, numbers, x, marks);
-    put_byte(out, b, b'\n')
-}
-
-// Room for a number of each meter.
-fn sixteen() -> [f64; 16]
-    ensures { λ r. ⌜ 16 ≡ length r ⌝ }
-{
-    [0.0; 16]
-}
-
-// The table of balances, with its heading and the empty line after it.
-fn put_balance_table(
-    out: &mut [u8],
-    at: usize,
-    n: usize,
-    m: usize,
-    names: &[u8],
-    readings: &[u32],
-    numbers: &[f64],
-    x: &[f64],
-) -> usize
-    requires { ⌜ (at + 1200 ≤ length (now out)) × Tables n m (now names) (now readings) (now numbers) × (length (now x) ≡ n) ⌝ }
-    ensures { λ r. ⌜ Wrote (now (out .entry)) at (balancesTable n m (now (names .entry)) (now (readings .entry)) (now (numbers .entry)) (now (x .entry))) (now (out .exit)) r ⌝ }
-    ensures { λ r. ⌜ r ≤ at + 1200 ⌝ }
-{
-    let mut volumes = sixteen();
-    let v = &mut volumes[..n];
-    fill_volumes(readings, v, n);
-    let a = put_text(
-        out,
-        at,
-        b"balance                measured           left  within\n",
-    );
-    let b = put_balances(out, a, n, m, names, numbers, v, x);
-    put_byte(out, b, b'\n')
+    let a = put_verdict(out, n, texts, figures, signs);
+    put_byte(out, a, b'\n')
 }
 
 // The tolerance, as a line.
 fn put_tolerance(out: &mut [u8], at: usize, tolerance: f64) -> usize
-    requires { ⌜ at + 40 ≤ length (now out) ⌝ }
+    requires { ⌜ at + 32 ≤ length (now out) ⌝ }
     ensures { λ r. ⌜ Wrote (now (out .entry)) at (toleranceText tolerance) (now (out .exit)) r ⌝ }
+    ensures { λ r. ⌜ r ≤ at + 32 ⌝ }
 {
     let a = put_text(out, at, b"tolerance ");
-    let b = put_fixed(out, a, 0, tolerance);
+    let b = put_inline(out, a, tolerance);
     put_byte(out, b, b'\n')
 }
 
-// The verdict, and the empty line after it.
-fn put_verdict(out: &mut [u8], closed: bool) -> usize
-    requires { ⌜ 20 ≤ length (now out) ⌝ }
-    ensures { λ r. ⌜ Wrote (now (out .entry)) 0 (verdictText closed) (now (out .exit)) r ⌝ }
-    ensures { λ r. ⌜ r ≤ 20 ⌝ }
+// The sheet, after its size.
+fn put_sheet(out: &mut [u8], at: usize, sheet: &[u8]) -> usize
+    requires { ⌜ (at + 65572 ≤ length (now out)) × (length (now sheet) ≤ 65536) ⌝ }
+    ensures { λ r. ⌜ Wrote (now (out .entry)) at (sheetText (now (sheet .entry))) (now (out .exit)) r ⌝ }
 {
-    if closed {
-        return put_text(out, 0, b"closes\n\n");
-    }
-    put_text(out, 0, b"does not close\n\n")
+    let a = put_text(out, at, b"sheet of ");
+    let b = put_decimal(out, a, sheet.len() as u64);
+    let c = put_text(out, b, b" bytes\n");
+    put_text(out, c, sheet)
 }
 
-// The whole report, where nothing is refused.
-pub fn put_tables(
+// Tolerance, version and sheet. The version is told as 300 by the crate gritstrut.
+fn put_end(out: &mut [u8], at: usize, tolerance: f64, sheet: &[u8]) -> usize
+    requires { ⌜ (at + 65621 ≤ length (now out)) × (length (now sheet) ≤ 65536) ⌝ }
+    ensures { λ r. ⌜ Wrote (now (out .entry)) at (endText tolerance (now (sheet .entry))) (now (out .exit)) r ⌝ }
+{
+    let a = put_tolerance(out, at, tolerance);
+    let b = put_text(out, a, b"gritstrut 0.3.0\n\n");
+    put_sheet(out, b, sheet)
+}
+
+// The whole report, where volumes were found: at most 16,384 bytes before the sheet.
+pub fn put_report(
     out: &mut [u8],
     n: usize,
     m: usize,
-    names: &[u8],
-    readings: &[u32],
+    q: usize,
+    d: usize,
+    texts: &[u8],
+    wholes: &[u32],
     numbers: &[f64],
-    x: &[f64],
-    marks: &[u8],
+    figures: &[f64],
+    signs: &[u32],
+    sheet: &[u8],
 ) -> usize
-    requires { ⌜ (8192 ≤ length (now out)) × Tables n m (now names) (now readings) (now numbers) × (length (now x) ≡ n) × (length (now marks) ≡ n) ⌝ }
-    ensures { λ r. ⌜ Wrote (now (out .entry)) 0 (tablesText n m (now (names .entry)) (now (readings .entry)) (now (numbers .entry)) (now (x .entry)) (now (marks .entry))) (now (out .exit)) r ⌝ }
+    requires { ⌜ (81920 ≤ length (now out)) × (n ≤ 16) × (m ≤ 16) × (q ≤ 16) × (d ≤ 16) ⌝ }
+    requires { ⌜ Tables (now texts) (now wholes) (now numbers) (now figures) (now signs) × (length (now sheet) ≤ 65536) ⌝ }
+    ensures { λ r. ⌜ Wrote (now (out .entry)) 0 (reportText n m q d (now (texts .entry)) (now (wholes .entry)) (now (numbers .entry)) (now (figures .entry)) (now (signs .entry)) (now (sheet .entry))) (now (out .exit)) r ⌝ }
 {
-    let closed = closes(n, m, numbers, x, marks);
-    let a = put_verdict(out, closed);
-    let b = put_meter_table(out, a, n, names, readings, numbers, x, marks);
-    let c = put_balance_table(out, b, n, m, names, readings, numbers, x);
-    put_tolerance(out, c, numbers[272])
+    let a = put_verdict_line(out, n, texts, figures, signs);
+    let b = put_head(out, a, d, texts, figures, signs);
+    let c = put_tables(out, b, n, m, q, texts, wholes, numbers, figures, signs);
+    put_end(out, c, numbers[TOLERANCE], sheet)
 }

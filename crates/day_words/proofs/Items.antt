@@ -1,18 +1,15 @@
 -- What a word is: a name, a reading, a decimal number.
 use mathlib.Core.Path.{_≡_, refl, sym, ap, _∙_}
-use mathlib.Core.Bool.{Bool, true, false, cond, _&&_, _||_}
+use mathlib.Core.Bool.{Bool, true, false, cond, _&&_}
 use mathlib.Core.List.{List, [], _∷_, _++_}
 use Prim.Native.Nat.{ℕ, zero, suc, _+_, _-_, _*_, _^_, _≤_, _<_}
 use native.Mathlib.Nat.{pow-succ', pow-le-pow-right, mul-le-mul-right}
 use native.Mathlib.Omega.{arith}
 use borrow.Author.Tests.{lt-ltb, le-ltb, le-leb, lt-leb, eq-eqb, ne-eqb}
-use lib.Dec.{leb, eqb}
-use lib.ListN.{length, take, drop, getD, replicate, drop-of-length-le}
+use lib.ListN.{length, drop, replicate}
 use lib.Ieee.{Float}
 use Rattle.endian.specs.Little.{placed}
-use Rattle.ascii.specs.Text.{sameText}
 use Rattle.ascii.specs.inner.Work.{Wrote}
-use Rattle.ascii.proofs.Same.{next-byte}
 use Rattle.decimals.specs.declared.Run.{Run}
 use Rattle.decimals.specs.declared.Reading.{Reading}
 use Rattle.decimals.specs.declared.Reading.the-variants as decimal
@@ -22,39 +19,9 @@ use Rattle.decimals.specs.inner.Work.{capped, runFrom}
 use Rattle.decimals.proofs.Runs.{digit-lt, capped-low}
 use Rattle.day_words.specs.declared.Count.the-variants.{Shows, Unread}
 use Rattle.day_words.specs.declared.Number.the-variants.{Is, Missing}
-use Rattle.day_words.specs.Items.{isPrintable, arePrintable, isName, filled, isAmong, readingOf, wholly, decimalOf}
+use Rattle.day_words.specs.Items.{filled, readingOf, decimalOf}
 
 -- ---- names
-
-pub print-low : (c : ℕ) → c < 33 → false ≡ isPrintable c
-print-low c h = rw (lt-leb 33 c h)
-
-pub print-high : (c : ℕ) → 33 ≤ c → leb c 126 ≡ isPrintable c
-print-high c h = rw (le-leb 33 c h)
-
-pub print-last : (w : List ℕ) (i : ℕ) → length w ≤ i → true ≡ arePrintable (drop i w)
-unfolding arePrintable
-print-last w i h = rw (drop-of-length-le w h)
-
-pub print-not : (w : List ℕ) (i : ℕ) → i < length w → isPrintable (getD w i 0) ≡ false → false ≡ arePrintable (drop i w)
-unfolding arePrintable
-print-not w i h e = rw (next-byte w i h, e)
-
-pub print-later : (w : List ℕ) (i : ℕ) → i < length w → isPrintable (getD w i 0) ≡ true → arePrintable (drop i w) ≡ arePrintable (drop (i + 1) w)
-unfolding arePrintable
-print-later w i h e = ap arePrintable (next-byte w i h) ∙ rw e
-
-pub name-none : (w : List ℕ) → length w ≡ 0 → false ≡ isName w
-unfolding isName
-name-none w h = rw (le-ltb 0 (length w) (omega arith))
-
-pub name-long : (w : List ℕ) → 16 < length w → false ≡ isName w
-unfolding isName
-name-long w h = rw (lt-ltb 0 (length w) (omega arith), lt-leb (length w) 16 h)
-
-pub name-is : (w : List ℕ) → (length w ≡ 0 → ⊥) → length w ≤ 16 → arePrintable w ≡ isName w
-unfolding isName
-name-is w n h = rw (lt-ltb 0 (length w) (omega (arith, n)), le-leb (length w) 16 h)
 
 drop-replicate : (k n x : ℕ) → drop k (replicate n x) ≡ replicate (n - k) x
 drop-replicate zero n x = let e : n - 0 ≡ n = omega arith in rw e
@@ -66,27 +33,6 @@ unfolding filled placed
 filled-is w a r h =
     let e : 0 + length w ≡ length w = omega arith in
     h .held ∙ ap (λ (k : ℕ). w ++ drop k (replicate 16 32)) e ∙ ap (λ (l : List ℕ). w ++ l) (drop-replicate (length w) 16 32)
-
--- ---- a name among those of the table
-
-module _ (name names : List ℕ) (k n : ℕ) (e : n ≡ 16) where
-  among-next : k < 32 → isAmong (32 - k) k name names ≡ (sameText (take n (drop (16 * k) names)) name || isAmong (32 - (k + 1)) (k + 1) name names)
-  unfolding isAmong
-  among-next h =
-      let p : 32 - k ≡ suc (32 - (k + 1)) = omega arith in
-      let q : suc k ≡ k + 1 = omega arith in
-      ap (λ (j : ℕ). isAmong j k name names) p ∙ ap (λ (j : ℕ). sameText (take 16 (drop (16 * k) names)) name || isAmong (32 - (k + 1)) j name names) q
-      ∙ ap (λ (j : ℕ). sameText (take j (drop (16 * k) names)) name || isAmong (32 - (k + 1)) (k + 1) name names) (sym e)
-
-  pub among-here : k < 32 → sameText (take n (drop (16 * k) names)) name ≡ true → true ≡ isAmong (32 - k) k name names
-  among-here h s = sym (among-next h ∙ rw s)
-
-  pub among-later : k < 32 → sameText (take n (drop (16 * k) names)) name ≡ false → isAmong (32 - k) k name names ≡ isAmong (32 - (k + 1)) (k + 1) name names
-  among-later h s = among-next h ∙ rw s
-
-pub among-none : (name names : List ℕ) (k : ℕ) → 32 ≤ k → false ≡ isAmong (32 - k) k name names
-unfolding isAmong
-among-none name names k h = let e : 32 - k ≡ 0 = omega arith in rw e
 
 -- ---- readings
 

@@ -1,8 +1,8 @@
 -- Where lines and words end.
 use mathlib.Core.Path.{_≡_, refl, sym, ap, _∙_}
-use mathlib.Core.Bool.{Bool, true, false, cond, _||_}
+use mathlib.Core.Bool.{Bool, true, false, cond}
 use mathlib.Core.List.{List, [], _∷_}
-use Prim.Native.Nat.{ℕ, zero, suc, _+_, _-_, _≤_, _<_}
+use Prim.Native.Nat.{ℕ, suc, _+_, _-_, _≤_, _<_}
 use native.Mathlib.Nat.{add-zero}
 use native.Mathlib.Omega.{arith}
 use borrow.Author.Tests.{eq-eqb, ne-eqb}
@@ -12,7 +12,7 @@ use lib.Seq.{take-all, drop-drop, length-take-le}
 use Rattle.ascii.proofs.Same.{next-byte}
 use Rattle.day_words.specs.Words.{upTo, isFeed, joined, linesOf, withoutReturn, isBlank, skipBlanks, word, rest}
 use Rattle.day_words.specs.declared.Word.{Word}
-use Rattle.day_words.specs.inner.Work.{IsWord, isNone}
+use Rattle.day_words.specs.inner.Work.{IsWord}
 
 -- ---- up to a byte
 
@@ -87,10 +87,6 @@ is-word line from start end e f h =
 pub word-size : (line : List ℕ) (from : ℕ) (w : Word) → IsWord line from w → length (word (drop from line)) ≡ w .end - w .start
 word-size line from w i =
     ap length (sym (i .text)) ∙ length-take-le (w .end - w .start) (drop (w .start) line) (let d = length-drop (w .start) line in let l = i .low in let h = i .high in omega arith)
-
-pub none-is : (t : List ℕ) (s e : ℕ) → s ≤ e → length t ≡ e - s → eqb s e ≡ isNone t
-none-is [] s e h l = let z : s ≡ e = omega arith in rw (eq-eqb s e z)
-none-is (c ∷ t) s e h l = rw (ne-eqb s e (λ z. omega arith))
 
 -- ---- the carriage return
 

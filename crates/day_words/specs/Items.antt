@@ -1,12 +1,11 @@
 -- What a word of the sheet may be: a name, a reading, a decimal number. Definitions only.
-use mathlib.Core.Bool.{Bool, true, false, cond, _&&_, _||_}
-use mathlib.Core.List.{List, [], _∷_, _++_}
-use Prim.Native.Nat.{ℕ, zero, suc, _-_, _*_}
+use mathlib.Core.Bool.{Bool, cond, _&&_}
+use mathlib.Core.List.{List, _++_}
+use Prim.Native.Nat.{ℕ, _-_}
 use lib.Dec.{leb, ltb, eqb}
-use lib.ListN.{length, take, drop, replicate}
+use lib.ListN.{length, replicate}
 use lib.Ieee.{Float}
 use Rattle.numbers.specs.Numbers.{+0}
-use Rattle.ascii.specs.Text.{sameText}
 use Rattle.decimals.specs.declared.Reading.{Reading}
 use Rattle.decimals.specs.declared.Reading.the-variants as decimal
 use Rattle.decimals.specs.Decimal.{numeral, decimalAt}
@@ -16,26 +15,14 @@ use Rattle.day_words.specs.declared.Number.the-variants.{Is, Missing}
 use Rattle.day_words.specs.declared.Count.{Count}
 use Rattle.day_words.specs.declared.Count.the-variants.{Shows, Unread}
 
--- ---- names: 1 to 16 bytes from 33 to 126
+-- ---- names: bytes from 33 to 126
 
 abbrev pub isPrintable : ℕ → Bool
 isPrintable c = leb 33 c && leb c 126
 
-unfoldable pub arePrintable : List ℕ → Bool
-arePrintable [] = true
-arePrintable (c ∷ cs) = isPrintable c && arePrintable cs
-
-unfoldable pub isName : List ℕ → Bool
-isName w = ltb 0 (length w) && (leb (length w) 16 && arePrintable w)
-
 -- a name filled up with blanks to 16 bytes
 unfoldable pub filled : List ℕ → List ℕ
 filled w = w ++ replicate (16 - length w) 32
-
--- The names stand 16 bytes each in a table of 32, which is blank where none is given yet: is this one among them?
-unfoldable pub isAmong : (left k : ℕ) → (name names : List ℕ) → Bool
-isAmong zero k name names = false
-isAmong (suc left) k name names = sameText (take 16 (drop (16 * k) names)) name || isAmong left (suc k) name names
 
 -- ---- readings: one to six digits
 

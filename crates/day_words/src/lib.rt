@@ -3,8 +3,8 @@ ghost use mathlib.Core.Path.{_≡_};
 ghost use Prim.Native.Nat.{_+_, _≤_};
 ghost use lib.ListN.{length, take, drop};
 ghost use Rattle.day_words.specs.Words.{isFeed, isBlank as Words·isBlank, upTo, withoutReturn, skipBlanks, word};
-ghost use Rattle.day_words.specs.Items.{isPrintable, arePrintable, isName, filled, isAmong, readingOf, decimalOf};
-ghost use Rattle.day_words.specs.inner.Work.{IsWord, isNone};
+ghost use Rattle.day_words.specs.Items.{filled, readingOf, decimalOf};
+ghost use Rattle.day_words.specs.inner.Work.{IsWord};
 
 // A decimal number, or none.
 pub enum Number {
@@ -106,50 +106,6 @@ pub fn find_word(line: &[u8], from: usize) -> Word
     }
 }
 
-// Whether no word comes any more.
-pub fn is_done(line: &[u8], from: usize) -> bool
-    requires { ⌜ from ≤ length (now line) ⌝ }
-    ensures { λ r. ⌜ r ≡ isNone (word (drop from (now (line .entry)))) ⌝ }
-{
-    let w = find_word(line, from);
-    w.start == w.end
-}
-
-// Whether a byte may stand in a name.
-fn is_printable(c: u8) -> bool
-    ensures { λ r. ⌜ r ≡ isPrintable c ⌝ }
-{
-    if 33 <= c {
-        return c <= 126;
-    }
-    false
-}
-
-// Whether all bytes of a word may stand in a name.
-fn are_printable(word: &[u8]) -> bool
-    ensures { λ r. ⌜ r ≡ arePrintable (now (word .entry)) ⌝ }
-{
-    for i in 0..word.len() {
-        if !is_printable(word[i]) {
-            return false;
-        }
-    }
-    true
-}
-
-// Whether a word is a name.
-pub fn is_name(word: &[u8]) -> bool
-    ensures { λ r. ⌜ r ≡ isName (now (word .entry)) ⌝ }
-{
-    if word.len() == 0 {
-        return false;
-    }
-    if 16 < word.len() {
-        return false;
-    }
-    are_printable(word)
-}
-
 // A name with blanks behind it.
 pub fn fill(word: &[u8]) -> [u8; 16]
     requires { ⌜ length (now word) ≤ 16 ⌝ }
@@ -158,21 +114,6 @@ pub fn fill(word: &[u8]) -> [u8; 16]
     let mut name = [b' '; 16];
     ascii::put_text(&mut name, 0, word);
     name
-}
-
-// Whether a name is among the 32 of the table.
-pub fn is_given(name: &[u8], names: &[u8]) -> bool
-    requires { ⌜ length (now names) ≡ 512 ⌝ }
-    ensures { λ r. ⌜ r ≡ isAmong 32 0 (now (name .entry)) (now (names .entry)) ⌝ }
-{
-    for k in 0..32 {
-        let start = 16 * k;
-        let end = 16 * k + 16;
-        if ascii::is_same(&names[start..end], name) {
-            return true;
-        }
-    }
-    false
 }
 
 // The reading that a word shows.

@@ -5,3 +5,8 @@ pub mod LastPlace
 pub mod Grammar
 pub mod OnlyThese
 pub mod Examples
+pub mod Nearby
+pub mod Sizes
+pub mod Signs
+pub mod Back
+pub mod Shown

@@ -1,4 +1,6 @@
--- Decimal numbers in a text: what they are, and the f64 of each. Definitions only.
+-- Decimal numbers in a text: what they are, and the f64 of each; and an f64 as text. Definitions only.
 pub mod Decimal
 pub mod Claims
+pub mod Fixed
+pub mod Printed
 pub mod inner

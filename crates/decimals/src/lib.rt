@@ -1,4 +1,6 @@
-// Decimal numbers in a text, read to the nearest f64.
+// Decimal numbers in a text, read to the nearest f64; and f64s written with three decimals.
+mod print;
+
 ghost use mathlib.Core.Path.{_≡_};
 ghost use mathlib.Core.Bool.{false};
 ghost use Prim.Native.Nat.{_+_, _-_, _*_, _^_, _≤_, _<_};
@@ -6,6 +8,7 @@ ghost use lib.ListN.{getD};
 ghost use lib.Ieee.{binary64, round};
 ghost use Rattle.decimals.specs.Decimal.{isDigit, valueOf, within as Decimal·within, unsignedAt, decimalAt};
 ghost use Rattle.decimals.specs.inner.Work.{capped, runFrom};
+pub use print::put_fixed;
 
 // A number with the place after it, or the place of what is no number.
 pub enum Reading {

@@ -8,7 +8,7 @@ use native.Mathlib.Omega.{arith}
 use lib.IntN.{ℤ}
 use lib.Dec.{T, ltb, eqb, ltb→lt, lt→ltb, nltb→le, eqb→eq}
 use lib.Pow.{pow-pos}
-use lib.Ieee.{Float, nan, inf, fin, up, down, lt, le, neg, below, level}
+use lib.Ieee.{Float, nan, inf, fin, up, down, lt, le, eq, neg, below, level}
 use lib.Ieee.Fits.{and-l, and-r, eq→eqb}
 use Rattle.numbers.specs.Numbers.{+0}
 use Rattle.exact.specs.Exact.{ℚ, _≤ℚ_, _<ℚ_, _≈ℚ_, whole, negℚ, Finite, signed, value}
@@ -147,6 +147,24 @@ at-most-is-at-most (fin s m e) nan fx fy = absurd fy
 at-most-is-at-most (fin s m e) (inf t) fx fy = absurd fy
 at-most-is-at-most (fin s m e) (fin t n d) fx fy = (λ h. no-more s t m n e d (subst T (sym h) tt), λ h. told (le (fin s m e) (fin t n d)) (no-more-of s t m n e d h))
 
+-- floats that are equal are one number
+same-number : (s t : Bool) (m n : ℕ) (e d : ℤ) → T (level s (m * up e * down d) t (n * up d * down e)) → signed s m e ≈ℚ signed t n d
+unfolding _≈ℚ_ signed negℚ
+same-number false false m n e d h = let k = eqb→eq (m * up e * down d) (n * up d * down e) (and-l (eqb (m * up e * down d) (n * up d * down e)) true h) in omega arith
+same-number false true m n e d h = let k = both-zero (m * up e * down d) (n * up d * down e) h in omega arith
+same-number true false m n e d h = let k = both-zero (m * up e * down d) (n * up d * down e) h in omega arith
+same-number true true m n e d h = let k = eqb→eq (m * up e * down d) (n * up d * down e) (and-l (eqb (m * up e * down d) (n * up d * down e)) true h) in omega arith
+
+pub equal-is-same : (x y : Float) → Finite y → eq x y ≡ true → Finite x × (value x ≈ℚ value y)
+unfolding value eq
+equal-is-same nan y f h = absurd (true≢false (sym h))
+equal-is-same (inf s) nan f h = absurd f
+equal-is-same (inf s) (inf t) f h = absurd f
+equal-is-same (inf s) (fin t n d) f h = absurd (true≢false (sym h))
+equal-is-same (fin s m e) nan f h = absurd f
+equal-is-same (fin s m e) (inf t) f h = absurd f
+equal-is-same (fin s m e) (fin t n d) f h = (tt, same-number s t m n e d (asked (level s (m * up e * down d) t (n * up d * down e)) h))
+
 pub size-is-value : SizeIsValue
 unfolding value signed negℚ _≈ℚ_
 size-is-value nan a c p = (λ h. absurd h, λ h. absurd h)
@@ -165,7 +183,7 @@ neg-is-neg (fin false m e) f = refl
 neg-is-neg (fin true m e) f = refl
 
 -- zero's value, and what a test against it says
-zero-value : value +0 ≈ℚ whole 0
+pub zero-value : value +0 ≈ℚ whole 0
 unfolding value signed _≈ℚ_
 zero-value = refl
 

@@ -3,14 +3,14 @@ use mathlib.Core.Path.{_≡_, refl, sym, ap, ap₂, _∙_, subst}
 use Prim.Native.Nat.{ℕ, zero, suc, _+_, _%_, _≤_, _<_}
 use native.Mathlib.Numerals.{add-one}
 use native.Mathlib.Omega.{arith}
-use mathlib.Core.Bool.{Bool, true, false, not, true≢false}
+use mathlib.Core.Bool.{false≢true, Bool, true, false, not, _||_, true≢false}
 use lib.Dec.{T, ltb, ltb→lt, not-T}
-use lib.Ieee.{Float, nan, inf, fin, binary64, neg, div, lt, le, ne, isNan, nanBits, ofBits}
+use lib.Ieee.{Float, eq, round, nan, inf, fin, binary64, neg, div, lt, le, ne, isNan, nanBits, ofBits}
 use lib.Ieee.Bits.{nanBits-above}
 use lib.Ieee.Compare.{nan-differs}
-use Rattle.numbers.specs.Numbers.{+0, _⊘_}
-use Rattle.interval.specs.Next.{nextUp}
-use Rattle.interval.specs.Intervals.{isFinite, isPositive, larger, divUp, line, point, plus, sumWithin, addUp, sumUp}
+use Rattle.numbers.specs.Numbers.{+0, -1, one, _⊗_, _⊘_}
+use Rattle.interval.specs.Next.{nextUp, nextDown}
+use Rattle.interval.specs.Intervals.{isFinite, isPositive, areZero, addDown, larger, divUp, line, point, plus, product, sumWithin, addUp, sumUp}
 use Rattle.interval.specs.declared.Interval.{Interval}
 
 -- 1.0 / 0.0, -1.0 / 0.0 and 0.0
@@ -122,3 +122,74 @@ up-more i f acc v r e h k = rw (add-one i) (e ∙ ap₂ addUp k h)
 
 pub up-done : (i n : ℕ) (f : ℕ → Float) (acc : Float) → i ≡ n → acc ≡ sumUp i f → acc ≡ sumUp n f
 up-done i n f acc e h = h ∙ ap (λ (k : ℕ). sumUp k f) e
+
+-- ---- sums and products that are not rounded
+pub one-is : ofBits binary64 4607182418800017408 ≡ one
+unfolding ofBits round
+one-is = refl
+
+pub minus-one-is : neg (ofBits binary64 4607182418800017408) ≡ -1
+unfolding ofBits neg
+minus-one-is = refl
+
+pub zero-eq : (x : Float) → eq x (ofBits binary64 0) ≡ eq x +0
+zero-eq x = ap (eq x) zero-is
+
+pub zeros-then : (x y : Float) → eq x (ofBits binary64 0) ≡ true → eq y (ofBits binary64 0) ≡ areZero x y
+zeros-then x y h = rw (sym (zero-eq x) ∙ h) (zero-eq y)
+
+pub zeros-not : (x y : Float) → eq x (ofBits binary64 0) ≡ false → false ≡ areZero x y
+zeros-not x y h = rw (sym (zero-eq x) ∙ h) refl
+
+pub plus-first : (a b : Interval) (t : Bool) → t ≡ areZero (a .lo) (a .hi) → t ≡ true → b ≡ plus a b
+unfolding plus
+plus-first a b t e h = rw (sym e ∙ h) refl
+
+pub plus-second : (a b : Interval) (t u : Bool) → t ≡ areZero (a .lo) (a .hi) → t ≡ false → u ≡ areZero (b .lo) (b .hi) → u ≡ true → a ≡ plus a b
+unfolding plus
+plus-second a b t u e h f k = rw (sym e ∙ h, sym f ∙ k) refl
+
+pub plus-both : (a b r : Interval) (t u : Bool) → t ≡ areZero (a .lo) (a .hi) → t ≡ false → u ≡ areZero (b .lo) (b .hi) → u ≡ false
+    → r ≡ ends (addDown (a .lo) (b .lo)) (addUp (a .hi) (b .hi)) → r ≡ plus a b
+unfolding plus
+plus-both a b r t u e h f k i = rw (sym e ∙ h, sym f ∙ k) i
+
+module _ (x y : Float) where
+  abbrev F : Bool
+  F = isFinite (x ⊗ y)
+
+  pub product-none : (t : Bool) (r : Interval) → t ≡ F → t ≡ false → r ≡ line → r ≡ product x y
+  unfolding product
+  product-none t r e h i = rw (sym e ∙ h) i
+
+  pub product-zero : (t : Bool) → t ≡ F → t ≡ true → (eq x +0 || eq y +0) ≡ true → ends (ofBits binary64 0) (ofBits binary64 0) ≡ product x y
+  unfolding product
+  product-zero t e h z = rw (sym e ∙ h, z) (ap₂ ends zero-is zero-is)
+
+  pub product-one : (t : Bool) → t ≡ F → t ≡ true → (eq x +0 || eq y +0) ≡ false → eq x (ofBits binary64 4607182418800017408) ≡ true → ends y y ≡ product x y
+  unfolding product
+  product-one t e h z i = rw (sym e ∙ h, z, sym (ap (eq x) one-is) ∙ i) refl
+
+  pub product-minus : (t : Bool) → t ≡ F → t ≡ true → (eq x +0 || eq y +0) ≡ false → eq x (ofBits binary64 4607182418800017408) ≡ false
+      → eq x (neg (ofBits binary64 4607182418800017408)) ≡ true → ends (neg y) (neg y) ≡ product x y
+  unfolding product
+  product-minus t e h z i j = rw (sym e ∙ h, z, sym (ap (eq x) one-is) ∙ i, sym (ap (eq x) minus-one-is) ∙ j) refl
+
+  pub product-moved : (t : Bool) (r : Interval) → t ≡ F → t ≡ true → (eq x +0 || eq y +0) ≡ false → eq x (ofBits binary64 4607182418800017408) ≡ false
+      → eq x (neg (ofBits binary64 4607182418800017408)) ≡ false → r ≡ ends (nextDown (x ⊗ y)) (nextUp (x ⊗ y)) → r ≡ product x y
+  unfolding product
+  product-moved t r e h z i j k = rw (sym e ∙ h, z, sym (ap (eq x) one-is) ∙ i, sym (ap (eq x) minus-one-is) ∙ j) k
+
+pub zero-or : (x y : Float) → eq x (ofBits binary64 0) ≡ true → (eq x +0 || eq y +0) ≡ true
+zero-or x y h = rw (sym (zero-eq x) ∙ h) refl
+
+pub or-zero : (x y : Float) (b : Bool) → eq x (ofBits binary64 0) ≡ false → eq y (ofBits binary64 0) ≡ b → (eq x +0 || eq y +0) ≡ b
+or-zero x y b h k = rw (sym (zero-eq x) ∙ h) (sym (zero-eq y) ∙ k)
+
+pub not-true : (b : Bool) → not b ≡ true → b ≡ false
+not-true true h = absurd (false≢true h)
+not-true false h = refl
+
+pub not-false : (b : Bool) → not b ≡ false → b ≡ true
+not-false true h = refl
+not-false false h = absurd (true≢false h)

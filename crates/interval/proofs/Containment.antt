@@ -1,23 +1,27 @@
 -- What the operations on intervals and on upper ends hold: each by its law of rounding.
-use mathlib.Core.Path.{_≡_, refl}
-use mathlib.Core.Bool.{Bool, true, false, cond, _&&_, false≢true}
+use mathlib.Core.Path.{_≡_, refl, ap, sym, _∙_}
+use mathlib.Core.Bool.{Bool, true, false, cond, _&&_, false≢true, _||_}
 use Prim.Native.Nat.{ℕ, zero, suc, _+_, _*_, _≤_}
 use native.Mathlib.Omega.{arith}
+use lib.IntN.{pos}
 use lib.Dec.{T, eqb}
-use lib.Ieee.{Float, nan, inf, fin, binary64, fits, mul, unlike, neg, lt, le}
+use lib.Ieee.{Float, nan, inf, fin, binary64, fits, mul, unlike, neg, lt, le, eq, round}
 use lib.Ieee.Fits.{add-fits, mul-fits, div-fits, neg-fits, inf-fits, nan-fits, cond-fits}
-use Rattle.numbers.specs.Numbers.{+0, _⊕_, _⊗_, _⊘_}
+use Rattle.numbers.specs.Numbers.{+0, -1, one, _⊕_, _⊗_, _⊘_}
 use Rattle.numbers.specs.Root.{sqrtOf}
 use Rattle.numbers.proofs.Correct.{correctly-rounded}
-use Rattle.exact.specs.Exact.{ℚ, _≤ℚ_, whole, negℚ, absℚ, _+ℚ_, _-ℚ_, _*ℚ_, Σℚ, value, signed, Finite}
+use Rattle.exact.specs.Exact.{ℚ, _≤ℚ_, whole, negℚ, absℚ, _+ℚ_, _-ℚ_, _*ℚ_, Σℚ, value, signed, Finite, _≈ℚ_}
+use Rattle.exact.proofs.Laws as laws
 use Rattle.exact.proofs.Laws.{le-refl}
+use Rattle.exact.proofs.Values.{and-left, and-right, equal-is-same, zero-value, neg-is-neg}
 use Rattle.interval.specs.Next.{nextUp, nextDown}
-use Rattle.interval.specs.Held.{AtMost, Held, Holds}
-use Rattle.interval.specs.Intervals.{larger, smaller, divUp, rootUp, line, point, plus, minus, times, magnitude, product, sumWithin, addUp, mulUp, sumUp}
+use Rattle.interval.specs.Held.{AtMost, AtLeast, Held, Holds}
+use Rattle.interval.specs.Intervals.{larger, smaller, divUp, rootUp, line, point, plus, minus, times, magnitude, product, sumWithin, addUp, mulUp, sumUp, areZero, addDown, isFinite}
 use Rattle.interval.specs.Claims.{DivUp, RootUp}
 use Rattle.interval.specs.declared.Interval.{Interval}
 use Rattle.interval.proofs.Ends.{Larger, Smaller}
 use Rattle.interval.proofs.Signs.{at-least-neg, at-most-neg}
+use Rattle.interval.proofs.Rounding.{neg-finite}
 use Rattle.interval.proofs.Bounds as bounds
 use Rattle.interval.proofs.Bounds.{at-most-through, at-least-through}
 use Rattle.interval.proofs.Operations.{rounded-mul, add-up-bounds, add-down-bounds, mul-up-bounds, mul-down-bounds}
@@ -100,12 +104,79 @@ point-holds x = go (lt x (inf false)) refl (lt (inf true) x) refl
     go true h false k = line-holds (value x)
     go false h b k = line-holds (value x)
 
+-- ---- sums and products that are not rounded
+pub finite-at-most : (q : ℚ) (x : Float) → Finite x → AtMost q x → q ≤ℚ value x
+finite-at-most q nan f h = absurd f
+finite-at-most q (inf s) f h = absurd f
+finite-at-most q (fin s m e) f h = h
+
+finite-at-least : (q : ℚ) (x : Float) → Finite x → AtLeast q x → value x ≤ℚ q
+finite-at-least q nan f h = absurd f
+finite-at-least q (inf s) f h = absurd f
+finite-at-least q (fin s m e) f h = h
+
+zero-times-is : (t : ℚ) → whole 0 ≈ℚ whole 0 *ℚ t
+unfolding _≈ℚ_ _*ℚ_
+zero-times-is t = omega arith
+
+minus-times-is : (t : ℚ) → negℚ t ≈ℚ negℚ (whole 1) *ℚ t
+unfolding _≈ℚ_ _*ℚ_ negℚ
+minus-times-is t = omega arith
+
+one-is-1 : one ≡ fin false 1 (pos 0)
+unfolding round
+one-is-1 = refl
+
+value-1 : value (fin false 1 (pos 0)) ≈ℚ whole 1
+unfolding _≈ℚ_ value signed
+value-1 = refl
+
+pub one-value : (x : Float) → eq x one ≡ true → value x ≈ℚ whole 1
+one-value x h = laws.same-trans (value x) (value (fin false 1 (pos 0))) (whole 1) (equal-is-same x (fin false 1 (pos 0)) tt (ap (eq x) (sym one-is-1) ∙ h) .1) value-1
+
+minus-1 : value -1 ≈ℚ negℚ (whole 1)
+unfolding _≈ℚ_ value signed negℚ
+minus-1 = refl
+
+pub minus-value : (x : Float) → eq x -1 ≡ true → value x ≈ℚ negℚ (whole 1)
+minus-value x h = laws.same-trans (value x) (value -1) (negℚ (whole 1)) (equal-is-same x -1 tt h .1) minus-1
+
+factors : (x y : Float) → isFinite (x ⊗ y) ≡ true → Finite x × Finite y
+factors x y h = finite-factors x y (finite (x ⊗ y) (and-left (lt (x ⊗ y) (inf false)) (lt (inf true) (x ⊗ y)) h) (and-right (lt (x ⊗ y) (inf false)) (lt (inf true) (x ⊗ y)) h))
+
+held-same : (lo hi : Float) (q r : ℚ) → q ≈ℚ r → Held lo hi q → Held lo hi r
+held-same lo hi q r e h = record {
+  low = at-least-through r q lo (laws.same-le q r e) (h .low);
+  high = at-most-through r q hi (laws.same-le r q (laws.same-sym q r e)) (h .high);
+}
+
+-- between two zeros there is only zero
+only-zero : (lo hi : Float) (q : ℚ) → areZero lo hi ≡ true → Held lo hi q → q ≈ℚ whole 0
+only-zero lo hi q z h =
+    let a = equal-is-same lo +0 tt (and-left (eq lo +0) (eq hi +0) z) in
+    let b = equal-is-same hi +0 tt (and-right (eq lo +0) (eq hi +0) z) in
+    laws.le-same q (whole 0)
+    (laws.le-trans q (value hi) (whole 0) (finite-at-most q hi (b .0) (h .high)) (laws.same-le (value hi) (whole 0) (laws.same-trans (value hi) (value +0) (whole 0) (b .1) zero-value)))
+    (laws.le-trans (whole 0) (value lo) q (laws.same-le (whole 0) (value lo) (laws.same-sym (value lo) (whole 0) (laws.same-trans (value lo) (value +0) (whole 0) (a .1) zero-value))) (finite-at-least q lo (a .0) (h .low)))
+
+pub nothing-added : (q t : ℚ) → q ≈ℚ whole 0 → t ≈ℚ q +ℚ t
+nothing-added q t h =
+    laws.same-trans t (t +ℚ whole 0) (q +ℚ t) (laws.same-sym (t +ℚ whole 0) t (laws.add-zero t))
+    (laws.same-trans (t +ℚ whole 0) (whole 0 +ℚ t) (q +ℚ t) (laws.add-comm t (whole 0)) (laws.add-same (whole 0) q t (laws.same-sym q (whole 0) h)))
+
 pub plus-holds : (a b : Interval) (q t : ℚ) → Holds a q → Holds b t → Holds (plus a b) (q +ℚ t)
 unfolding plus
-plus-holds a b q t h k = record {
-  low = add-down-bounds (a .lo) (b .lo) (nextDown (a .lo ⊕ b .lo)) (down-is (a .lo ⊕ b .lo) (add-fits binary64 (a .lo) (b .lo))) q t (h .low) (k .low);
-  high = adds (a .hi) (b .hi) q t (h .high) (k .high);
-}
+plus-holds a b q t h k = go (areZero (a .lo) (a .hi)) refl (areZero (b .lo) (b .hi)) refl
+  where
+    go : (u : Bool) → areZero (a .lo) (a .hi) ≡ u → (v : Bool) → areZero (b .lo) (b .hi) ≡ v
+        → Holds (cond u b (cond v a (record { lo = addDown (a .lo) (b .lo); hi = addUp (a .hi) (b .hi) }))) (q +ℚ t)
+    go true e v f = held-same (b .lo) (b .hi) t (q +ℚ t) (nothing-added q t (only-zero (a .lo) (a .hi) q e h)) k
+    go false e true f = held-same (a .lo) (a .hi) q (q +ℚ t)
+        (laws.same-trans q (t +ℚ q) (q +ℚ t) (nothing-added t q (only-zero (b .lo) (b .hi) t f k)) (laws.add-comm t q)) h
+    go false e false f = record {
+      low = add-down-bounds (a .lo) (b .lo) (nextDown (a .lo ⊕ b .lo)) (down-is (a .lo ⊕ b .lo) (add-fits binary64 (a .lo) (b .lo))) q t (h .low) (k .low);
+      high = adds (a .hi) (b .hi) q t (h .high) (k .high);
+    }
 
 pub minus-holds : (a b : Interval) (q t : ℚ) → Holds a q → Holds b t → Holds (minus a b) (q -ℚ t)
 unfolding minus
@@ -140,21 +211,53 @@ times-holds a b q t h k =
           (up-is (larger (larger A B) (larger C D)) (larger-fits (larger A B) (larger C D) (larger-fits A B fA fB) (larger-fits C D fC fD))) q t h k;
     }
 
+pub times-nothing : (q t : ℚ) → q ≈ℚ whole 0 → whole 0 ≈ℚ q *ℚ t
+times-nothing q t h = laws.same-trans (whole 0) (whole 0 *ℚ t) (q *ℚ t) (none t) (laws.mul-same (whole 0) q t (laws.same-sym q (whole 0) h))
+  where
+    none : (t : ℚ) → whole 0 ≈ℚ whole 0 *ℚ t
+    none t = zero-times-is t
+
+pub times-one : (q t : ℚ) → q ≈ℚ whole 1 → t ≈ℚ q *ℚ t
+times-one q t h =
+    laws.same-trans t (t *ℚ whole 1) (q *ℚ t) (laws.same-sym (t *ℚ whole 1) t (laws.mul-one t))
+    (laws.same-trans (t *ℚ whole 1) (whole 1 *ℚ t) (q *ℚ t) (laws.mul-comm t (whole 1)) (laws.mul-same (whole 1) q t (laws.same-sym q (whole 1) h)))
+
+pub times-minus : (q t : ℚ) → q ≈ℚ negℚ (whole 1) → negℚ t ≈ℚ q *ℚ t
+times-minus q t h = laws.same-trans (negℚ t) (negℚ (whole 1) *ℚ t) (q *ℚ t) (minus-times-is t) (laws.mul-same (negℚ (whole 1)) q t (laws.same-sym q (negℚ (whole 1)) h))
+
+zero-holds : (q : ℚ) → whole 0 ≈ℚ q → Held +0 +0 q
+zero-holds q h = held-same +0 +0 (value +0) q (laws.same-trans (value +0) (whole 0) q zero-value h) (point-held +0 tt)
+
 pub product-holds : (x y : Float) → Holds (product x y) (value x *ℚ value y)
 unfolding product
-product-holds x y = go (lt (x ⊗ y) (inf false)) refl (lt (inf true) (x ⊗ y)) refl
+product-holds x y = go (isFinite (x ⊗ y)) refl (eq x +0) refl (eq y +0) refl (eq x one) refl (eq x -1) refl
   where
-    go : (a : Bool) → lt (x ⊗ y) (inf false) ≡ a → (b : Bool) → lt (inf true) (x ⊗ y) ≡ b
-        → Holds (cond (a && b) (record { lo = nextDown (x ⊗ y); hi = nextUp (x ⊗ y) }) line) (value x *ℚ value y)
-    go true h true k =
-        let f = finite-factors x y (finite (x ⊗ y) h k) in
+    Q : ℚ
+    Q = value x *ℚ value y
+
+    moved : isFinite (x ⊗ y) ≡ true → Held (nextDown (x ⊗ y)) (nextUp (x ⊗ y)) (value x *ℚ value y)
+    moved h =
+        let f = factors x y h in
         let r = rounded-mul x y (f .0) (f .1) in
         record {
           low = bounds.lift-down (value x *ℚ value y) (x ⊗ y) (nextDown (x ⊗ y)) r (down-is (x ⊗ y) (mul-fits binary64 x y));
           high = bounds.lift-up (value x *ℚ value y) (x ⊗ y) (nextUp (x ⊗ y)) r (up-is (x ⊗ y) (mul-fits binary64 x y));
         }
-    go true h false k = line-holds (value x *ℚ value y)
-    go false h b k = line-holds (value x *ℚ value y)
+
+    go : (a : Bool) → isFinite (x ⊗ y) ≡ a → (b : Bool) → eq x +0 ≡ b → (c : Bool) → eq y +0 ≡ c → (d : Bool) → eq x one ≡ d → (e : Bool) → eq x -1 ≡ e
+        → Holds (cond a (cond (b || c) (record { lo = +0; hi = +0 }) (cond d (record { lo = y; hi = y }) (cond e (record { lo = neg y; hi = neg y }) (record { lo = nextDown (x ⊗ y); hi = nextUp (x ⊗ y) })))) line) (value x *ℚ value y)
+    go false h b i c j d k e l = line-holds (value x *ℚ value y)
+    go true h true i c j d k e l = zero-holds (value x *ℚ value y) (times-nothing (value x) (value y) (laws.same-trans (value x) (value +0) (whole 0) (equal-is-same x +0 tt i .1) zero-value))
+    go true h false i true j d k e l =
+        zero-holds (value x *ℚ value y)
+        (laws.same-trans (whole 0) (value y *ℚ value x) (value x *ℚ value y) (times-nothing (value y) (value x) (laws.same-trans (value y) (value +0) (whole 0) (equal-is-same y +0 tt j .1) zero-value)) (laws.mul-comm (value y) (value x)))
+    go true h false i false j true k e l =
+        held-same y y (value y) (value x *ℚ value y) (times-one (value x) (value y) (one-value x k)) (point-held y (factors x y h .1))
+    go true h false i false j false k true l =
+        held-same (neg y) (neg y) (value (neg y)) (value x *ℚ value y)
+        (laws.same-trans (value (neg y)) (negℚ (value y)) (value x *ℚ value y) (neg-is-neg y (factors x y h .1)) (times-minus (value x) (value y) (minus-value x l)))
+        (point-held (neg y) (neg-finite y (factors x y h .1)))
+    go true h false i false j false k false l = moved h
 
 pub magnitude-bounds : (a : Interval) (q : ℚ) → Holds a q → AtMost (absℚ q) (magnitude a)
 magnitude-bounds a q h =
@@ -181,7 +284,7 @@ up-bounds zero f g h = nothing
 up-bounds (suc n) f g h = adds (sumUp n f) (f n) (Σℚ n g) (g n) (up-bounds n f g h) (h n)
 
 -- ---- roots
-root-fits : (r : Float) → T (fits binary64 r) → T (fits binary64 (sqrtOf r))
+pub root-fits : (r : Float) → T (fits binary64 r) → T (fits binary64 (sqrtOf r))
 unfolding sqrtOf
 root-fits nan f = nan-fits binary64
 root-fits (inf false) f = inf-fits binary64 false

@@ -1,27 +1,28 @@
 -- How tight an interval is where the exact result is an f64: its ends are that f64's neighbours.
 use mathlib.Core.Path.{_≡_, refl, sym, ap, ap₂, _∙_, subst}
-use mathlib.Core.Bool.{Bool, true, false, not, false≢true}
+use mathlib.Core.Bool.{Bool, true, false, not, false≢true, _||_, cond, _&&_}
 use Prim.Native.Nat.{ℕ, zero, suc, _+_, _*_, _^_, _≤_, _<_}
 use native.Mathlib.Nat.{le-antisymm, le-of-lt, le-of-eq, mul-pos, zero-lt-suc, mul-le-mul-left, mul-le-mul-right, le-of-mul-le-mul-right}
 use native.Mathlib.Omega.{arith}
 use lib.IntN.{ℤ}
 use lib.Dec.{T, ltb, leb, ltb→lt, leb→le, nleb→lt}
 use lib.Pow.{pow-pos}
-use lib.Ieee.{Float, nan, inf, fin, binary64, fits, up, down, neg, lt}
+use lib.Ieee.{Float, nan, inf, fin, binary64, fits, up, down, neg, lt, eq}
 use lib.Ieee.Fits.{add-fits, mul-fits, div-fits, up-pos, down-pos}
-use Rattle.numbers.specs.Numbers.{+0, _⊕_, _⊗_, _⊘_}
+use Rattle.numbers.specs.Numbers.{+0, _⊕_, _⊗_, _⊘_, -1, one}
 use Rattle.numbers.specs.Root.{sqrtOf}
 use Rattle.numbers.specs.Rounded.{IsUnits}
 use Rattle.numbers.proofs.Correct.{correctly-rounded, all-in-units}
-use Rattle.numbers.proofs.Order.{lt-irrefl}
+use Rattle.numbers.proofs.Order.{lt-irrefl, lt-asym}
 use Rattle.exact.specs.Exact.{ℚ, _≤ℚ_, _≈ℚ_, over, whole, negℚ, _+ℚ_, _-ℚ_, _*ℚ_, value, signed, Finite}
 use Rattle.exact.proofs.Laws as laws
-use Rattle.exact.proofs.Values.{less-is-less, at-most-is-at-most, units-are-value, neg-is-neg, lt-left, lt-right, told, asked, and-left, and-right}
+use Rattle.exact.proofs.Values.{less-is-less, at-most-is-at-most, units-are-value, neg-is-neg, lt-left, lt-right, told, asked, and-left, and-right, equal-is-same, zero-value}
 use Rattle.interval.specs.Next.{nextUp, nextDown}
-use Rattle.interval.specs.Intervals.{isFinite, isPositive, larger, smaller, addUp, mulUp, divUp, rootUp, point, plus, minus, times, product}
+use Rattle.interval.specs.Intervals.{isFinite, isPositive, larger, smaller, addUp, mulUp, divUp, rootUp, point, plus, minus, times, product, areZero}
 use Rattle.interval.specs.Claims.{TightAbove, TightBelow, Tight}
 use Rattle.interval.proofs.Signs.{neg-neg}
 use Rattle.interval.proofs.Rounding.{Rounded, neg-finite}
+use Rattle.interval.proofs.Containment.{nothing-added, times-nothing, times-one, times-minus, one-value, minus-value}
 use Rattle.interval.proofs.Operations.{rounded-add, rounded-mul}
 use Rattle.interval.proofs.Upper.{quotient, rounded-div, no-square, no-negative}
 use Rattle.interval.proofs.Neighbours.{least-above, greatest-below}
@@ -82,9 +83,31 @@ point-is nan f = absurd f
 point-is (inf s) f = absurd f
 point-is (fin s m e) f = refl
 
+-- the float itself, for both ends
+itself : (w y : Float) → Finite w → Finite y → value w ≈ℚ value y → Tight w (record { lo = y; hi = y })
+itself w y f g e = record {
+  above = λ z j l m. no-both y z (lt-same-left w y z f g e l) m;
+  below = λ z j l m. no-both y z l (lt-same-right w y z f g e m);
+}
+  where
+    no-both : (y z : Float) → T (lt y z) → T (lt z y) → ⊥
+    no-both y z l m = subst T (lt-asym y z l) m
+
+zero-left : (x y w : ℚ) → w ≈ℚ x +ℚ y → x ≈ℚ whole 0 → w ≈ℚ y
+zero-left x y w h k = laws.same-trans w (x +ℚ y) y h (laws.same-sym y (x +ℚ y) (nothing-added x y k))
+
+is-zero : (x : Float) → (eq x +0 && eq x +0) ≡ true → value x ≈ℚ whole 0
+is-zero x h = laws.same-trans (value x) (value +0) (whole 0) (equal-is-same x +0 tt (and-left (eq x +0) (eq x +0) h) .1) zero-value
+
 pub sum : (x y w : Float) → Finite x → Finite y → T (fits binary64 w) → Finite w → value w ≈ℚ value x +ℚ value y → Tight w (plus (point x) (point y))
 unfolding plus
-sum x y w f g h i k = rw (point-is x f, point-is y g) (near (value x +ℚ value y) (x ⊕ y) w (rounded-add x y f g) (add-fits binary64 x y) h i k)
+sum x y w f g h i k = rw (point-is x f, point-is y g) (go (areZero x x) refl (areZero y y) refl)
+  where
+    go : (a : Bool) → areZero x x ≡ a → (b : Bool) → areZero y y ≡ b
+        → Tight w (cond a (record { lo = y; hi = y }) (cond b (record { lo = x; hi = x }) (record { lo = nextDown (x ⊕ y); hi = nextUp (x ⊕ y) })))
+    go true e b d = itself w y i g (zero-left (value x) (value y) (value w) k (is-zero x e))
+    go false e true d = itself w x i f (zero-left (value y) (value x) (value w) (laws.same-trans (value w) (value x +ℚ value y) (value y +ℚ value x) k (laws.add-comm (value x) (value y))) (is-zero y d))
+    go false e false d = near (value x +ℚ value y) (x ⊕ y) w (rounded-add x y f g) (add-fits binary64 x y) h i k
 
 pub sum-up : (x y w : Float) → Finite x → Finite y → T (fits binary64 w) → Finite w → value w ≈ℚ value x +ℚ value y → TightAbove w (addUp x y)
 sum-up x y w f g h i k = above-near (value x +ℚ value y) (x ⊕ y) w (rounded-add x y f g) (add-fits binary64 x y) h i k
@@ -112,7 +135,26 @@ pub of-product : (x y w : Float) → Finite x → Finite y → T (fits binary64 
 unfolding product
 of-product x y w f g h i k =
     let r = rounded-mul x y f g in
-    rw (finite-is (x ⊗ y) (r .exact w h i k .0)) (near (value x *ℚ value y) (x ⊗ y) w r (mul-fits binary64 x y) h i k)
+    rw (finite-is (x ⊗ y) (r .exact w h i k .0)) (go (eq x +0) refl (eq y +0) refl (eq x one) refl (eq x -1) refl)
+  where
+    nothing' : whole 0 ≈ℚ value x *ℚ value y → value w ≈ℚ value +0
+    nothing' e = laws.same-trans (value w) (value x *ℚ value y) (value +0) k (laws.same-trans (value x *ℚ value y) (whole 0) (value +0) (laws.same-sym (whole 0) (value x *ℚ value y) e) (laws.same-sym (value +0) (whole 0) zero-value))
+
+    zero-of : (z : Float) → eq z +0 ≡ true → value z ≈ℚ whole 0
+    zero-of z e = laws.same-trans (value z) (value +0) (whole 0) (equal-is-same z +0 tt e .1) zero-value
+
+    go : (b : Bool) → eq x +0 ≡ b → (c : Bool) → eq y +0 ≡ c → (d : Bool) → eq x one ≡ d → (e : Bool) → eq x -1 ≡ e
+        → Tight w (cond (b || c) (record { lo = +0; hi = +0 }) (cond d (record { lo = y; hi = y }) (cond e (record { lo = neg y; hi = neg y }) (record { lo = nextDown (x ⊗ y); hi = nextUp (x ⊗ y) }))))
+    go true p c q d s e t = itself w +0 i tt (nothing' (times-nothing (value x) (value y) (zero-of x p)))
+    go false p true q d s e t =
+        itself w +0 i tt (nothing' (laws.same-trans (whole 0) (value y *ℚ value x) (value x *ℚ value y) (times-nothing (value y) (value x) (zero-of y q)) (laws.mul-comm (value y) (value x))))
+    go false p false q true s e t =
+        itself w y i g (laws.same-trans (value w) (value x *ℚ value y) (value y) k (laws.same-sym (value y) (value x *ℚ value y) (times-one (value x) (value y) (one-value x s))))
+    go false p false q false s true t =
+        itself w (neg y) i (neg-finite y g)
+        (laws.same-trans (value w) (value x *ℚ value y) (value (neg y)) k
+        (laws.same-sym (value (neg y)) (value x *ℚ value y) (laws.same-trans (value (neg y)) (negℚ (value y)) (value x *ℚ value y) (neg-is-neg y g) (times-minus (value x) (value y) (minus-value x t)))))
+    go false p false q false s false t = near (value x *ℚ value y) (x ⊗ y) w (rounded-mul x y f g) (mul-fits binary64 x y) h i k
 
 pub product-up : (x y w : Float) → Finite x → Finite y → T (fits binary64 w) → Finite w → value w ≈ℚ value x *ℚ value y → TightAbove w (mulUp x y)
 product-up x y w f g h i k = above-near (value x *ℚ value y) (x ⊗ y) w (rounded-mul x y f g) (mul-fits binary64 x y) h i k

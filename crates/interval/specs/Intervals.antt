@@ -1,9 +1,9 @@
 -- Interval arithmetic: each end is rounded to the nearest, and then moved one float outward. Definitions only.
 -- Nothing is asked of any number. `Claims.antt` says what an interval holds, and how tight it is.
 use Prim.Native.Nat.{ℕ, zero, suc}
-use mathlib.Core.Bool.{Bool, true, false, cond, _&&_}
-use lib.Ieee.{Float, inf, lt, le, neg}
-use Rattle.numbers.specs.Numbers.{+0, _⊕_, _⊗_, _⊘_}
+use mathlib.Core.Bool.{Bool, true, false, cond, _&&_, _||_}
+use lib.Ieee.{Float, inf, lt, le, eq, neg}
+use Rattle.numbers.specs.Numbers.{+0, -1, one, _⊕_, _⊗_, _⊘_}
 use Rattle.numbers.specs.Root.{sqrtOf}
 use Rattle.interval.specs.Next.{nextUp, nextDown}
 use Rattle.interval.specs.declared.Interval.{Interval}
@@ -16,6 +16,9 @@ isFinite x = lt x (inf false) && lt (inf true) x
 -- above zero, and finite
 abbrev pub isPositive : Float → Bool
 isPositive x = lt +0 x && lt x (inf false)
+
+abbrev pub areZero : Float → Float → Bool
+areZero x y = eq x +0 && eq y +0
 
 -- ---- ends
 
@@ -55,8 +58,9 @@ line = record { lo = inf true; hi = inf false }
 unfoldable pub point : Float → Interval
 point x = cond (isFinite x) (record { lo = x; hi = x }) line
 
+-- what is added to nothing is not rounded, and stays as it is
 unfoldable pub plus : Interval → Interval → Interval
-plus a b = record { lo = addDown (a .lo) (b .lo); hi = addUp (a .hi) (b .hi) }
+plus a b = cond (areZero (a .lo) (a .hi)) b (cond (areZero (b .lo) (b .hi)) a (record { lo = addDown (a .lo) (b .lo); hi = addUp (a .hi) (b .hi) }))
 
 unfoldable pub minus : Interval → Interval → Interval
 minus a b = record { lo = addDown (a .lo) (neg (b .hi)); hi = addUp (a .hi) (neg (b .lo)) }
@@ -72,9 +76,10 @@ times a b = record {
 abbrev pub magnitude : Interval → Float
 magnitude a = larger (neg (a .lo)) (a .hi)
 
--- the product of two floats; all numbers where it is not finite
+-- the product of two floats; all numbers where it is not finite. By 0, 1 and -1, the coefficients of most balances, it is not rounded, and stays as it is.
 unfoldable pub product : Float → Float → Interval
-product x y = cond (isFinite (x ⊗ y)) (record { lo = nextDown (x ⊗ y); hi = nextUp (x ⊗ y) }) line
+product x y = cond (isFinite (x ⊗ y))
+    (cond (eq x +0 || eq y +0) (record { lo = +0; hi = +0 }) (cond (eq x one) (record { lo = y; hi = y }) (cond (eq x -1) (record { lo = neg y; hi = neg y }) (record { lo = nextDown (x ⊗ y); hi = nextUp (x ⊗ y) })))) line
 
 -- ---- sums of n, from the first on
 

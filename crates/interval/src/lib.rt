@@ -105,6 +105,12 @@ pub fn root_up(x: f64) -> f64
     next_up(numbers::sqrt(x))
 }
 
+fn are_zero(x: f64, y: f64) -> bool
+    ensures { λ r. ⌜ r ≡ Definition.areZero x y ⌝ }
+{
+    x == 0.0 && y == 0.0
+}
+
 // ---- intervals
 
 impl Interval {
@@ -129,6 +135,12 @@ impl Interval {
     pub fn add(self, other: Interval) -> Interval
         ensures { λ r. ⌜ r ≡ Definition.plus self other ⌝ }
     {
+        if are_zero(self.lo, self.hi) {
+            return other;
+        }
+        if are_zero(other.lo, other.hi) {
+            return self;
+        }
         Interval {
             lo: add_down(self.lo, other.lo),
             hi: add_up(self.hi, other.hi),
@@ -168,13 +180,25 @@ impl Interval {
         ensures { λ r. ⌜ r ≡ Definition.product x y ⌝ }
     {
         let p = x * y;
-        if is_finite(p) {
-            return Interval {
-                lo: next_down(p),
-                hi: next_up(p),
-            };
+        if !is_finite(p) {
+            return Interval::line();
         }
-        Interval::line()
+        if x == 0.0 {
+            return Interval { lo: 0.0, hi: 0.0 };
+        }
+        if y == 0.0 {
+            return Interval { lo: 0.0, hi: 0.0 };
+        }
+        if x == 1.0 {
+            return Interval { lo: y, hi: y };
+        }
+        if x == -1.0 {
+            return Interval { lo: -y, hi: -y };
+        }
+        Interval {
+            lo: next_down(p),
+            hi: next_up(p),
+        }
     }
 }
 

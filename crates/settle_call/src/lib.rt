@@ -55,7 +55,7 @@ fn give(
 }
 
 // The call where no test refuses.
-fn settle_all(
+pub fn settle_all(
     values: &[f64],
     spreads: &[f64],
     balances: &[f64],

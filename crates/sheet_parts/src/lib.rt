@@ -28,7 +28,7 @@ pub enum Item {
 }
 
 // The length of a text without the blanks at its end.
-fn trim(text: &[u8]) -> usize
+pub fn trim(text: &[u8]) -> usize
     ensures { λ r. ⌜ (take r (now (text .entry)) ≡ withoutBlanks (now (text .entry))) × (r ≤ length (now (text .entry))) ⌝ }
 {
     let mut n = text.len();

@@ -33,7 +33,7 @@ fn give(w: &[f64], iw: &[u32], numbers: &mut [f64], groups: &mut [u32], marks: &
 }
 
 // The call where no test refuses.
-fn solve_all(
+pub fn solve_all(
     values: &[f64],
     spreads: &[f64],
     balances: &[f64],

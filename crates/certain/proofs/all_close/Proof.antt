@@ -1,16 +1,16 @@
 use mathlib.Core.Bool.{true}
-use Rattle.certain.specs.Bound.{allBelow, closes}
-use Rattle.certain.proofs.Laws.{all-none, all-more, all-done, all-broken, not-true, not-false, close-is, row-in, row-starts}
-use native.Mathlib.Omega.{arith}
+use mathlib.Core.Path.{_≡_, sym, _∙_}
 use Prim.Native.Nat.{_-_, _≤_}
-use mathlib.Core.Path.{_≡_}
+use native.Mathlib.Omega.{arith}
+use Rattle.certain.specs.Bound.{allBelow, closes}
+use Rattle.certain.proofs.Laws.{all-none, all-more, all-done, all-broken, row-ends}
+use Rattle.interval.proofs.Answers.{not-true, not-false}
 use borrow.Author.Needs.{needs}
 use Rattle.certain.proofs.all_close.Statement.{statement}
 use Rattle.certain.proofs.all_close.Tie as tie
 use Rattle.certain.proofs.all_close.Reads as reads
 use Rattle.certain.proofs.all_close.Lts as lts
-use Rattle.certain.proofs.row_within.Reads as row-within-reads
-use Rattle.interval.proofs.Interval.magnitude.Reads as magnitude-reads
+use Rattle.certain.proofs.closes.Reads as closes-reads
 
 abbrev Inv-loop : tie.InvT-loop
 Inv-loop n m balances x t j₀ j = (j ≤ m) × (allBelow j (λ i. closes n i balances x t) ≡ true)
@@ -21,14 +21,11 @@ abbrev μ-loop : tie.MeasureT-loop
 loop-holds : tie.Need-loop-holds Inv-loop μ-loop
 loop-holds c = (omega arith, all-none _)
 
-row-within-requires : tie.Need-row-within-requires Inv-loop μ-loop
-row-within-requires c κs = (λ i l. row-in i _ _ _ _ l (c .loop-test .taken) (c .before .before .before .before .pre .0), c .before .before .before .before .pre .1, row-starts _ _ _ _ (c .loop-test .taken) (c .before .before .before .before .pre .0))
-
-magnitude-requires : tie.Need-magnitude-requires Inv-loop μ-loop
-magnitude-requires c κs = search needs
+closes-requires : tie.Need-closes-requires Inv-loop μ-loop
+closes-requires c κs = let p = c .before .before .before .before .pre in (row-ends _ _ _ _ (c .loop-test .taken) (p .0), p .1)
 
 returns : tie.Need-returns Inv-loop μ-loop
-returns c = all-broken _ (c .before .before .before .before .loop .j) _ (c .before .before .before .loop-test .taken) (close-is _ _ _ _ _ _ (c .before .before .row-within .result) _ (c .before .magnitude .ensures) (c .before .before .row-within .ensures) (not-true _ (c .if1 .taken)))
+returns c = all-broken _ (c .before .before .before .loop .j) _ (c .before .before .loop-test .taken) (sym (c .before .closes .ensures) ∙ not-true _ (c .if1 .taken))
 
 add-j : tie.Need-add-j Inv-loop μ-loop
 add-j c = omega arith
@@ -37,7 +34,7 @@ loop-less : tie.Need-loop-less Inv-loop μ-loop
 loop-less c = omega arith
 
 loop-again : tie.Need-loop-again Inv-loop μ-loop
-loop-again c = (omega arith, all-more _ _ (c .before .before .before .before .loop .inv .1) (close-is _ _ _ _ _ _ (c .before .before .row-within .result) _ (c .before .magnitude .ensures) (c .before .before .row-within .ensures) (not-false _ (c .if1 .left))))
+loop-again c = (omega arith, all-more _ _ (c .before .before .before .loop .inv .1) (sym (c .before .closes .ensures) ∙ not-false _ (c .if1 .left)))
 
 returns-2 : tie.Need-returns-2 Inv-loop μ-loop
 returns-2 c = let e : c .before .loop .j ≡ c .before .before .before .before .args .m = omega arith in all-done _ _ _ e (c .before .loop .inv .1)
@@ -49,8 +46,7 @@ all-close-spec =
     Inv-loop
     μ-loop
     loop-holds
-    row-within-requires
-    magnitude-requires
+    closes-requires
     returns
     add-j
     loop-less

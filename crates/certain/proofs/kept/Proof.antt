@@ -1,4 +1,5 @@
-use Rattle.certain.proofs.Laws.{kept-first, kept-both, not-true, not-false}
+use Rattle.certain.proofs.Laws.{kept-first, kept-both}
+use Rattle.interval.proofs.Answers.{not-true, not-false}
 use borrow.Author.Needs.{needs}
 use Rattle.certain.proofs.kept.Statement.{statement}
 use Rattle.certain.proofs.kept.Tie as tie

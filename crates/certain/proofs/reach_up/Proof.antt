@@ -1,4 +1,5 @@
-use Rattle.certain.proofs.Laws.{reach-1, reach-2, reach-3, reach-4, reach-5, not-true, not-false}
+use Rattle.certain.proofs.Laws.{reach-1, reach-2, reach-3, reach-4, reach-5}
+use Rattle.interval.proofs.Answers.{not-true, not-false}
 use borrow.Author.Needs.{needs}
 use Rattle.certain.proofs.reach_up.Statement.{statement}
 use Rattle.certain.proofs.reach_up.Tie as tie

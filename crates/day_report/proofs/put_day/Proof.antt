@@ -1,99 +1,72 @@
--- `put_day`: the tolerance, the reconciliation, and what is told of it.
-use mathlib.Core.Path.{_≡_, sym, ap, _∙_}
-use native.Mathlib.Omega.{arith}
-use lib.ListN.{length}
-use lib.Seq.{length-take-le}
-use Rattle.numbers.specs.Numbers.{tab}
-use Rattle.ascii.specs.Text.{ascii}
+use mathlib.Core.Path.{refl, sym, _∙_}
 use Rattle.ascii.proofs.Writing.{as-text}
-use Rattle.day_text.specs.inner.Work.{Tables}
-use Rattle.day_report.proofs.Days.{are-read, tables-told, refusal-told, tolerance-below, tolerance-not}
+use Rattle.day_report.proofs.Whole.{figures-count, signs-count, told-done, told-refused}
+use native.Mathlib.Omega.{arith}
+use borrow.Author.Needs.{needs}
 use Rattle.day_report.proofs.put_day.Statement.{statement}
 use Rattle.day_report.proofs.put_day.Tie as tie
 
-shared-slice-read-if1 : tie.Need-shared-slice-read-if1
-shared-slice-read-if1 c = omega (arith, c .before .before .before .before .before .pre .5)
+figure-room-requires : tie.Need-figure-room-requires
+figure-room-requires c κs = tt
 
-slice-aggregate-put-text : tie.Need-slice-aggregate-put-text
-slice-aggregate-put-text c = omega arith
+sign-room-requires : tie.Need-sign-room-requires
+sign-room-requires c κs = tt
 
-put-text-requires : tie.Need-put-text-requires
-put-text-requires c κs = omega (arith, c .before .before .before .before .before .before .before .before .pre .0)
+slice-aggregate-find : tie.Need-slice-aggregate-find
+slice-aggregate-find c = figures-count _ (c .before .before .before .before .figure-room .ensures)
 
-same-length : tie.Need-same-length
-same-length c = omega arith
+slice-aggregate-find-2 : tie.Need-slice-aggregate-find-2
+slice-aggregate-find-2 c = signs-count _ (c .before .before .before .before .sign-room .ensures)
 
-returns : tie.Need-returns
-unfolding ascii tab
-returns c = let a = c .before .before .before .before .before .before .before .before .before .before .before .args in as-text (tolerance-below (a .n) (a .m) (a .names .now) (a .readings .now) (a .numbers .now) (c .before .before .before .before .before .if1 .taken)) (c .before .before .put-text .ensures)
-
-sixteen-requires : tie.Need-sixteen-requires
-sixteen-requires c κs = tt
-
-unmarked-requires : tie.Need-unmarked-requires
-unmarked-requires c κs = tt
-
-array-borrow-prefix-x : tie.Need-array-borrow-prefix-x
-array-borrow-prefix-x c = omega (arith, c .before .before .before .before .before .before .before .before .pre .1, c .before .sixteen .ensures)
-
-slice-aggregate-xs : tie.Need-slice-aggregate-xs
-slice-aggregate-xs c = let s = c .before .before .before .before .before .before .before .before .before in sym (length-take-le (s .args .n) _ (omega (arith, s .pre .1, c .before .before .sixteen .ensures)))
-
-array-borrow-prefix-marks : tie.Need-array-borrow-prefix-marks
-array-borrow-prefix-marks c = omega (arith, c .before .before .before .before .before .before .before .before .before .pre .1, c .before .unmarked .ensures)
-
-slice-aggregate-ks : tie.Need-slice-aggregate-ks
-slice-aggregate-ks c = let s = c .before .before .before .before .before .before .before .before .before .before in sym (length-take-le (s .args .n) _ (omega (arith, s .pre .1, c .before .before .unmarked .ensures)))
-
-solve-requires : tie.Need-solve-requires
-solve-requires c κs =
-    let s = c .before .before .before .before .before .before .before .before .before .before .before .before in
-    (s .pre .1, s .pre .2, s .pre .4, s .pre .5, length-take-le (s .args .n) _ (omega (arith, s .pre .1, c .before .before .before .before .before .sixteen .ensures)), length-take-le (s .args .n) _ (omega (arith, s .pre .1, c .before .before .before .before .unmarked .ensures)))
+find-requires : tie.Need-find-requires
+find-requires c κs = let p = c .before .before .before .before .before .before .before .before .pre in (record { n16 = p .1; m16 = p .2; q16 = p .3 }, record { lz = omega arith; lf = omega arith }, record { bf = c .before .before .before .before .before .figure-room .ensures; bs = c .before .before .before .before .sign-room .ensures })
 
 enum-known-why : tie.Need-enum-known-why
-enum-known-why c = omega arith
+enum-known-why c = search needs
 
 put-refusal-requires : tie.Need-put-refusal-requires
-put-refusal-requires c κs = (c .before .before .before .before .before .before .before .before .before .before .before .before .before .before .before .before .before .before .before .before .before .before .before .pre .0, c .before .before .before .before .before .before .before .before .before .before .before .before .before .before .before .before .before .before .before .before .before .before .before .pre .3)
+put-refusal-requires c κs = (c .before .before .before .before .before .before .before .before .before .before .before .before .before .before .before .before .pre .0, omega arith)
 
 enum-told : tie.Need-enum-told
-enum-told c = omega arith
+enum-told c = search needs
 
-put-tables-requires : tie.Need-put-tables-requires
-put-tables-requires c κs =
-    let s = c .before .before .before .before .before .before .before .before .before .before .before .before .before .before .before .before .before .before .before .before .before .before in
-    let a = s .args in
-    let k = c .before .before .before .before .before .before .before .before .before .solve in
-    let r = are-read (a .n) (a .m) (a .readings .now) (a .numbers .now) (s .pre .1) (s .pre .2) (s .pre .4) (s .pre .5) (k .result) (c .before .before .before .enum-told .given .1) (k .ensures .the-outcome) in
-    let lx = length-take-le (a .n) (c .before .before .before .before .before .before .before .before .before .before .before .before .before .before .before .sixteen .result) (omega (arith, s .pre .1, c .before .before .before .before .before .before .before .before .before .before .before .before .before .before .before .sixteen .ensures)) in
-    let lk = length-take-le (a .n) (c .before .before .before .before .before .before .before .before .before .before .before .before .before .before .unmarked .result) (omega (arith, s .pre .1, c .before .before .before .before .before .before .before .before .before .before .before .before .before .before .unmarked .ensures)) in (
-      s .pre .0,
-      record { meters = s .pre .1; balances = s .pre .2; ln = s .pre .3; lr = s .pre .4; lf = s .pre .5; read = r },
-      k .kept .1 .1 .1 .1 .0 ∙ lx,
-      k .kept .1 .1 .1 .1 .1 .0 ∙ lk,
-    )
+slice-aggregate-put-report : tie.Need-slice-aggregate-put-report
+slice-aggregate-put-report c = figures-count _ (c .before .before .before .before .before .before .before .before .before .before .before .before .before .before .before .figure-room .ensures) ∙ sym (c .before .before .before .before .before .before .before .before .before .find .kept .1 .1 .0)
+
+slice-aggregate-put-report-2 : tie.Need-slice-aggregate-put-report-2
+slice-aggregate-put-report-2 c = signs-count _ (c .before .before .before .before .before .before .before .before .before .before .before .before .before .before .before .sign-room .ensures) ∙ sym (c .before .before .before .before .before .before .before .before .before .before .find .kept .1 .1 .1 .0)
+
+put-report-requires : tie.Need-put-report-requires
+put-report-requires c κs = let p = c .before .before .before .before .before .before .before .before .before .before .before .before .before .before .before .before .before .before .before .pre in ((p .0, p .1, p .2, p .3, p .4), (record { lt = omega arith; lw = omega arith; ln = omega arith; lf = c .before .before .before .before .before .before .before .before .before .before .find .kept .1 .1 .0 ∙ sym (figures-count _ (c .before .before .before .before .before .before .before .before .before .before .before .before .before .before .before .before .figure-room .ensures)); ls = c .before .before .before .before .before .before .before .before .before .before .find .kept .1 .1 .1 .0 ∙ sym (signs-count _ (c .before .before .before .before .before .before .before .before .before .before .before .before .before .before .before .sign-room .ensures)) }, p .5))
+
+same-length : tie.Need-same-length
+same-length c = search needs
+
+returns : tie.Need-returns
+returns c = let a = c .before .before .before .before .before .before .before .before .before .before .before .before .before .before .before .before .before .before .before .args in let k = c .before .before .before .before .before .before .before .before .before .before .find in as-text (told-refused (a .n) (a .m) (a .q) (a .d) (a .texts .now) (a .wholes .now) (a .numbers .now) (a .sheet .now) _ _ _ _ _ refl (k .ensures) (c .before .before .before .before .before .before .why .given .1)) (c .before .before .put-refusal .ensures)
 
 same-length-2 : tie.Need-same-length-2
-same-length-2 c = omega arith
+same-length-2 c = search needs
 
 returns-2 : tie.Need-returns-2
-returns-2 c =
-    let a = c .before .before .before .before .before .before .before .before .before .before .before .before .before .before .before .before .before .before .before .before .before .before .before .before .before .before .args in
-    let k = c .before .before .before .before .before .before .before .before .before .before .before .before .before .solve in
-    as-text (refusal-told (a .n) (a .m) (a .names .now) (a .readings .now) (a .numbers .now) _ (k .result) _ _ _ _ _ (k .ensures) (c .before .before .before .before .before .before .before .why .given .1) ∙ tolerance-not (a .n) (a .m) (a .names .now) (a .readings .now) (a .numbers .now) (c .before .before .before .before .before .before .before .before .before .before .before .before .before .before .before .before .before .before .before .before .if1 .left))
-    (c .before .before .put-refusal .ensures)
-
-same-length-3 : tie.Need-same-length-3
-same-length-3 c = omega arith
-
-returns-3 : tie.Need-returns-3
-returns-3 c =
-    let a = c .before .before .before .before .before .before .before .before .before .before .before .before .before .before .before .before .before .before .before .before .before .before .before .before .before .before .before .args in
-    let k = c .before .before .before .before .before .before .before .before .before .before .before .before .before .before .solve in
-    as-text (tables-told (a .n) (a .m) (a .names .now) (a .readings .now) (a .numbers .now) _ (k .result) _ _ _ _ (k .ensures) (c .before .before .before .before .before .before .before .before .enum-told .given .1) ∙ tolerance-not (a .n) (a .m) (a .names .now) (a .readings .now) (a .numbers .now) (c .before .before .before .before .before .before .before .before .before .before .before .before .before .before .before .before .before .before .before .before .before .if1 .left))
-    (c .before .before .before .before .put-tables .ensures)
+returns-2 c = let a = c .before .before .before .before .before .before .before .before .before .before .before .before .before .before .before .before .before .before .before .before .before .before .args in let k = c .before .before .before .before .before .before .before .before .before .before .before .before .before .find in as-text (told-done (a .n) (a .m) (a .q) (a .d) (a .texts .now) (a .wholes .now) (a .numbers .now) (a .sheet .now) _ _ _ _ refl (k .ensures) (c .before .before .before .before .before .before .before .before .before .enum-told .given .1)) (c .before .before .put-report .ensures)
 
 pub put-day-spec : {M : Type 1} → statement M
 put-day-spec =
     tie.close
-    (tie.spec shared-slice-read-if1 slice-aggregate-put-text put-text-requires same-length returns sixteen-requires unmarked-requires array-borrow-prefix-x slice-aggregate-xs array-borrow-prefix-marks slice-aggregate-ks solve-requires enum-known-why put-refusal-requires enum-told put-tables-requires same-length-2 returns-2 same-length-3 returns-3)
+    (tie.spec
+    figure-room-requires
+    sign-room-requires
+    slice-aggregate-find
+    slice-aggregate-find-2
+    find-requires
+    enum-known-why
+    put-refusal-requires
+    enum-told
+    slice-aggregate-put-report
+    slice-aggregate-put-report-2
+    put-report-requires
+    same-length
+    returns
+    same-length-2
+    returns-2)

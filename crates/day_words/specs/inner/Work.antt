@@ -1,7 +1,6 @@
 -- Where a word stands in a line. Definitions only.
 use mathlib.Core.Path.{_≡_}
-use mathlib.Core.Bool.{Bool, true, false}
-use mathlib.Core.List.{List, [], _∷_}
+use mathlib.Core.List.{List}
 use Prim.Native.Nat.{ℕ, _-_, _≤_}
 use lib.ListN.{length, take, drop}
 use Rattle.day_words.specs.declared.Word.{Word}
@@ -13,7 +12,3 @@ pub record IsWord (line : List ℕ) (from : ℕ) (w : Word) : Type 0 where
   pub high : w .end ≤ length line
   pub text : take (w .end - w .start) (drop (w .start) line) ≡ word (drop from line)
   pub left : drop (w .end) line ≡ rest (drop from line)
-
-abbrev pub isNone : List ℕ → Bool
-isNone [] = true
-isNone (c ∷ cs) = false

@@ -193,7 +193,7 @@ fn twice(op: Op, _: u64, draw: &mut Draw) -> Call {
     call
 }
 
-/// The two days of docs/MANUAL.md that close and are wrong (examples/pinned.sheet, examples/twice.sheet).
+/// The two days of docs/ACCURACY.md that close and are wrong (examples/pinned.sheet, examples/twice.sheet).
 fn lost(op: Op, index: u64) -> Call {
     let (volumes, spreads, balances): (&[u32], &[f64], &[f64]) = match index {
         0 => (

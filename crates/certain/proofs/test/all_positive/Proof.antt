@@ -2,7 +2,8 @@ use mathlib.Core.Bool.{true}
 use Rattle.numbers.specs.Numbers.{at}
 use Rattle.certain.specs.Bound.{allBelow, arePositive}
 use Rattle.interval.specs.Intervals.{isPositive}
-use Rattle.certain.proofs.Laws.{all-none, all-more, all-done, all-broken, not-true, not-false}
+use Rattle.certain.proofs.Laws.{all-none, all-more, all-done, all-broken}
+use Rattle.interval.proofs.Answers.{not-true, not-false}
 use native.Mathlib.Omega.{arith}
 use Prim.Native.Nat.{_-_, _≤_}
 use mathlib.Core.Path.{_≡_, sym, _∙_}

@@ -1,4 +1,5 @@
-use Rattle.certain.proofs.Laws.{day-1, day-2, day-3, day-4, not-true, not-false}
+use Rattle.certain.proofs.Laws.{day-1, day-2, day-3, day-4}
+use Rattle.interval.proofs.Answers.{not-true, not-false}
 use native.Mathlib.Omega.{arith}
 use borrow.Author.Needs.{needs}
 use Rattle.certain.proofs.test.day_finite.Statement.{statement}

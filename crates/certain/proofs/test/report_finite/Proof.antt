@@ -1,4 +1,5 @@
-use Rattle.certain.proofs.Laws.{report-1, report-2, report-3, not-true, not-false}
+use Rattle.certain.proofs.Laws.{report-1, report-2, report-3}
+use Rattle.interval.proofs.Answers.{not-true, not-false}
 use borrow.Author.Needs.{needs}
 use Rattle.certain.proofs.test.report_finite.Statement.{statement}
 use Rattle.certain.proofs.test.report_finite.Tie as tie

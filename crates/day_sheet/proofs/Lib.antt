@@ -1,3 +1,0 @@
-pub mod LineKinds
-pub mod Lines
-pub mod Faults
