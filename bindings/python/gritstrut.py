@@ -478,7 +478,7 @@ class Report:
             self.balances.append(Balance(name, *map(_number, cells), within == "yes"))
         for name, kind, *cells, within in map(str.split, limits[0][1:] if limits else ()):
             self.limits.append(Limit(name, kind, *map(_number, cells), within == "yes"))
-        self.tolerance, self.version = float(last[0].split()[1]), last[1].split()[1]
+        self.tolerance, self.version = _number(last[0].split()[1]), last[1].split()[1]
 
     def __repr__(self):
         return f"<Report: {self.first_line}>"

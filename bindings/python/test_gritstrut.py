@@ -214,9 +214,27 @@ class Reports(unittest.TestCase):
         latin = gritstrut.day(lone.bytes[-len(_utf8(lone.sheet)):].replace(b"\xc3\xbc", b"\xfc"))
         self.assertEqual(gritstrut.day(latin.sheet), latin)
         self.assertIn("\ufffd", str(latin))
+        sharp = gritstrut.day(stored("header.sheet").replace(b"tolerance 0.001", b"tolerance 0.0000001"))
+        self.assertEqual((sharp.verdict, sharp.tolerance), ("closes", 0.0))
         for refused, number in ((gritstrut.day(""), 9), (gritstrut.day(b"#" * 65537), 9),
                                 (gritstrut.day("title t\nmeter a 0 9 1\nmeter b 0 9 1\nbalance h a = b\nbalance k a = b\ntolerance 1\n"), 11)):
             self.assertEqual((refused.verdict, refused.number, refused.status, refused.meters, refused.sheet), ("refused", number, 2, [], None))
+
+    def test_drawn_days(self):
+        """Sheets of every kind that the second reading of the rules draws (oracle/day): each report is read and drawn."""
+        sys.path.append(os.path.join(EXAMPLES, "..", "oracle", "day"))
+        import draws
+        seen = set()
+        for index in range(600):
+            sheet = draws.drawn(7, index)[1]
+            report = gritstrut.day(sheet)
+            seen.add(report.verdict)
+            if report.verdict != "refused":
+                self.assertEqual(report.sheet.encode("utf-8", "surrogateescape"), sheet)
+                rows = report.text.split("\n\n")[2].split("\n")[1:]
+                self.assertEqual([row.split()[:4] for row in rows], [list(meter[:4]) for meter in report.meters])
+            self.assertTrue(report.svg().startswith("<svg "))
+        self.assertEqual(len(seen), 6)
 
     def test_what_is_no_report(self):
         report = stored("twice.report")
