@@ -372,6 +372,18 @@ uint32_t gritstrut_mend(const uint8_t *records, size_t records_len,
                         uint64_t *rollovers, size_t rollovers_len,
                         size_t *kept_bytes, uint32_t *meters);
 
+/* The day's report for a sheet, byte for byte what the program `day` writes (docs/MANUAL.md): the
+ * verdict is its first line. `report` has at least GRITSTRUT_REPORT bytes; the report goes to its
+ * front, `count` is how long it is, and the bytes behind it stay. Any bytes are taken as a sheet;
+ * what is wrong with them is told in the report.
+ *
+ * 0 written; 2 `report` is shorter, and nothing is written. It has no workspace, and takes some
+ * 190 KiB of stack. */
+#define GRITSTRUT_REPORT 81920
+
+uint32_t gritstrut_report(const uint8_t *sheet, size_t sheet_len,
+                          uint8_t *report, size_t report_len, size_t *count);
+
 /* The entries of a step's report. A step has two stages: the exact problem, and where that is
  * refused the relaxed one. */
 enum {

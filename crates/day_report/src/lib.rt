@@ -4,7 +4,7 @@ ghost use Prim.Native.Nat.{_≤_};
 ghost use lib.ListN.{length, take};
 ghost use Rattle.ascii.specs.inner.Work.{Wrote};
 ghost use Rattle.day_volumes.specs.Found.{found, noFigures, noSigns};
-ghost use Rattle.day_report.specs.Report.{answerText};
+ghost use Rattle.day_report.specs.Report.{answerText, dayReport};
 ghost use Rattle.day_report.specs.Promise.{Reports};
 use sheet::Sheet;
 use workspace::Outcome;
@@ -83,10 +83,10 @@ fn put_day(
     }
 }
 
-// The report for a sheet's bytes, at the start of `out`: so many bytes, and the others stay.
-pub fn respond(bytes: &[u8], out: &mut [u8; 81920]) -> usize
-    ensures { λ r. ⌜ Reports (now (bytes .entry)) r (now (out .entry)) (now (out .exit)) ⌝ }
-    ensures { λ r. ⌜ (r ≤ length (now (out .exit))) × (r ≡ length (take r (now (out .exit)))) ⌝ }
+// The report for a sheet's bytes, at the start of a buffer that has room for every report.
+pub fn write_report(bytes: &[u8], out: &mut [u8]) -> usize
+    requires { ⌜ 81920 ≤ length (now out) ⌝ }
+    ensures { λ r. ⌜ Wrote (now (out .entry)) 0 (dayReport (now (bytes .entry))) (now (out .exit)) r ⌝ }
 {
     if 65536 < bytes.len() {
         return day_text::put_long(out);
@@ -101,4 +101,12 @@ pub fn respond(bytes: &[u8], out: &mut [u8; 81920]) -> usize
         Sheet::Long => day_text::put_long(out),
         Sheet::Whole(n, m, q, d) => { put_day(out, n, m, q, d, &texts, &wholes, &numbers, bytes) }
     }
+}
+
+// The same into a buffer of just that size: so many bytes, and the others stay.
+pub fn respond(bytes: &[u8], out: &mut [u8; 81920]) -> usize
+    ensures { λ r. ⌜ Reports (now (bytes .entry)) r (now (out .entry)) (now (out .exit)) ⌝ }
+    ensures { λ r. ⌜ (r ≤ length (now (out .exit))) × (r ≡ length (take r (now (out .exit)))) ⌝ }
+{
+    write_report(bytes, out)
 }

@@ -7,3 +7,4 @@ pub mod Files
 pub mod Searches
 pub mod Suspecting
 pub mod Settling
+pub mod Reporting

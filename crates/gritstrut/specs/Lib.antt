@@ -8,3 +8,4 @@ pub mod Writing
 pub mod Searching
 pub mod Suspecting
 pub mod Settling
+pub mod Reporting

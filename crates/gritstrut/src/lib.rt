@@ -4,6 +4,7 @@ mod day;
 mod meters;
 pub mod problems;
 pub mod readings;
+mod report;
 mod runs;
 mod steps;
 mod volumes;
