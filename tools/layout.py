@@ -13,7 +13,7 @@ import sys
 
 PAGE = "docs/LAYOUT.md"
 # crates whose constants are sizes, or places in numbers of their own and not in a workspace
-WITHOUT = ("mend", "mend_text", "record_write", "root_known")
+WITHOUT = ("mend", "mend_text", "record_write", "root_known", "day_volumes", "day_text")
 CONSTANT = re.compile(r"((?:^ *// .*\n)*)^ *pub const (\w+): usize = ([^;]+);", re.M)
 
 

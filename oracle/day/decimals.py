@@ -3,8 +3,8 @@
 
     oracle/day/decimals.py [COUNT [SEED]]     COUNT numbers each way (1000000, 1), at the root of the repository
 
-It proves and builds a program of its own in target/day-probe, from oracle/day/probe.rt.txt over the crates `decimals` and
-`decimals_fixed` as they stand, draws numbers and texts, and compares every answer: the text of each number, and of each text
+It proves and builds a program of its own in target/day-probe, from oracle/day/probe.rt.txt over the crate `decimals`
+as it stands, draws numbers and texts, and compares every answer: the text of each number, and of each text
 the f64, or where its fault is. A reading's f64 is found by Python's division of whole numbers, and then held to both its
 neighbours as fractions. Status 0: no difference.
 """
@@ -17,7 +17,7 @@ import subprocess
 import sys
 from fractions import Fraction
 
-NEEDED = ("numbers", "endian", "ascii", "decimals", "decimals_fixed", "workspace", "step_rows", "record_read")
+NEEDED = ("numbers", "endian", "ascii", "decimals", "workspace", "step_rows", "record_read")
 PIECE = 100000
 BLOCK, ANSWER, TEXT = 64, 32, 16
 
@@ -42,7 +42,7 @@ def build():
     shutil.copy("oracle/day/main.antt.txt", f"{own}/crates/probe/proofs/main/Proof.antt")
     with open("crates.txt") as listed, open(f"{own}/crates.txt", "w") as out:
         out.writelines(line for line in listed if line.split(":")[0] in NEEDED)
-        out.write("probe: numbers endian ascii decimals decimals_fixed workspace step_rows record_read io libc\n")
+        out.write("probe: numbers endian ascii decimals workspace step_rows record_read io libc\n")
     done = subprocess.run(["rt", "check", "probe"], cwd=own, capture_output=True, text=True)
     if done.returncode:
         sys.exit(done.stdout[-3000:] + done.stderr[-3000:])

@@ -405,7 +405,7 @@ def damaged(rng, lines, fault):
         if "=" in balance:
             balance.remove("=")
     elif fault == 22:
-        balance.insert(rng.randrange(at, len(balance) + 1), "=")
+        balance.insert(rng.randrange(min(at, len(balance)), len(balance) + 1), "=")
     elif fault == 23:
         if limits:
             rng.choice(limits).extend(["=", meter])

@@ -8,7 +8,7 @@ use std::path::Path;
 const LIBRARY: &str = "GRITSTRUT_LIBRARY";
 
 /// The C interface's names after `gritstrut_`.
-const NAMES: [&str; 24] = [
+const NAMES: [&str; 26] = [
     "sqrt",
     "sum",
     "norm",
@@ -33,6 +33,8 @@ const NAMES: [&str; 24] = [
     "search_begin",
     "search_tell",
     "suspect",
+    "settle",
+    "certify",
 ];
 
 fn main() {

@@ -28,6 +28,7 @@ from certain import Day, Rules, bits_of, float_of, same  # noqa: E402
 
 INF, NAN, NEAR = math.inf, math.nan, 2.0 ** -10
 JUNK, FLOATS, WORDS = float_of(0x7FF8DEADBEEF0123), 8200, 520
+ZERO_ROOM, JUNK_ROOM = bytes(8192 * 8 + 512 * 4), b"\xa5" * (8192 * 8 + 512 * 4)
 
 
 # ---- the library
@@ -57,9 +58,10 @@ class Library:
     def room_left(self):
         """zero, junk or mixed, of the first 8192 and 512; and whether the rest is junk."""
         floats, words = bytes(self.w), bytes(self.iw)
-        rest = set(floats[8192 * 8:]) | set(words[512 * 4:]) == {0xA5}
-        seen = set(floats[:8192 * 8]) | set(words[:512 * 4])
-        return ("zero" if seen == {0} else "junk" if seen == {0xA5} else "mixed") if rest else "past the end"
+        if floats[8192 * 8:] + words[512 * 4:] != JUNK_ROOM[:8 * (FLOATS - 8192) + 4 * (WORDS - 512)]:
+            return "past the end"
+        seen = floats[:8192 * 8] + words[:512 * 4]
+        return "zero" if seen == ZERO_ROOM else "junk" if seen == JUNK_ROOM else "mixed"
 
     def lsei(self, n, mc, me, mg, lists):
         x, mu, place = (ctypes.c_double * max(n, 1))(), (ctypes.c_double * max(mc + mg, 1))(), ctypes.c_uint32(77)
@@ -392,8 +394,7 @@ def distance(d, told):
     """How far the exact best lie, what they fit worse by, both in squares of spreads; None where there are none, or a number is not finite."""
     if not all(math.isfinite(v) for numbers in d.lists() for v in numbers) or not all(map(math.isfinite, told[2])):
         return None
-    rows = lambda flat: [flat[i * d.n:(i + 1) * d.n] for i in range(len(flat) // d.n)] if d.n else []
-    best = exact.least(d.values, d.spreads, rows(d.balances), rows(d.limits), d.least)
+    best = exact.least(d.values, d.spreads, rows_of(d.balances, d.n), rows_of(d.limits, d.n), d.least)
     if best is None:
         return None
     x, s, v = [Fraction(u) for u in told[2]], [Fraction(u) for u in d.spreads], [Fraction(u) for u in d.values]
@@ -460,25 +461,33 @@ def try_slips(archive, count, seed):
 
 
 def families(z):
-    """One meter with a floor z spreads away; one that is measured z above its ceiling; four around a header, the floor of the last z away."""
+    """One meter with a floor z spreads away; one that is measured z above its ceiling; four around a header, the floor of the last z away; the
+    four of examples/pinned.sheet, of which two balances pin the last at zero, and two that are alike are z spreads apart."""
     yield "floor", Data(1, 0, 1, [0.0], [1.0], [], [1.0], [z])
     yield "pulled", Data(1, 0, 1, [z], [1.0], [], [-1.0], [-0.3])
     yield "header", Data(4, 1, 1, [0.0] * 4, [1.0, 1.0, 2.0, 0.5], [1.0, 1.0, -1.0, -1.0], unit(4, 3), [0.5 * z])
+    yield "pinned", Data(4, 2, 2, [0.0, 10.0 * z, 0.0, 0.0], [40.0, 40.0, 10.0, 0.5], [0.0, -1.0, 1.0, -1.0, 0.0, -1.0, 1.0, 0.0],
+                         unit(4, 0) + unit(4, 3), [-1338.0, 0.0])
+
+
+def rows_of(flat, n):
+    return [flat[i * n:(i + 1) * n] for i in range(len(flat) // n)] if n else []
 
 
 def far_away(archive):
     made = Library(archive)
     reading = Reading(made)
-    print(f"{'family':<10}{'spreads':>9}{'LSEI off by':>14}{'its bound':>12}{'settled off by':>16}{'bound':>12}")
-    for power in range(9):
-        for name, d in families(10.0 ** power):
+    print(f"{'family':<10}{'distance':>11}{'LSEI off by':>14}{'its bound':>12}{'settled off by':>16}{'bound':>12}")
+    for quarter in range(33):
+        z = 10.0 ** (quarter / 4)
+        for name, d in families(z):
             told, first = made.settle(d, 1e-3), reading.settle(d, 1e-3)[3]
             if first is None:
-                print(f"{name:<10}{10.0 ** power:>9.0e}   refused {told[0]}")
+                print(f"{name:<10}{z:>11.3e}{'refused':>14}{told[0]:>12}{'refused':>16}{told[0]:>12}")
                 continue
-            best = exact.least(d.values, d.spreads, [d.balances] if d.m else [], [d.limits], d.least)[0]
+            best = exact.least(d.values, d.spreads, rows_of(d.balances, d.n), rows_of(d.limits, d.n), d.least)[0]
             off = lambda x: max(abs(float((Fraction(u) - b) / Fraction(s))) for u, b, s in zip(x, best, d.spreads))
-            print(f"{name:<10}{10.0 ** power:>9.0e}{off(first[0]):>14.2e}{first[3]:>12.2e}{off(told[2]):>16.2e}{told[4]:>12.2e}")
+            print(f"{name:<10}{z:>11.3e}{off(first[0]):>14.1e}{first[3]:>12.1e}{off(told[2]):>16.1e}{told[4]:>12.1e}")
     return True
 
 

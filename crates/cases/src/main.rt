@@ -8,6 +8,7 @@ mod lines;
 mod meters;
 mod searches;
 mod table;
+mod volumes;
 
 use libc::STDIN_FILENO;
 use libc::STDOUT_FILENO;
@@ -62,6 +63,7 @@ fn main() {
     table::tell_all();
     days::tell_days();
     meters::tell_plants();
+    volumes::tell_volumes();
     searches::tell_searches();
     let mut input = io::large_buffer();
     let n = io::read_full(STDIN_FILENO, &mut input);

@@ -13,6 +13,7 @@ ghost use Rattle.suspect.specs.inner.Work.{Sized};
 ghost use Rattle.day_volumes.specs.Posed.{spreads};
 ghost use Rattle.day_volumes.specs.Promise.{Finds};
 ghost use Rattle.day_volumes.specs.inner.Work.{Counts, Tables, Blank, Limited, SettledTo, TestedTo, TestsTold, FoundPosed, stillsOf, boundedOutcome};
+use crate::pose::TOLERANCE;
 use crate::pose::fill_balances;
 use crate::pose::fill_limits;
 use crate::pose::fill_values;
@@ -239,7 +240,7 @@ fn find_posed(
 {
     let mut volumes = item_room();
     let x = &mut volumes[..n];
-    let tolerance = f[576];
+    let tolerance = f[TOLERANCE];
     let b = settle_day(
         values,
         &f[..n],

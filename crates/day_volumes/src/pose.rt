@@ -28,6 +28,8 @@ pub const BALANCES: usize = 48;
 const AMOUNTS: usize = 304;
 // The rows of limits.
 pub const LIMITS: usize = 320;
+// The tolerance.
+pub const TOLERANCE: usize = 576;
 
 // ---- values
 

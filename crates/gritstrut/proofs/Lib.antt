@@ -7,4 +7,5 @@ pub mod Files
 pub mod Searches
 pub mod Suspecting
 pub mod Settling
+pub mod Costs
 pub mod Reporting

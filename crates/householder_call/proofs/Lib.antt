@@ -1,3 +1,4 @@
 pub mod One
 pub mod Edge
 pub mod Examples
+pub mod Ranks

@@ -4,6 +4,5 @@ pub mod Calls
 pub mod Clear
 pub mod One
 pub mod Passing
-pub mod TooMany
 pub mod Called
 pub mod Places

@@ -24,7 +24,7 @@ use Rattle.step_call.specs.Promise as Step
 use Rattle.step_call.specs.Promise.{areKinds, areWidths}
 use Rattle.step_call.specs.Strict.{bounds}
 use Rattle.record_read.specs.Bits.{ConstraintBits, equality, floor, band}
-use Rattle.record_read.specs.Input.{decode}
+use Rattle.record_read.specs.Input.{decode, inNumbers, readNumbers}
 use Rattle.record_write.specs.File.{constraintAt, file}
 use Rattle.record_write.specs.Lent.{Lent, constraintIn, problemIn}
 use Rattle.record_write.specs.Claims.{Pattern, Writable}
@@ -147,10 +147,12 @@ told-bytes (done f) k out out' w w' iw iw' h = record {
 told-bytes (refused r) k out out' w w' iw iw' h = not-done k r (h .the-outcome)
 
 pub rereads : Rereads
+unfolding readNumbers
 rereads p k out out' w w' iw iw' h s =
     let t = told-bytes (writeCall p out w iw) k out out' w w' iw iw' s in
     let a = writes-writable p out w iw (t .bytes) h (t .is-done) in
-    ap decode (t .are-first ∙ a .1) ∙ round-trip (problemIn p) (a .0)
+    let e = ap decode (t .are-first ∙ a .1) ∙ round-trip (problemIn p) (a .0) in
+    (e, ap inNumbers e)
 
 -- ---- room that always suffices
 

@@ -11,7 +11,8 @@ use Rattle.workspace.specs.Tables.{Answer, done, test, has}
 use Rattle.nnls.specs.Counted.{Counted}
 use Rattle.step.specs.Step.{step}
 use Rattle.step_call.specs.Strict.{strictCall}
-use Rattle.record_read.specs.Input.{problem, decode}
+use Rattle.record_read.specs.Bits.{numbersOf}
+use Rattle.record_read.specs.Input.{problem, decode, readNumbers}
 use Rattle.record_write.specs.File.{file}
 use Rattle.record_write.specs.Lent.{Lent, problemIn}
 use Rattle.record_write.specs.Claims.{Patterns, Writable}
@@ -38,10 +39,10 @@ abbrev pub WritesWritable : Type 0
 WritesWritable = (p : Lent) (out : List ℕ) (w : List Float) (iw : List ℕ) (f : List ℕ) → AllPatterns p → writeCall p out w iw ≡ done f
     → Writable (problemIn p) × (f ≡ file (problemIn p))
 
--- so the bytes that it tells, read by the record program, say the problem that was lent, bit for bit
+-- so the bytes that it tells say the problem that was lent, bit for bit, and the numbers that the record program reads in them are those of the bits
 abbrev pub Rereads : Type 0
 Rereads = (p : Lent) (k : ℕ) (out out' : List ℕ) (w w' : List Float) (iw iw' : List ℕ) → AllPatterns p → WritesFile (writeCall p out w iw) (Done k) out out' w w' iw iw'
-    → decode (take k out') ≡ problem (problemIn p)
+    → (decode (take k out') ≡ problem (problemIn p)) × (readNumbers (take k out') ≡ problem (numbersOf (problemIn p)))
 
 -- two files are equal exactly when their problems are, bit for bit
 abbrev pub SameCalls : Type 0

@@ -6,6 +6,7 @@ mod meters;
 mod run;
 mod runs;
 mod step;
+mod volumes;
 
 ghost use mathlib.Core.Path.{_≡_};
 ghost use lib.ListN.{length};
@@ -60,7 +61,7 @@ fn no_call() -> Call
 // Reads a call of an operation and n bytes and replays it, if it is one.
 fn replay_next(operation: u64, n: usize) -> bool {
     let mut call = no_call();
-    if 22 < operation {
+    if 24 < operation {
         return false;
     }
     if 12288 < n {

@@ -5,6 +5,8 @@ use crate::meters::run_suspect;
 use crate::runs::run_begin;
 use crate::runs::run_tell;
 use crate::step::run_step;
+use crate::volumes::run_certify;
+use crate::volumes::run_settle;
 use libc::STDOUT_FILENO;
 use replay_list::Call;
 use replay_list::Values;
@@ -205,6 +207,8 @@ fn run_any(
         20 => run_begin(call, values, x, w, iw),
         21 => run_tell(call, values, x, w, iw),
         22 => run_suspect(call, values, x, w, iw),
+        23 => run_settle(call, values, x, y, w, iw),
+        24 => run_certify(call, values, w, iw),
         _ => run_hessian(operation, call, values, x, w, iw),
     }
 }

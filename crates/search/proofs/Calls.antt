@@ -1,29 +1,39 @@
 -- The slices hold the machine over all calls.
-use Prim.Native.Nat.{ℕ, zero, suc, _≤_, _<_}
+use Prim.Native.Nat.{ℕ, zero, suc, _-_, _≤_, _<_}
 use native.Mathlib.Omega.{arith}
 use mathlib.Core.Path.{_≡_, refl, sym, ap, _∙_, subst}
 use mathlib.Core.Bool.{Bool, true, false, cond, _&&_, not, true≢false}
 use mathlib.Core.List.{List, [], _∷_, map}
 use mathlib.Core.Option.{Option, none, some}
-use lib.Dec.{T, eqb, eqb-refl}
-use lib.ListN.{length, take}
-use lib.Ieee.{Float}
+use mathlib.Core.Logic.{⊎-elim}
+use lib.Dec.{T, leb, eqb, eqb-refl}
+use lib.ListN.{length, take, set, length-set}
+use lib.Ieee.{Float, lt}
+use borrow.Author.Tests.{leb-true, eqb-true, not-true}
+use Rattle.numbers.specs.Numbers.{at}
+use Rattle.numbers.proofs.Lists.{length-tab}
+use Rattle.numbers.proofs.Cases.{last-or-before}
+use Rattle.workspace.specs.inner.Readings.{vec}
+use Rattle.workspace.proofs.Tests.{and-true}
 use Rattle.workspace.specs.Tables.{Answer, done, refused, number, outcomeNumber, call, test, floats, words, isDimension, isConstraints, isRoom, isTolerance, has}
 use Rattle.workspace.specs.declared.Outcome.{Outcome}
-use Rattle.workspace.specs.declared.Outcome.the-variants.{Refused}
+use Rattle.workspace.specs.declared.Outcome.the-variants.{Done, Refused}
 use Rattle.nnls.proofs.Signs.{T→true}
-use Rattle.workspace.specs.declared.Refusal.the-variants.{Tolerance, Crossed, Unasked}
-use Rattle.step_call.specs.Strict.{isBounded}
+use Rattle.workspace.specs.declared.Refusal.{Refusal}
+use Rattle.workspace.specs.declared.Refusal.the-variants.{Size, Length, Room, Kind, Tolerance, Bound, Crossed, Unasked}
+use Rattle.step_call.specs.Strict.{isBounded, bounds}
 use Rattle.step_call.specs.Claims.{LowestBound, all-bounded, wrong-bound}
 use Rattle.step_call.proofs.Strictly.{lowest-variable}
 use Rattle.search.specs.Setup.{Setup, isBudget, isScheme, areKinds, Question}
 use Rattle.search.specs.Written.{Script, ends, asks, Standing, over, waits, written, stands, follow, play}
-use Rattle.search.specs.Machine.{Machine, ended, begin, tell, tellAll, standing}
-use Rattle.search.specs.Layout.{setupIn, machineIn, setupFloats, setupWords, machineFloats, machineWords, Fits, Posed, Holds}
+use Rattle.search.specs.Turn.{along, raise, lower}
+use Rattle.search.specs.Machine.{Machine, ended, starting, trying, sloping, raised, lowered, begin, tell, tellAll, standing}
+use Rattle.search.specs.Layout.{setupIn, machineIn, laid, setupFloats, setupWords, machineFloats, machineWords, FitsPoint, Fits, Posed, Holds}
 use Rattle.search.specs.Promise.{areOrdered, heard, tellIn, tellCall, isWanted, isWaiting, floatsOf, wordsOf, wanted, callOutcome, Runs}
-use Rattle.search.specs.Calls.{hears, hearsAll, Slices, toldOnce, toldAll, OverCalls, Stands, CallsAnswered, isSilent, NoQuestion, OneAnswer, BoundsFirst}
+use Rattle.search.specs.Calls.{hears, hearsAll, Slices, toldOnce, toldAll, ReadsPoint, BeginsDone, Sound, BegunSound, OverCalls, Stands, CallsAnswered, isSilent, NoQuestion, OneAnswer, BoundsFirst}
 use Rattle.search.proofs.Machines.{script, told-alike, stands-alike, begins-alike}
 use Rattle.search.proofs.Answers.{answered}
+use Rattle.search.proofs.Laying.{length-laid, vec-laid}
 use Rattle.search.proofs.Layouts.{written-first, written-again}
 use Rattle.search.proofs.Sizes.{fit-tell, fit-begin}
 
@@ -31,6 +41,7 @@ use Rattle.search.proofs.Sizes.{fit-tell, fit-begin}
 pub record Kept (p : Setup) (M : Machine) (s : Slices) : Type 0 where
   pub holds : Holds p M (s .numbers) (s .state)
   pub fits : Fits (p .n) (p .m) M
+  pub reads : ReadsPoint p (standing p M) (s .numbers)
 
 long : (p : Setup) (M : Machine) (f : List Float) (u : List ℕ) → Holds p M f u → (has f 1024 && has u 32) ≡ true
 long p M f u h = rw (h .floats, h .words) refl
@@ -39,15 +50,31 @@ long p M f u h = rw (h .floats, h .words) refl
 slices : Setup → Answer Machine → Slices → Slices
 slices p c s = record { numbers = floatsOf false p c (s .numbers); state = wordsOf false p c (s .state) }
 
+-- the point of the question is laid last
+point-read : (n : ℕ) (x f : List Float) → n ≤ 16 → length x ≡ n → length (laid 976 x f) ≡ 1024 → vec 976 n (laid 976 x f) ≡ x
+point-read n x f l h g = vec-laid 976 n x f 1024 h (sym (length-laid 976 x f) ∙ g) (omega (arith, l))
+
+asked-read : (p : Setup) (M : Machine) (f : List Float) → Posed p → Fits (p .n) (p .m) M → length (machineFloats p M f) ≡ 1024 → ReadsPoint p (standing p M) (machineFloats p M f)
+unfolding machineFloats along
+asked-read p (ended e r) f h g l = tt
+asked-read p (starting b x) f h g l = point-read (p .n) x _ (h .few) (g .0) l
+asked-read p (trying b s line α again) f h g l = point-read (p .n) (along p s line α) _ (h .few) (length-tab (p .n) _) l
+asked-read p (sloping b goal q) f h g l = point-read (p .n) (q .x) _ (h .few) (g .1 .x) l
+asked-read p (raised b goal q rows cols y) f h g l =
+    let i = p .n - suc cols in point-read (p .n) (set (q .x) i (raise (at (q .x) i))) _ (h .few) (length-set (q .x) i (raise (at (q .x) i)) ∙ g .1 .x) l
+asked-read p (lowered b goal q rows cols y v) f h g l =
+    let i = p .n - suc cols in point-read (p .n) (set (q .x) i (lower (at (q .x) i))) _ (h .few) (length-set (q .x) i (lower (at (q .x) i)) ∙ g .1 .x) l
+
 heard-kept : (p : Setup) (M : Machine) (s : Slices) (v : List Float) (t w : Bool) → Posed p → Kept p M s → isWaiting (standing p M) ≡ t → isWanted p (standing p M) v ≡ w
     → Kept p (cond (t && w) (tell p M v) M) (slices p (heard (true && w) true t (tell p M v)) s)
 unfolding slices
-heard-kept p M s v false false h k e e′ = record { holds = k .holds; fits = k .fits }
-heard-kept p M s v false true h k e e′ = record { holds = k .holds; fits = k .fits }
-heard-kept p M s v true false h k e e′ = record { holds = k .holds; fits = k .fits }
+heard-kept p M s v false false h k e e′ = record { holds = k .holds; fits = k .fits; reads = k .reads }
+heard-kept p M s v false true h k e e′ = record { holds = k .holds; fits = k .fits; reads = k .reads }
+heard-kept p M s v true false h k e e′ = record { holds = k .holds; fits = k .fits; reads = k .reads }
 heard-kept p M s v true true h k e e′ =
     let g = fit-tell p M v (k .fits) (subst T (sym e′) tt) in
-    record { holds = written-again p M (tell p M v) (s .numbers) (s .state) h g (k .holds); fits = g }
+    let o = written-again p M (tell p M v) (s .numbers) (s .state) h g (k .holds) in
+    record { holds = o; fits = g; reads = asked-read p (tell p M v) (s .numbers) h g (o .floats) }
 
 once : (p : Setup) (M : Machine) (s : Slices) (v : List Float) → Posed p → Kept p M s → Kept p (hears p M v) (toldOnce v s)
 unfolding slices
@@ -60,10 +87,102 @@ unfolding hearsAll toldAll
 all [] p M s h k = k
 all (v ∷ vs) p M s h k = all vs p (hears p M v) (toldOnce v s) h (once p M s v h k)
 
+-- ---- a beginning that is done
+
+never-refused : {A : Type 0} (k : Refusal) → Done ≡ Refused k → A
+never-refused k e = let z : _≡_ {A = ℕ} 0 1 = cc in absurd (let y : ⊥ = omega (arith, z) in y)
+
+record Tested (p : Setup) (s l k : Bool) (o : Bool) (m : Machine) (c : Answer Machine) : Type 0 where
+  sizes : s ≡ true
+  lengths : l ≡ true
+  kinds : k ≡ true
+  bounded : (i : ℕ) → i < p .n → isBounded (p .lower) (p .upper) i ≡ true
+  ordered : o ≡ true
+  answers : c ≡ done m
+
+module _ (p : Setup) (m : Machine) where
+  last-test : (k o : Bool) (c : Answer Machine) → k ≡ true → LowestBound (p .lower) (p .upper) (p .n) (test o Crossed (done m)) c → Done ≡ callOutcome c → Tested p true true k o m c
+  last-test k false c h (all-bounded b e) d = never-refused Crossed (d ∙ ap callOutcome e)
+  last-test k true c h (all-bounded b e) d = record { sizes = refl; lengths = refl; kinds = h; bounded = b; ordered = refl; answers = e }
+  last-test k o c h (wrong-bound i l b f e) d = never-refused (Bound i) (d ∙ ap callOutcome e)
+
+  tests-pass : (s l r k t o : Bool) (c : Answer Machine) → LowestBound (p .lower) (p .upper) (p .n) (test o Crossed (done m)) c → Done ≡ callOutcome (call s l r k (test t Tolerance c))
+      → Tested p s l k o m (call s l r k (test t Tolerance c))
+  tests-pass false l r k t o c b d = never-refused Size d
+  tests-pass true false r k t o c b d = never-refused Length d
+  tests-pass true true false k t o c b d = never-refused Room d
+  tests-pass true true true false t o c b d = never-refused Kind d
+  tests-pass true true true true false o c b d = never-refused Tolerance d
+  tests-pass true true true true true o c b d = last-test true o c refl b d
+
+-- every bound of those in order
+in-order : (n : ℕ) (l u : List Float) → areOrdered n l u ≡ true → (i : ℕ) → i < n → lt (at u i) (at l i) ≡ false
+unfolding areOrdered
+in-order zero l u h i k = absurd (omega arith)
+in-order (suc n) l u h i k =
+    let z = and-true (areOrdered n l u) (not (lt (at u n) (at l n))) h in
+    ⊎-elim (λ (e : i ≡ n). rw e (not-true (lt (at u n) (at l n)) (z .1))) (λ (q : i < n). in-order n l u (z .0) i q) (last-or-before n i k)
+
+record Begun (p : Setup) (x : List Float) (b : ℕ) (f : List Float) (u : List ℕ) : Type 0 where
+  sound : Sound p b
+  the-floats : f ≡ machineFloats p (begin p x b) (setupFloats p)
+  the-words : u ≡ machineWords (begin p x b) (setupWords p)
+
+begun : (p : Setup) (scheme : ℕ) (x : List Float) (b : ℕ) (f : List Float) (u : List ℕ) → BeginsDone p scheme x b f u → Begun p x b f u
+begun p scheme x b f u d =
+    let f₀ = d .0 in
+    let u₀ = d .1 in
+    let r = d .6 in
+    let m = begin p x b in
+    let o = areOrdered (p .n) (p .lower) (p .upper) in
+    let size = isDimension (p .n) && isConstraints (p .m) && isBudget b && isScheme scheme in
+    let long = has (p .kinds) (p .m) && has (p .lower) (p .n) && has (p .upper) (p .n) && has x (p .n) && has f₀ 1024 && has u₀ 32 in
+    let t = tests-pass p m size long (isRoom (d .2) (d .4)) (areKinds (p .kinds)) (isTolerance (p .ftol)) o (bounds (p .lower) (p .upper) (p .n) 0 (test o Crossed (done m)))
+    (lowest-variable Machine (p .lower) (p .upper) (p .n) (test o Crossed (done m))) (r .the-outcome) in
+    let s3 = and-true (isDimension (p .n) && isConstraints (p .m) && isBudget b) (isScheme scheme) (t .sizes) in
+    let s2 = and-true (isDimension (p .n) && isConstraints (p .m)) (isBudget b) (s3 .0) in
+    let s1 = and-true (isDimension (p .n)) (isConstraints (p .m)) (s2 .0) in
+    let n1 = and-true (leb 1 (p .n)) (leb (p .n) 16) (s1 .0) in
+    let l5 = and-true (has (p .kinds) (p .m) && has (p .lower) (p .n) && has (p .upper) (p .n) && has x (p .n) && has f₀ 1024) (has u₀ 32) (t .lengths) in
+    let l4 = and-true (has (p .kinds) (p .m) && has (p .lower) (p .n) && has (p .upper) (p .n) && has x (p .n)) (has f₀ 1024) (l5 .0) in
+    let l3 = and-true (has (p .kinds) (p .m) && has (p .lower) (p .n) && has (p .upper) (p .n)) (has x (p .n)) (l4 .0) in
+    let l2 = and-true (has (p .kinds) (p .m) && has (p .lower) (p .n)) (has (p .upper) (p .n)) (l3 .0) in
+    let l1 = and-true (has (p .kinds) (p .m)) (has (p .lower) (p .n)) (l2 .0) in
+    record {
+      sound = record {
+        posed = record {
+          some = leb-true 1 (p .n) (n1 .0);
+          few = leb-true (p .n) 16 (n1 .1);
+          constraints = leb-true (p .m) 16 (s1 .1);
+          kinds = eqb-true (length (p .kinds)) (p .m) (l1 .0);
+          two = t .kinds;
+          lower = eqb-true (length (p .lower)) (p .n) (l1 .1);
+          upper = eqb-true (length (p .upper)) (p .n) (l2 .1);
+        };
+        budget = leb-true b 10000 (s2 .1);
+        bounded = t .bounded;
+        ordered = in-order (p .n) (p .lower) (p .upper) (t .ordered);
+      };
+      the-floats = r .the-machine ∙ ap (λ (c : Answer Machine). floatsOf true p c f₀) (t .answers);
+      the-words = r .the-state ∙ ap (λ (c : Answer Machine). wordsOf true p c u₀) (t .answers);
+    }
+
+pub begun-sound : BegunSound
+begun-sound p scheme x b f u d = begun p scheme x b f u d .sound
+
+pub kept-all : (p : Setup) (scheme : ℕ) (x : List Float) (b : ℕ) (f : List Float) (u : List ℕ) → BeginsDone p scheme x b f u → (vs : List (List Float))
+    → Kept p (hearsAll p (begin p x b) vs) (toldAll vs (record { numbers = f; state = u }))
+kept-all p scheme x b f u d vs =
+    let s = begun p scheme x b f u d in
+    let h = s .sound .posed in
+    let m = begin p x b in
+    let g = fit-begin p x b (s .sound .budget) in
+    let o = written-first p m h g in
+    let k : Kept p m (record { numbers = f; state = u }) = rw (s .the-floats, s .the-words) (record { holds = o; fits = g; reads = asked-read p m (setupFloats p) h g (o .floats) }) in
+    all vs p m (record { numbers = f; state = u }) h k
+
 pub over-calls : OverCalls
-over-calls p x b h l vs =
-    let g = fit-begin p x b l in
-    all vs p (begin p x b) _ h (record { holds = written-first p (begin p x b) h g; fits = g }) .holds
+over-calls p scheme x b f u d vs = let k = kept-all p scheme x b f u d vs in (k .holds, k .reads)
 
 -- ---- an answerer who gives as many numbers as are wanted
 
@@ -92,20 +211,20 @@ hears-whole p a h (asks q l) M k =
     ap (λ (N : Machine). hearsAll p N (map a (play a (l (a q)) .asked))) (hears-one p M q (a q) (stands-alike p M ∙ ap stands k) (h q))
     ∙ hears-whole p a h (l (a q)) (tell p M (a q)) (told-alike p M (a q) ∙ ap (λ (t : Script). follow t (a q)) k)
 
+-- what stands after some answers
+stand : (p : Setup) (M : Machine) (s : Slices) (w : Standing) → Kept p M s → standing p M ≡ w → Stands p s w
+stand p M s w k e = record { machine = M; holds = k .holds; stands = e; reads = subst (λ (t : Standing). ReadsPoint p t (s .numbers)) e (k .reads) }
+
 pub calls-answered : CallsAnswered
-calls-answered p x b h l a n =
-    let g = answered p x b a in (
+calls-answered p scheme x b f u d a n =
+    let g = answered p x b a in
+    let t = play a (written p x b) in
+    let s : Slices = record { numbers = f; state = u } in (
       λ i q e.
-          record {
-            machine = hearsAll p (begin p x b) (take i (map a (play a (written p x b) .asked)));
-            holds = over-calls p x b h l (take i (map a (play a (written p x b) .asked)));
-            stands = ap (λ (M : Machine). standing p M) (hears-told p a n (written p x b) i (begin p x b) (begins-alike p x b)) ∙ g .0 i q e;
-          },
-      record {
-        machine = hearsAll p (begin p x b) (map a (play a (written p x b) .asked));
-        holds = over-calls p x b h l (map a (play a (written p x b) .asked));
-        stands = ap (λ (M : Machine). standing p M) (hears-whole p a n (written p x b) (begin p x b) (begins-alike p x b)) ∙ g .1;
-      },
+          stand p (hearsAll p (begin p x b) (take i (map a (t .asked)))) (toldAll (take i (map a (t .asked))) s) (waits q) (kept-all p scheme x b f u d (take i (map a (t .asked))))
+          (ap (λ (M : Machine). standing p M) (hears-told p a n (written p x b) i (begin p x b) (begins-alike p x b)) ∙ g .0 i q e),
+      stand p (hearsAll p (begin p x b) (map a (t .asked))) (toldAll (map a (t .asked)) s) (over (t .ending) (t .report)) (kept-all p scheme x b f u d (map a (t .asked)))
+          (ap (λ (M : Machine). standing p M) (hears-whole p a n (written p x b) (begin p x b) (begins-alike p x b)) ∙ g .1),
     )
 
 -- ---- no question stands

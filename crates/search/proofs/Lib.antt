@@ -16,3 +16,4 @@ pub mod Reported
 pub mod Rereads
 pub mod Widths
 pub mod Lent
+pub mod Ends

@@ -2,6 +2,7 @@
 use mathlib.Core.Path.{_≡_, refl, sym, subst}
 use mathlib.Core.Bool.{Bool, true, false, _&&_}
 use mathlib.Core.List.{List}
+use mathlib.Core.Logic.{inl, inr}
 use Prim.Native.Nat.{ℕ, _*_, _<_}
 use native.Mathlib.Omega.{arith}
 use lib.ListN.{length}
@@ -13,13 +14,15 @@ use Rattle.workspace.specs.declared.Refusal.{Refusal}
 use Rattle.workspace.specs.declared.Refusal.the-variants.{Width}
 use Rattle.workspace.proofs.Tests.{and-true}
 use Rattle.nnls.specs.Counted.{Counted}
-use Rattle.step_rows.specs.Problem.{Problem, constraintAt}
+use Rattle.step_rows.specs.Problem.{Problem}
 use Rattle.step.specs.Step.{Step, step, reportOf}
 use Rattle.step.specs.declared.Report.{Report}
-use Rattle.step_call.specs.Claims.{OfRows, ClearStep, StepCallClear}
+use Rattle.step_call.specs.Claims.{OfRows, StepCallClear, LowestBound, all-bounded, wrong-bound}
+use Rattle.step_call.specs.Strict.{bounds}
 use Rattle.step_call.specs.Promise.{areKinds, areWidths, areLengths, refusedBy, Steps}
 use Rattle.step_call.specs.declared.Outcome.the-variants.{Done, Failed, Refused}
-use Rattle.step_call.proofs.Clear.{step-clear}
+use Rattle.step_call.proofs.Clear.{ClearStep, step-clear}
+use Rattle.step_call.proofs.Strictly.{lowest-variable}
 
 kinds-long : (p : Problem) (d l : List Float) → areLengths p d l ≡ true → length (p .kinds) ≡ p .m
 kinds-long p d l h =
@@ -46,16 +49,25 @@ module _ (p : Problem) (relaxation : Float) (t : Report) (d d' l l' w w' : List 
   never true r u e = let z : _≡_ {A = ℕ} 0 1 = cc in absurd (let y : ⊥ = omega arith in y)
 
   from-tests : (s b m k v : Bool) → areLengths p d l ≡ b → (a : Answer Step) → (length (p .kinds) ≡ p .m → ClearStep p a)
-      → Steps (call s b m k (test v Width a)) (reportOf p) (Done relaxation t) d d' l l' w w' iw iw' → (j : ℕ) → j < p .m → OfRows (constraintAt p j) (at l' j)
+      → Steps (call s b m k (test v Width a)) (reportOf p) (Done relaxation t) d d' l l' w w' iw iw' → (j : ℕ) → j < p .m → OfRows p j (at l' j)
   from-tests false b m k v e a c q j h = never false _ (reportOf p) (q .the-outcome)
   from-tests true false m k v e a c q j h = never false _ (reportOf p) (q .the-outcome)
   from-tests true true false k v e a c q j h = never false _ (reportOf p) (q .the-outcome)
   from-tests true true true false v e a c q j h = never false _ (reportOf p) (q .the-outcome)
   from-tests true true true true false e a c q j h = never false _ (reportOf p) (q .the-outcome)
   from-tests true true true true true e (refused n) c q j h = never (isLate n) n (reportOf p) (q .the-outcome)
-  from-tests true true true true true e (done s) c q j h = subst (λ (u : List Float). OfRows (constraintAt p j) (at u j)) (sym (q .the-multipliers)) (c (kinds-long p d l e) j h)
+  from-tests true true true true true e (done s) c q j h = subst (λ (u : List Float). OfRows p j (at u j)) (sym (q .the-multipliers)) (c (kinds-long p d l e) j h)
+
+-- a step behind one test more is refused or is the step
+bounds-clear : (p : Problem) (c : Answer Step) → LowestBound (p .lower) (p .upper) (p .n) (step p .answer) c → length (p .kinds) ≡ p .m → ClearStep p c
+bounds-clear p c (all-bounded h e) k = rw e (step-clear p k)
+bounds-clear p c (wrong-bound i q h f e) k = rw e tt
 
 pub step-call-clear : StepCallClear
-step-call-clear p relaxation t d d' l l' w w' iw iw' q =
+step-call-clear p relaxation t d d' l l' w w' iw iw' (inl q) =
     from-tests p relaxation t d d' l l' w w' iw iw' (isDimension (p .n) && isConstraints (p .m)) (areLengths p d l) (isRoom w iw) (areKinds (p .kinds)) (areWidths (p .kinds) (p .widths) (p .m)) refl (step p .answer)
     (step-clear p) q
+step-call-clear p relaxation t d d' l l' w w' iw iw' (inr q) =
+    from-tests p relaxation t d d' l l' w w' iw iw' (isDimension (p .n) && isConstraints (p .m)) (areLengths p d l) (isRoom w iw) (areKinds (p .kinds)) (areWidths (p .kinds) (p .widths) (p .m)) refl
+    (bounds (p .lower) (p .upper) (p .n) 0 (step p .answer))
+    (bounds-clear p (bounds (p .lower) (p .upper) (p .n) 0 (step p .answer)) (lowest-variable Step (p .lower) (p .upper) (p .n) (step p .answer))) q

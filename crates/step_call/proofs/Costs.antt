@@ -2,6 +2,7 @@
 use mathlib.Core.Path.{_≡_, refl, sym, subst}
 use mathlib.Core.Bool.{Bool, true, false, _&&_}
 use mathlib.Core.List.{List, [], _∷_, _++_}
+use mathlib.Core.Logic.{inl, inr}
 use Prim.Native.Nat.{ℕ, _+_, _*_, _≤_}
 use native.Mathlib.Nat.{mul-le-mul}
 use native.Mathlib.Omega.{arith}
@@ -19,8 +20,9 @@ use Rattle.step_rows.proofs.Fit.{rows-fit}
 use Rattle.step.specs.Step.{Step, target, exact, rootWeight, relaxedMatrix, relaxed, step, reported, reportOf}
 use Rattle.step.specs.declared.Report.{Report}
 use Rattle.step_call.specs.declared.Outcome.{Outcome}
-use Rattle.step_call.specs.Promise.{areKinds, areWidths, areLengths, stepCall, refusedBy, outcomeOf, Steps}
-use Rattle.step_call.specs.Claims.{most, costBound, factoringsTold, CostBound, CostMost}
+use Rattle.step_call.specs.Promise.{areKinds, areWidths, areLengths, refusedBy, outcomeOf, Steps}
+use Rattle.step_call.specs.Strict.{bounds}
+use Rattle.step_call.specs.Claims.{EitherSteps, most, costBound, factoringsTold, CostBound, CostMost}
 
 -- ---- of the report
 
@@ -28,7 +30,7 @@ either-most : (a : Answer Step) (first second : Counted Step) (m n : ℕ) → fi
 either-most (done s) first second m n p q = omega arith
 either-most (refused k) first second m n p q = omega arith
 
-report-most : (p : Problem) → reportOf p .factorings ≤ costBound p
+pub report-most : (p : Problem) → reportOf p .factorings ≤ costBound p
 unfolding reportOf exact relaxed
 report-most p =
     let n = p .n in
@@ -59,11 +61,17 @@ call-told true true false k a t x h = omega arith
 call-told true true true false a t x h = omega arith
 call-told true true true true a t x h = answer-told a t x (h refl)
 
-module _ (p : Problem) (o : Outcome) (d d' l l' w w' : List Float) (iw iw' : List ℕ) (c : Steps (stepCall p d l w iw) (reportOf p) o d d' l l' w w' iw iw') where
-  of-call : (x : ℕ) → (isDimension (p .n) && isConstraints (p .m) ≡ true → reportOf p .factorings ≤ x) → factoringsTold o ≤ x
-  of-call x h = subst (λ (q : Outcome). factoringsTold q ≤ x) (sym (c .the-outcome))
-      (call-told (isDimension (p .n) && isConstraints (p .m)) (areLengths p d l) (isRoom w iw) (areKinds (p .kinds))
-      (test (areWidths (p .kinds) (p .widths) (p .m)) Width (step p .answer)) (reportOf p) x h)
+module _ (p : Problem) (o : Outcome) (d d' l l' w w' : List Float) (iw iw' : List ℕ) where
+  of-tests : (a : Answer Step) (x : ℕ) → (isDimension (p .n) && isConstraints (p .m) ≡ true → reportOf p .factorings ≤ x)
+      → o ≡ outcomeOf (call (isDimension (p .n) && isConstraints (p .m)) (areLengths p d l) (isRoom w iw) (areKinds (p .kinds)) (test (areWidths (p .kinds) (p .widths) (p .m)) Width a)) (reportOf p)
+      → factoringsTold o ≤ x
+  of-tests a x h e =
+      subst (λ (q : Outcome). factoringsTold q ≤ x) (sym e)
+      (call-told (isDimension (p .n) && isConstraints (p .m)) (areLengths p d l) (isRoom w iw) (areKinds (p .kinds)) (test (areWidths (p .kinds) (p .widths) (p .m)) Width a) (reportOf p) x h)
+
+  of-call : EitherSteps p o d d' l l' w w' iw iw' → (x : ℕ) → (isDimension (p .n) && isConstraints (p .m) ≡ true → reportOf p .factorings ≤ x) → factoringsTold o ≤ x
+  of-call (inl c) x h = of-tests (step p .answer) x h (c .the-outcome)
+  of-call (inr c) x h = of-tests (bounds (p .lower) (p .upper) (p .n) 0 (step p .answer)) x h (c .the-outcome)
 
 pub cost-bound : CostBound
 cost-bound p o d d' l l' w w' iw iw' c = of-call p o d d' l l' w w' iw iw' c (costBound p) (λ s. report-most p)

@@ -6,5 +6,6 @@ pub mod Clear
 pub mod Costs
 pub mod Lower
 pub mod One
-pub mod Called
 pub mod Strictly
+pub mod Called
+pub mod Placed

@@ -1,8 +1,8 @@
 -- The strict step is the step, but for bounds that mean nothing, and the lowest variable with one is told.
-use mathlib.Core.Path.{_≡_, refl, ap, subst, sym, _∙_}
+use mathlib.Core.Path.{_≡_, refl, subst, sym}
 use mathlib.Core.Bool.{Bool, true, false, _&&_, true≢false}
 use mathlib.Core.List.{List}
-use mathlib.Core.Logic.{_⊎_, inl, inr, ⊎-elim}
+use mathlib.Core.Logic.{⊎-elim}
 use Prim.Native.Nat.{ℕ, zero, suc, _+_, _<_}
 use native.Mathlib.Omega.{arith}
 use lib.Ieee.{Float}
@@ -11,10 +11,11 @@ use Rattle.workspace.specs.Tables.{Answer, refused, call, test, isDimension, is
 use Rattle.workspace.specs.declared.Refusal.the-variants.{Width, Bound}
 use Rattle.nnls.specs.Counted.{Counted}
 use Rattle.step_rows.specs.Problem.{Problem}
-use Rattle.step.specs.Step.{Step, step}
-use Rattle.step_call.specs.Promise.{areLengths, areKinds, areWidths, stepCall}
-use Rattle.step_call.specs.Strict.{isBounded, bounds, strictCall}
-use Rattle.step_call.specs.Claims.{LowestBound, all-bounded, wrong-bound, LowestVariable, StrictIsStep, StrictAsStep}
+use Rattle.step.specs.Step.{Step, step, reportOf}
+use Rattle.step_call.specs.declared.Outcome.{Outcome}
+use Rattle.step_call.specs.Promise.{areLengths, areKinds, areWidths, stepCall, Steps}
+use Rattle.step_call.specs.Strict.{isBounded, bounds}
+use Rattle.step_call.specs.Claims.{LowestBound, all-bounded, wrong-bound, LowestVariable, Tested, StrictTold, lowest-told, as-step, StrictIsStep}
 
 -- ---- the lowest variable
 
@@ -34,30 +35,35 @@ lowest-variable A l u n a = let k : 0 + n ≡ n = omega arith in subst (λ (t : 
 
 -- ---- the two calls
 
--- the one test more is the last
-module _ (p : Problem) (d l w : List Float) (iw : List ℕ) where
-  tests : Answer Step → Answer Step
-  tests a = call (isDimension (p .n) && isConstraints (p .m)) (areLengths p d l) (isRoom w iw) (areKinds (p .kinds)) (test (areWidths (p .kinds) (p .widths) (p .m)) Width a)
+module _ (p : Problem) (o : Outcome) (d d' l l' w w' : List Float) (iw iw' : List ℕ) where
+  abbrev Left : Answer Step → Type 0
+  Left c = Steps c (reportOf p) o d d' l l' w w' iw iw'
 
-  last-test : (s t r k v : Bool) (i : ℕ) (a b : Answer Step) → b ≡ refused (Bound i) → (call s t r k (test v Width b) ≡ refused (Bound i)) ⊎ (call s t r k (test v Width b) ≡ call s t r k (test v Width a))
-  last-test false t r k v i a b e = inr refl
-  last-test true false r k v i a b e = inr refl
-  last-test true true false k v i a b e = inr refl
-  last-test true true true false v i a b e = inr refl
-  last-test true true true true false i a b e = inr refl
-  last-test true true true true true i a b e = inl e
+  abbrev Strict : Type 0
+  Strict = StrictTold p o d d' l l' w w' iw iw'
 
-  decided : LowestBound (p .lower) (p .upper) (p .n) (step p .answer) (bounds (p .lower) (p .upper) (p .n) 0 (step p .answer))
-      → ((i : ℕ) × (i < p .n) × (isBounded (p .lower) (p .upper) i ≡ false) × (strictCall p d l w iw ≡ refused (Bound i))) ⊎ (strictCall p d l w iw ≡ stepCall p d l w iw)
-  unfolding tests
-  decided (all-bounded h e) = inr (ap tests e)
-  decided (wrong-bound i q h f e) =
-      ⊎-elim (λ r. inl (i, q, f, r)) (λ r. inr r)
-      (last-test (isDimension (p .n) && isConstraints (p .m)) (areLengths p d l) (isRoom w iw) (areKinds (p .kinds)) (areWidths (p .kinds) (p .widths) (p .m)) i (step p .answer) (bounds (p .lower) (p .upper) (p .n) 0 (step p .answer)) e)
+  -- the tests before that of the bounds
+  abbrev Before : (s t r k v : Bool) → Type 0
+  Before s t r k v = (s ≡ true) × (t ≡ true) × (r ≡ true) × (k ≡ true) × (v ≡ true)
+
+  behind : (a : Answer Step) → LowestBound (p .lower) (p .upper) (p .n) (step p .answer) a → Tested p d l w iw → Left a → (Left (step p .answer) → Left (stepCall p d l w iw)) → Strict
+  behind a (all-bounded h e) g q f = as-step (λ _. h) (f (subst Left e q))
+  behind a (wrong-bound i n h b e) g q f =
+      let z : Left (refused (Bound i)) = subst Left e q in
+      lowest-told g i n h b (z .the-outcome) (z .the-d, z .the-multipliers, z .the-floats, z .the-words)
+
+  -- one of them refuses both calls alike, or none does
+  through : (s t r k v : Bool) → (Tested p d l w iw → Before s t r k v) → (Before s t r k v → Tested p d l w iw)
+      → (a : Answer Step) → LowestBound (p .lower) (p .upper) (p .n) (step p .answer) a → (Left (call s t r k (test v Width (step p .answer))) → Left (stepCall p d l w iw))
+      → Left (call s t r k (test v Width a)) → Strict
+  through false t r k v g g' a b f q = as-step (λ h. absurd (true≢false (sym (g h .0)))) (f q)
+  through true false r k v g g' a b f q = as-step (λ h. absurd (true≢false (sym (g h .1)))) (f q)
+  through true true false k v g g' a b f q = as-step (λ h. absurd (true≢false (sym (g h .2)))) (f q)
+  through true true true false v g g' a b f q = as-step (λ h. absurd (true≢false (sym (g h .3)))) (f q)
+  through true true true true false g g' a b f q = as-step (λ h. absurd (true≢false (sym (g h .4)))) (f q)
+  through true true true true true g g' a b f q = behind a b (g' (refl, refl, refl, refl, refl)) q f
 
 pub strict-is-step : StrictIsStep
-strict-is-step p d l w iw = decided p d l w iw (lowest-variable Step (p .lower) (p .upper) (p .n) (step p .answer))
-
-pub strict-as-step : StrictAsStep
-strict-as-step p d l w iw h =
-    ⊎-elim (λ r. absurd (true≢false (sym (h (r .0) (r .1)) ∙ r .2))) (λ r. r) (strict-is-step p d l w iw)
+strict-is-step p o d d' l l' w w' iw iw' q =
+    through p o d d' l l' w w' iw iw' (isDimension (p .n) && isConstraints (p .m)) (areLengths p d l) (isRoom w iw) (areKinds (p .kinds)) (areWidths (p .kinds) (p .widths) (p .m)) (λ h. h) (λ h. h)
+    (bounds (p .lower) (p .upper) (p .n) 0 (step p .answer)) (lowest-variable Step (p .lower) (p .upper) (p .n) (step p .answer)) (λ h. h) q

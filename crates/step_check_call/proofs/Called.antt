@@ -1,8 +1,7 @@
 -- What a done call says is the definition's verdict, so what is shown of that holds of calls.
-use mathlib.Core.Path.{_≡_, refl, sym, _∙_}
+use mathlib.Core.Path.{_≡_, refl, sym}
 use mathlib.Core.Bool.{Bool, true, false, _&&_}
 use mathlib.Core.List.{List}
-use mathlib.Core.Logic.{_↔_}
 use Prim.Native.Nat.{ℕ}
 use native.Mathlib.Omega.{arith}
 use lib.Ieee.{Float}
@@ -13,10 +12,9 @@ use Rattle.step_rows.specs.Problem.{Problem}
 use Rattle.step_call.specs.Promise.{areKinds, areWidths}
 use Rattle.step_check.specs.Check.{Pasted, verdict}
 use Rattle.step_check.specs.declared.Verdict.{Verdict}
-use Rattle.step_check.specs.declared.Verdict.the-variants.{Yes}
-use Rattle.step_check.proofs.Shown.{yes-is-five, names-first}
+use Rattle.step_check.proofs.Shown.{names-first}
 use Rattle.step_check_call.specs.Promise.{arePasted, checkCall, outcomeOf, Checks}
-use Rattle.step_check_call.specs.Claims.{CallYesIsFive, CallNamesFirst}
+use Rattle.step_check_call.specs.Claims.{CallNamesFirst}
 use Rattle.step_check_call.specs.declared.Outcome.{Outcome}
 use Rattle.step_check_call.specs.declared.Outcome.the-variants.{Done, Refused}
 
@@ -35,12 +33,6 @@ said true true true true true true u v e = cc
 pub the-verdict : (p : Problem) (s : Pasted) (tol : Float) (v : Verdict) (w w' : List Float) (iw iw' : List ℕ) → Checks (checkCall p s tol w iw) (Done v) w w' iw iw' → v ≡ verdict p s tol
 the-verdict p s tol v w w' iw iw' c =
     said (isDimension (p .n) && isConstraints (p .m)) (arePasted p s) (isRoom w iw) (areKinds (p .kinds)) (areWidths (p .kinds) (p .widths) (p .m)) (isTolerance tol) (verdict p s tol) v (c .the-outcome)
-
-pub call-yes-is-five : CallYesIsFive
-call-yes-is-five p s tol v w w' iw iw' c =
-    let e = the-verdict p s tol v w w' iw iw' c in
-    let f = yes-is-five p s tol in
-    (λ y. f .0 (sym e ∙ y), λ h. e ∙ f .1 h)
 
 pub call-names-first : CallNamesFirst
 call-names-first p s tol t name index w w' iw iw' c = names-first p s tol t name index (sym (the-verdict p s tol _ w w' iw iw' c))

@@ -1,3 +1,4 @@
 pub mod Calls
 pub mod Called
 pub mod One
+pub mod Rows

@@ -51,7 +51,7 @@ aboveCeiling = measured 1 0 1 (four ∷ []) (two ∷ []) [] (-1 ∷ []) (neg two
 abbrev pub contradiction : Measured
 contradiction = measured 1 0 2 (one ∷ []) (one ∷ []) [] (one ∷ -1 ∷ []) (three ∷ neg two ∷ [])
 
--- one value beside another of n, with spreads and one limit
+-- 1 of spread 1 with a floor, beside another value with its spread
 abbrev pub pair : (value spread least : Float) → Measured
 pair v s b = measured 2 0 1 (one ∷ v ∷ []) (one ∷ s ∷ []) [] (one ∷ +0 ∷ []) (b ∷ [])
 

@@ -10,8 +10,9 @@ pub const LIBRARY: &str = env!("LIBRARY");
 
 macro_rules! declare {
     ($($op:ident $name:ident $symbol:tt [$($size:ident)*]
-        $(($data:ident $len:ident $role:ident))* $({$place:ident $what:ident})*
-        $([$last:ident $last_len:ident $last_role:ident])? $(<$tally:ident>)?;)*) => {
+        $(($data:ident $len:ident $role:ident))*
+        $(|$given:ident| $(($more:ident $more_len:ident $more_role:ident))*)?
+        $({$place:ident $what:ident})* $([$last:ident $last_len:ident $last_role:ident])? $(<$tally:ident>)?;)*) => {
         #[allow(dead_code)]
         mod symbols {
             unsafe extern "C" {
@@ -25,6 +26,7 @@ macro_rules! declare {
                 #[link_name = $symbol]
                 pub fn $name(
                     $($size: usize,)* $($data: peer::pointer!($role), $len: usize,)*
+                    $($given: f64, $($more: peer::pointer!($more_role), $more_len: usize,)*)?
                     $($place: peer::pointer!($what),)*
                     $($last: peer::pointer!($last_role), $last_len: usize,)?
                     $($tally: peer::pointer!($tally),)?

@@ -1,11 +1,13 @@
 //! Slips around the Rust files: in part 1, in the tests, in the round limit, in what is cleared, in
-//! places and reports, in the reading of a day, of the check and of the tests of
-//! meters.
+//! places and reports, in the reading of a day, of the check, of the tests of
+//! meters and of settled volumes.
 
 use peer::{Library, library};
 use reference::Rust;
 use reference::call::{Call, Edge, Sound, WIDTHS, passes};
+use reference::certain;
 use reference::check::{Slip, TOLERANCE, VERDICT};
+use reference::settle;
 use reference::shape::{Op, REPORT, WORKSPACES};
 use reference::suspect;
 use reference::tally::{NOWHERE, Tally};
@@ -454,5 +456,27 @@ edges! {
     SuspectSpreadFirst "suspect: 13 before 12" { const SUSPECT: suspect::Slip = suspect::Slip::SpreadFirst; }
     SuspectCleared "suspect: workspaces cleared after 12" {
         fn clears(number: u32) -> bool { number == 12 || Sound::clears(number) }
+    }
+    SettleBoundDown "settle: a sum of the bound rounded down" { const SETTLE: settle::Slip = settle::Slip::Bound(certain::Slip::RoundedDown); }
+    SettleGapLeftOut "settle: the gap of a limit left out of the bound" { const SETTLE: settle::Slip = settle::Slip::Bound(certain::Slip::GapLeftOut); }
+    SettleNotSquared "settle: a spread not squared" { const SETTLE: settle::Slip = settle::Slip::Bound(certain::Slip::NotSquared); }
+    SettleWitnessBelow "settle: a witness below zero taken by the bound" { const SETTLE: settle::Slip = settle::Slip::Bound(certain::Slip::BelowZero); }
+    SettleNanCertain "settle: a NaN that is certain" { const SETTLE: settle::Slip = settle::Slip::Bound(certain::Slip::NanCertain); }
+    SettleOneMoved "settle: a product by 1 moved" { const SETTLE: settle::Slip = settle::Slip::Bound(certain::Slip::OneMoved); }
+    SettleNothingMoved "settle: a sum with nothing moved" { const SETTLE: settle::Slip = settle::Slip::Bound(certain::Slip::NothingMoved); }
+    SettleSpreadFirst "settle: 13 before 12" { const SETTLE: settle::Slip = settle::Slip::SpreadFirst; }
+    SettleLimitFirst "settle: 15 before 12" { const SETTLE: settle::Slip = settle::Slip::LimitFirst; }
+    SettleNoneLetGo "settle: no limit let go" { const SETTLE: settle::Slip = settle::Slip::NoneLetGo; }
+    SettleFirstLetGo "settle: the first limit let go" { const SETTLE: settle::Slip = settle::Slip::FirstLetGo; }
+    SettleBalanceLetGo "settle: a limit let go for a dependent balance" { const SETTLE: settle::Slip = settle::Slip::BalanceLetGo; }
+    SettleFloorNotTaken "settle: a held floor not taken" { const SETTLE: settle::Slip = settle::Slip::FloorNotTaken; }
+    SettleBelowZeroTaken "settle: a multiplier below zero taken" { const SETTLE: settle::Slip = settle::Slip::BelowZeroTaken; }
+    SettleBoundAlone "settle: a limit broken for a smaller bound" { const SETTLE: settle::Slip = settle::Slip::BoundAlone; }
+    SettleLargerBound "settle: the worse of two answers" { const SETTLE: settle::Slip = settle::Slip::LargerBound; }
+    SettleNeedNotBeKept "settle: a certain answer that is not kept" { const SETTLE: settle::Slip = settle::Slip::NeedNotBeKept; }
+    SettleWorkedAgain "settle: a certain answer worked again" { const SETTLE: settle::Slip = settle::Slip::WorkedAgain; }
+    SettleFirstBound "settle: the bound of the first answer" { const SETTLE: settle::Slip = settle::Slip::FirstBound; }
+    SettleCleared "settle: workspaces cleared after 15" {
+        fn clears(number: u32) -> bool { number == 15 || Sound::clears(number) }
     }
 }

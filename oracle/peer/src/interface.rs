@@ -7,8 +7,8 @@ use reference::day;
 use reference::shape::Op;
 
 /// Hands the table of the lent operations to a macro. A row: the operation, its function, its
-/// symbol, its sizes, its slices (pointer, length, role), its single results or a value that is
-/// given, the slice that comes after these, and the tally.
+/// symbol, its sizes, its slices (pointer, length, role), a value that is given between slices, its
+/// single results or a value that is given there, the slice that comes after these, and the tally.
 #[macro_export]
 macro_rules! interface {
     ($apply:ident) => {
@@ -63,6 +63,14 @@ macro_rules! interface {
                 (values values_len read) (spreads spreads_len read) (balances balances_len read)
                 (still still_len kind) (numbers numbers_len write) (groups groups_len index)
                 (marks marks_len second) {misfit real} {finding found} {place count};
+            Settle settle "gritstrut_settle" [n m p]
+                (values values_len read) (spreads spreads_len read) (balances balances_len read)
+                (limits limits_len read) (least least_len read) |tolerance|
+                (settled settled_len write) (multipliers l_len write) {bound real} {place count};
+            Certify certify "gritstrut_certify" [n m p]
+                (values values_len read) (spreads spreads_len read) (balances balances_len read)
+                (limits limits_len read) (least least_len read) (settled settled_len read)
+                (multipliers l_len read) {bound real} {place count};
         }
     };
 }
@@ -89,6 +97,14 @@ macro_rules! pointer {
 macro_rules! count_size {
     ($size:ident) => {
         usize
+    };
+}
+
+/// The type of a value that is given between slices.
+#[macro_export]
+macro_rules! between {
+    ($given:ident) => {
+        f64
     };
 }
 
@@ -188,8 +204,9 @@ impl Arguments {
 
 macro_rules! define {
     ($($op:ident $name:ident $symbol:tt [$($size:ident)*]
-        $(($data:ident $len:ident $role:ident))* $({$place:ident $what:ident})*
-        $([$last:ident $last_len:ident $last_role:ident])? $(<$tally:ident>)?;)*) => {
+        $(($data:ident $len:ident $role:ident))*
+        $(|$given:ident| $(($more:ident $more_len:ident $more_role:ident))*)?
+        $({$place:ident $what:ident})* $([$last:ident $last_len:ident $last_role:ident])? $(<$tally:ident>)?;)*) => {
         /// A library's functions, by operation.
         #[derive(Clone, Copy)]
         pub struct Library {
@@ -197,7 +214,8 @@ macro_rules! define {
             pub sum: unsafe extern "C" fn(*const f64, usize) -> f64,
             pub norm: unsafe extern "C" fn(*const f64, usize) -> f64,
             $(pub $name: unsafe extern "C" fn(
-                $(count_size!($size),)* $(pointer!($role), usize,)* $(pointer!($what),)*
+                $(count_size!($size),)* $(pointer!($role), usize,)*
+                $(between!($given), $(pointer!($more_role), usize,)*)? $(pointer!($what),)*
                 $(pointer!($last_role), usize,)? $(pointer!($tally),)?
                 *mut f64, usize, *mut u32, usize,
             ) -> u32,)*
@@ -216,6 +234,8 @@ macro_rules! define {
                     $(Op::$op => {
                         $(let $size = lender.size();)*
                         $(let ($data, $len) = lender.$role();)*
+                        $(let $given = lender.given();
+                        $(let ($more, $more_len) = lender.$more_role();)*)?
                         $(let $place = lender.$what();)*
                         $(let ($last, $last_len) = lender.$last_role();)?
                         $(let $tally = lender.$tally();)?
@@ -223,7 +243,8 @@ macro_rules! define {
                             (lender.workspace(), lender.index_workspace());
                         unsafe {
                             (self.$name)(
-                                $($size,)* $($data, $len,)* $($place,)* $($last, $last_len,)?
+                                $($size,)* $($data, $len,)* $($given, $($more, $more_len,)*)?
+                                $($place,)* $($last, $last_len,)?
                                 $($tally,)?
                                 w, w_len, iw, iw_len,
                             )
@@ -236,7 +257,9 @@ macro_rules! define {
 
         $(#[allow(clippy::too_many_arguments)]
         unsafe extern "C" fn $name<K: Kernels, E: Edge>(
-            $($size: usize,)* $($data: pointer!($role), $len: usize,)* $($place: pointer!($what),)*
+            $($size: usize,)* $($data: pointer!($role), $len: usize,)*
+            $($given: f64, $($more: pointer!($more_role), $more_len: usize,)*)?
+            $($place: pointer!($what),)*
             $($last: pointer!($last_role), $last_len: usize,)? $($tally: pointer!($tally),)?
             w: *mut f64, w_len: usize, iw: *mut u32, iw_len: usize,
         ) -> u32 {
@@ -244,6 +267,8 @@ macro_rules! define {
             let mut arguments = Arguments::default();
             unsafe {
                 $(arguments.$role($data, $len);)*
+                $(arguments.given($given);
+                $(arguments.$more_role($more, $more_len);)*)?
                 $(arguments.$what($place);)*
                 $(arguments.$last_role($last, $last_len);)?
                 $(arguments.$tally($tally);)?

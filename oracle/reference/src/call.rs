@@ -3,6 +3,7 @@
 use crate::check;
 use crate::day;
 use crate::search::{Functions, Setup, Transcript};
+use crate::settle;
 use crate::shape::{Lengths, Op, REPORT, WORKSPACES};
 use crate::stand_in::{self, Failure};
 use crate::strict;
@@ -43,6 +44,11 @@ impl Call {
         Self { op, sizes, inputs, kinds, outputs, words, seconds, work: WORKSPACES }
     }
 
+    /// The tolerance of a check or of settled volumes.
+    pub fn tolerance(&self) -> Option<f64> {
+        self.op.tolerance().and_then(|at| self.inputs[at].first().copied())
+    }
+
     /// The bands of a step or a check: their constraints and widths.
     pub fn bands(&self) -> impl Iterator<Item = (usize, f64)> {
         let widths = self.inputs.get(WIDTHS).into_iter().flatten();
@@ -78,7 +84,7 @@ pub struct Answer {
     pub found: Option<suspect::Finding>,
     /// The rank; the rounds and the factorings; the place where rank was lost; or a meter.
     pub counts: Vec<u32>,
-    /// The relaxation, the misfit, or the value of a root, sum or norm.
+    /// The relaxation, the misfit, the bound of volumes, or the value of a root, sum or norm.
     pub value: Option<f64>,
     /// What a step raises the tally by, that it is lent: rounds and factorings.
     pub spent: Option<[u32; 2]>,
@@ -157,6 +163,8 @@ pub trait Edge: 'static {
     const CHECK: check::Slip = check::Slip::None;
     /// How the tests of meters are read.
     const SUSPECT: suspect::Slip = suspect::Slip::None;
+    /// How settled and certified volumes are read.
+    const SETTLE: settle::Slip = settle::Slip::None;
     /// How many f64 and u32 of the workspaces are cleared.
     const CLEARED: [usize; 2] = WORKSPACES;
     fn sqrt(x: f64) -> f64 {
@@ -301,7 +309,7 @@ pub fn passes(call: &Call, test: u32) -> bool {
         2 => fits(call),
         3 => call.work[0] >= WORKSPACES[0] && call.work[1] >= WORKSPACES[1],
         4 => call.op == Op::Suspect || call.kinds.iter().all(|&kind| kind <= 2),
-        10 => call.op != Op::Check || check::is_tolerance(call.inputs[check::TOLERANCE][0]),
+        10 => call.tolerance().is_none_or(check::is_tolerance),
         14 => call.bands().all(|(_, width)| (0.0..f64::INFINITY).contains(&width)),
         _ => strict::wrong(call, strict::bounded).is_empty(),
     }
@@ -372,6 +380,11 @@ fn arithmetic<K: Kernels, E: Edge>(call: &Call) -> Answer {
         Op::Suspect => match suspect::refused(call, E::SUSPECT) {
             Some((number, meter)) => Answer { counts: vec![meter], ..Answer::refused(number) },
             None => suspect::tested::<K>(call, E::SUSPECT),
+        },
+        Op::Settle | Op::Certify => match settle::refused(call, E::SETTLE) {
+            Some((number, place)) => Answer { counts: vec![place], ..Answer::refused(number) },
+            None if call.op == Op::Settle => settle::settled::<K>(call, E::SETTLE),
+            None => settle::certified(call, E::SETTLE),
         },
         Op::Check => Answer { words: check::verdict(call, E::CHECK), ..Answer::default() },
         Op::Step | Op::StrictStep => {

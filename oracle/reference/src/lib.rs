@@ -4,10 +4,12 @@
 extern crate self as reference;
 
 pub mod call;
+pub mod certain;
 pub mod check;
 pub mod day;
 pub mod ground;
 pub mod search;
+pub mod settle;
 pub mod shape;
 pub mod stand_in;
 pub mod strict;

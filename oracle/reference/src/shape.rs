@@ -1,6 +1,7 @@
 //! The public operations: their sizes, and how long each slice is.
 
-use crate::check::VERDICT;
+use crate::check::{self, VERDICT};
+use crate::settle;
 use crate::triangle;
 
 /// A public operation.
@@ -27,10 +28,12 @@ pub enum Op {
     StrictStep,
     Check,
     Suspect,
+    Settle,
+    Certify,
 }
 
 /// Every public operation, in the order of the port.
-pub const OPS: [Op; 21] = [
+pub const OPS: [Op; 23] = [
     Op::Sqrt,
     Op::Sum,
     Op::Norm,
@@ -52,6 +55,8 @@ pub const OPS: [Op; 21] = [
     Op::StrictStep,
     Op::Check,
     Op::Suspect,
+    Op::Settle,
+    Op::Certify,
 ];
 
 /// How many f64 and u32 the workspaces hold at least.
@@ -64,7 +69,7 @@ pub const REPORT: usize = 6;
 #[derive(Debug, Clone, PartialEq, Eq, Default)]
 pub struct Lengths {
     /// Slices of f64 that are read, and the readings of a day; the first of `update` is written too;
-    /// a check's tolerance, a slice of one, is the last.
+    /// a tolerance, a slice of one, is the last.
     pub inputs: Vec<usize>,
     /// Kinds of constraints; or which meters stand still.
     pub kinds: usize,
@@ -87,6 +92,8 @@ impl Op {
     pub fn code(self) -> usize {
         match self {
             Op::Suspect => 22,
+            Op::Settle => 23,
+            Op::Certify => 24,
             _ => self.place(),
         }
     }
@@ -120,6 +127,8 @@ impl Op {
             Op::StrictStep => "strict_step",
             Op::Check => "check",
             Op::Suspect => "suspect",
+            Op::Settle => "settle",
+            Op::Certify => "certify",
         }
     }
 
@@ -149,6 +158,15 @@ impl Op {
         matches!(self, Op::Update | Op::PackedUpdate)
     }
 
+    /// Where among the inputs its tolerance stands, as a slice of one.
+    pub fn tolerance(self) -> Option<usize> {
+        match self {
+            Op::Check => Some(check::TOLERANCE),
+            Op::Settle => Some(settle::TOLERANCE),
+            _ => None,
+        }
+    }
+
     /// Whether constraints have kinds and widths.
     pub fn has_kinds(self) -> bool {
         self.is_step() || self == Op::Check
@@ -175,6 +193,7 @@ impl Op {
             }
             Op::Step | Op::StrictStep | Op::Check => &[(1, 16), (0, 16)],
             Op::Reconcile | Op::Suspect => &[(0, 16), (0, 16)],
+            Op::Settle | Op::Certify => &[(0, 16), (0, 16), (0, 48)],
         }
     }
 
@@ -219,6 +238,14 @@ impl Op {
             }
             Op::Reconcile => (vec![first, first, first, second * first], vec![first]),
             Op::Suspect => (vec![first, first, second * first], vec![3 * first]),
+            Op::Settle => {
+                let (n, m, p) = (first, second, third);
+                (vec![n, n, m * n, p * n, p, 1], vec![n, m + p])
+            }
+            Op::Certify => {
+                let (n, m, p) = (first, second, third);
+                (vec![n, n, m * n, p * n, p, n, m + p], vec![])
+            }
             Op::Check => {
                 let (n, m) = (first, second);
                 (vec![n * n, n, m, m, m * n, n, n, n, m, n, n, 1], vec![])

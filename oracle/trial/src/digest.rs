@@ -83,7 +83,7 @@ fn tally(stored: &Stored, owed: &Answer) -> [u64; 2] {
 
 /// The single results, the last output and the permutation of QR, the report and kinds of a step,
 /// the marks of a day, the verdict and kinds of a check, all that the tests of meters tell beside
-/// their numbers.
+/// their numbers, place and bound of settled and certified volumes.
 fn mix_own(digest: &mut Digest, stored: &Stored, owed: &Answer) {
     let Stored { call, fill: Fill { output, mark, .. } } = stored;
     let counts = |i: usize| u64::from(owed.counts.get(i).copied().unwrap_or(*mark));
@@ -114,6 +114,10 @@ fn mix_own(digest: &mut Digest, stored: &Stored, owed: &Answer) {
             digest.mix_all(places(&owed.seconds, *mark));
             digest.mix(call.kinds.len() as u64);
             digest.mix_all(call.kinds.iter().map(|&still| u64::from(still)));
+        }
+        Op::Settle | Op::Certify => {
+            digest.mix(counts(0));
+            digest.mix(owed.value.map_or(pattern(f64::from_bits(*output)), pattern));
         }
         Op::Check => {
             digest.mix_all(places(&owed.words, *mark));

@@ -3,6 +3,7 @@
 use crate::draw::{Draw, SPECIAL};
 use reference::call::{Answer, Call};
 use reference::check::{LOWERS, MULTIPLIERS};
+use reference::settle::TOLERANCE;
 use reference::shape::Op;
 use reference::tally::NOWHERE;
 
@@ -112,6 +113,9 @@ impl Stored {
         if call.op == Op::Check {
             lengths[LENGTHS - 1] = call.inputs[MULTIPLIERS..].iter().map(Vec::len).sum();
         }
+        if call.op == Op::Settle {
+            lengths.swap(BEFORE_INPUTS + TOLERANCE, LENGTHS - 1);
+        }
         lengths
     }
 
@@ -138,7 +142,10 @@ impl Stored {
         let sizes: Vec<usize> = rest.words(4)?.into_iter().map(|size| size as usize).collect();
         let fill = rest.words(3)?;
         let fill = Fill { output: fill[0], room: fill[1], mark: fill[2] as u32 };
-        let lengths = rest.shorts(LENGTHS)?;
+        let mut lengths = rest.shorts(LENGTHS)?;
+        if op == Op::Settle {
+            lengths.swap(BEFORE_INPUTS + TOLERANCE, LENGTHS - 1);
+        }
         let like = op.lengths(&vec![0; op.sizes().len()]);
         let count = if op.is_lent() { like.inputs.len() } else { 1 };
         let mut inputs = vec![];

@@ -1,6 +1,7 @@
 //! Counts by kind of call.
 
 use reference::call::Answer;
+use reference::settle::NEAR;
 use reference::shape::Op;
 use reference::tally::{NOWHERE, Stage};
 
@@ -39,6 +40,9 @@ pub enum Aim {
     Agreed,
     /// Tests of meters that mark one.
     Marked,
+    /// Volumes with a bound up to 2^-10, and with a larger one.
+    Certain,
+    Uncertain,
     /// A check whose verdict is this test, or yes where it is 0.
     Verdict(u32),
 }
@@ -64,6 +68,9 @@ pub struct Counts {
     /// Tests of meters that agree, and that mark a meter.
     pub agreed: u64,
     pub marked: u64,
+    /// Volumes with a bound up to 2^-10, and with a larger one.
+    pub certain: u64,
+    pub uncertain: u64,
     /// Checks by the test that failed first, 0 where none did.
     pub verdicts: [u64; 6],
     pub different: u64,
@@ -89,12 +96,17 @@ impl Counts {
         for Stage { number, place } in owed.tally.stages {
             self.placed[number as usize] += u64::from(place != 0 && place != NOWHERE);
         }
-        if matches!(owed.number, 12 | 13) {
+        if matches!(owed.number, 12 | 13) || (owed.number == 15 && op != Op::StrictStep) {
             self.placed[owed.number as usize] += u64::from(owed.counts.first() > Some(&0));
         }
         self.named += u64::from(op == Op::Reconcile && owed.words.contains(&1));
         self.agreed += u64::from(owed.found.is_some_and(|found| found[2] == 1));
         self.marked += u64::from(owed.seconds.iter().any(|&mark| mark > 0));
+        if matches!(op, Op::Settle | Op::Certify) && done {
+            let is_certain = owed.value.is_some_and(|bound| bound <= NEAR);
+            self.certain += u64::from(is_certain);
+            self.uncertain += u64::from(!is_certain);
+        }
         if op == Op::Check && done {
             self.verdicts[owed.words[0] as usize] += 1;
         }
@@ -131,6 +143,8 @@ impl Counts {
         self.named += other.named;
         self.agreed += other.agreed;
         self.marked += other.marked;
+        self.certain += other.certain;
+        self.uncertain += other.uncertain;
         self.different += other.different;
         for (mine, theirs) in self.placed.iter_mut().zip(other.placed) {
             *mine += theirs;
@@ -159,6 +173,8 @@ impl Counts {
             Aim::Named => self.named,
             Aim::Agreed => self.agreed,
             Aim::Marked => self.marked,
+            Aim::Certain => self.certain,
+            Aim::Uncertain => self.uncertain,
             Aim::Verdict(test) => self.verdicts[test as usize],
             Aim::Stages(exact, relaxed) => self.stages[end(exact)][end(relaxed)],
         }

@@ -168,6 +168,9 @@ fn replay_lent(library: &Library, stored: &Stored, digest: &mut Digest) -> u32 {
             digest.mix(still.len() as u64);
             digest.mix_all(still.iter().map(|&mark| u64::from(mark)));
         }
+        Op::Settle | Op::Certify => {
+            digest.mix_all([u64::from(memory.counts[0]), pattern(memory.value)]);
+        }
         Op::Check => {
             digest.mix_all(longs(&memory.words));
             let kinds = &stored.call.kinds;

@@ -9,6 +9,7 @@ mod packed;
 mod parts;
 mod plain;
 mod qr;
+mod settle;
 mod spoiled;
 mod step;
 mod strict;
@@ -98,6 +99,8 @@ fn own(op: Op) -> Vec<Row> {
         Op::StrictStep => [&step::ROWS[..], &strict::ROWS].concat(),
         Op::Check => check::ROWS.to_vec(),
         Op::Suspect => suspect::ROWS.to_vec(),
+        Op::Settle => settle::ROWS.to_vec(),
+        Op::Certify => settle::CERTIFY.to_vec(),
     }
 }
 
@@ -115,6 +118,9 @@ pub fn of(op: Op) -> Vec<Kind> {
     }
     if op == Op::Check {
         rows.extend(spoiled::CHECK);
+    }
+    if op == Op::Settle {
+        rows.extend(spoiled::SETTLE);
     }
     rows.iter().map(|row| kind(op, row)).collect()
 }

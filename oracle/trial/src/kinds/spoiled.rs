@@ -4,7 +4,6 @@ use super::{Row, Share, own, packed};
 use crate::draw::{Draw, Palette};
 use crate::table::Aim::Number;
 use reference::call::{Call, WIDTHS};
-use reference::check::TOLERANCE;
 use reference::shape::{Op, WORKSPACES};
 
 pub const ROWS: [Row; 5] = [
@@ -61,6 +60,19 @@ pub const CHECK: [Row; 7] = [
         let other = draw.pick(&[bad_size, bad_workspace, bad_kind, bad_tolerance]);
         let mut call = spoilt(op, draw, &[other]);
         bad_report(&mut call, draw);
+        call
+    }),
+];
+
+/// Rows that settled volumes have besides.
+pub const SETTLE: [Row; 2] = [
+    ("bad tolerance", Share::Weight(4), &[Number(10)], |op, _, draw| {
+        spoilt(op, draw, &[bad_tolerance])
+    }),
+    ("bad tolerance, more", Share::Weight(4), &[Number(2), Number(3)], |op, _, draw| {
+        let other = draw.pick(&[bad_length, bad_workspace]);
+        let mut call = spoilt(op, draw, &[bad_tolerance]);
+        other(&mut call, draw);
         call
     }),
 ];
@@ -140,8 +152,8 @@ fn other_length(len: usize, draw: &mut Draw) -> usize {
 
 /// One slice of another length.
 pub fn bad_length(call: &mut Call, draw: &mut Draw) {
-    // A check's tolerance is no slice.
-    let slices = call.inputs.len() - usize::from(call.op == Op::Check);
+    // A tolerance is no slice.
+    let slices = call.inputs.len() - usize::from(call.op.tolerance().is_some());
     let (inputs, outputs) = (slices, call.outputs.len());
     let extra = match call.op {
         Op::Qr | Op::Reconcile => 1,
@@ -193,8 +205,8 @@ pub fn bad_kind(call: &mut Call, draw: &mut Draw) {
 
 /// A tolerance that is none.
 fn bad_tolerance(call: &mut Call, draw: &mut Draw) {
-    if call.op == Op::Check {
-        call.inputs[TOLERANCE][0] = draw.pick(&[
+    if let Some(at) = call.op.tolerance() {
+        call.inputs[at][0] = draw.pick(&[
             f64::NAN,
             -f64::NAN,
             f64::NEG_INFINITY,
