@@ -377,8 +377,8 @@ uint32_t gritstrut_mend(const uint8_t *records, size_t records_len,
  * to its front, `count` is how long it is, and the bytes behind it stay. Any bytes are taken as a sheet;
  * what is wrong with them is told in the report.
  *
- * 0 written; 2 `report` is shorter, and nothing is written. It has no workspace, and takes some
- * 190 KiB of stack. */
+ * 0 written; 2 `report` is shorter, and nothing is written. It has no workspace, and more stack
+ * than the others: of the same work in the program `day` under 96 KiB was measured, over 500 sheets. */
 #define GRITSTRUT_DAY_REPORT 81920
 
 uint32_t gritstrut_report(const uint8_t *sheet, size_t sheet_len,

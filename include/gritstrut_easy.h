@@ -442,7 +442,8 @@ static inline gritstrut_day_verdict gritstrut_verdict_of(const uint8_t *line, si
     return GRITSTRUT_DAY_UNKNOWN;
 }
 
-/* Writes the report on a sheet's bytes, and reads its verdict. It takes some 190 KiB of stack. */
+/* Writes the report on a sheet's bytes, and reads its verdict. Leave it 128 KiB of stack
+ * (gritstrut_report). */
 static inline uint32_t gritstrut_report_day(const void *sheet, size_t bytes,
                                             gritstrut_day_report *report)
 {

@@ -109,7 +109,8 @@ impl Report {
     }
 }
 
-/// The report on a day's sheet, what the command `day` writes for these bytes. It takes some 190 KiB of stack.
+/// The report on a day's sheet, what the command `day` writes for these bytes. Leave it 128 KiB of stack
+/// (include/gritstrut.h).
 ///
 /// ```
 /// use gritstrut::report::Verdict;
