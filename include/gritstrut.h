@@ -15,9 +15,9 @@
  *   for its type and valid for the length passed with it (a length of 0 goes with any pointer that
  *   is not null and is aligned); a slice that is written overlaps no other slice of the call; and
  *   the pointers of single results (rank, rounds, factorings, place, bound, relaxation, tally,
- *   misfit, finding, kept_bytes, meters, written) are distinct and overlap nothing. The processor
- *   rounds to nearest and keeps subnormal numbers, as a C program begins (some that are linked with
- *   -ffast-math do not).
+ *   misfit, finding, kept_bytes, meters, written, count) are distinct and overlap nothing. The
+ *   processor rounds to nearest and keeps subnormal numbers, as a C program begins (some that are
+ *   linked with -ffast-math do not).
  *   Everything else is taken: any size and length, and any bit pattern as a double, NaN and
  *   infinities too.
  * - w is a workspace of at least GRITSTRUT_FLOATS doubles (64 KiB) and iw one of at least
@@ -373,13 +373,13 @@ uint32_t gritstrut_mend(const uint8_t *records, size_t records_len,
                         size_t *kept_bytes, uint32_t *meters);
 
 /* The day's report for a sheet, byte for byte what the program `day` writes (docs/MANUAL.md): the
- * verdict is its first line. `report` has at least GRITSTRUT_REPORT bytes; the report goes to its
- * front, `count` is how long it is, and the bytes behind it stay. Any bytes are taken as a sheet;
+ * verdict is its first line. `report` has at least GRITSTRUT_DAY_REPORT bytes; the report goes
+ * to its front, `count` is how long it is, and the bytes behind it stay. Any bytes are taken as a sheet;
  * what is wrong with them is told in the report.
  *
- * 0 written; 2 `report` is shorter, and nothing is written. It has no workspace, and takes some
- * 190 KiB of stack. */
-#define GRITSTRUT_REPORT 81920
+ * 0 written; 2 `report` is shorter, and nothing is written. It has no workspace, and more stack
+ * than the others: of the same work in the program `day` under 96 KiB was measured, over 500 sheets. */
+#define GRITSTRUT_DAY_REPORT 81920
 
 uint32_t gritstrut_report(const uint8_t *sheet, size_t sheet_len,
                           uint8_t *report, size_t report_len, size_t *count);

@@ -400,6 +400,89 @@ static inline uint32_t gritstrut_suspect_day(const gritstrut_day *day, gritstrut
     return number;
 }
 
+/* ------------------------------------------------------------------------------ the day's report */
+
+/* What a day's report says in its first line. */
+typedef enum gritstrut_day_verdict {
+    GRITSTRUT_DAY_CLOSES,    /* the only one that can be signed */
+    GRITSTRUT_DAY_DISAGREES, /* closes, but the meters disagree */
+    GRITSTRUT_DAY_UNCHECKED, /* closes, but no meter is checked */
+    GRITSTRUT_DAY_NOT_CERTAIN,
+    GRITSTRUT_DAY_DOES_NOT_CLOSE,
+    GRITSTRUT_DAY_REFUSED,
+    GRITSTRUT_DAY_UNKNOWN /* the text is no report */
+} gritstrut_day_verdict;
+
+/* A report, 80 KiB: make it static, or allocate it. */
+typedef struct gritstrut_day_report {
+    uint8_t text[GRITSTRUT_DAY_REPORT];
+    size_t bytes;      /* of the text, which has no zero at its end */
+    size_t first_line; /* bytes of the first line, without its line feed */
+    gritstrut_day_verdict verdict;
+} gritstrut_day_report;
+
+/* Whether a line is, or where more may follow begins with, some words. */
+static inline int gritstrut_line_says(const uint8_t *line, size_t bytes, const char *words, int more)
+{
+    const size_t length = strlen(words);
+    return (more ? bytes >= length : bytes == length) && memcmp(line, words, length) == 0;
+}
+
+/* The verdict that a report's first line tells. */
+static inline gritstrut_day_verdict gritstrut_verdict_of(const uint8_t *line, size_t bytes)
+{
+    if (gritstrut_line_says(line, bytes, "closes", 0)) return GRITSTRUT_DAY_CLOSES;
+    if (gritstrut_line_says(line, bytes, "closes, but the meters disagree", 1))
+        return GRITSTRUT_DAY_DISAGREES;
+    if (gritstrut_line_says(line, bytes, "closes, but no meter is checked", 0))
+        return GRITSTRUT_DAY_UNCHECKED;
+    if (gritstrut_line_says(line, bytes, "not certain", 0)) return GRITSTRUT_DAY_NOT_CERTAIN;
+    if (gritstrut_line_says(line, bytes, "does not close", 0)) return GRITSTRUT_DAY_DOES_NOT_CLOSE;
+    if (gritstrut_line_says(line, bytes, "refused ", 1)) return GRITSTRUT_DAY_REFUSED;
+    return GRITSTRUT_DAY_UNKNOWN;
+}
+
+/* Writes the report on a sheet's bytes, and reads its verdict. Leave it 128 KiB of stack
+ * (gritstrut_report). */
+static inline uint32_t gritstrut_report_day(const void *sheet, size_t bytes,
+                                            gritstrut_day_report *report)
+{
+    const uint8_t none[1] = {0};
+    uint32_t number;
+    if (gritstrut_lacks(sheet, bytes)) return GRITSTRUT_LENGTH;
+    number = gritstrut_report(bytes > 0 ? (const uint8_t *)sheet : none, bytes, report->text,
+                              GRITSTRUT_DAY_REPORT, &report->bytes);
+    if (number != GRITSTRUT_DONE) return number;
+    report->first_line = 0;
+    while (report->first_line < report->bytes && report->text[report->first_line] != '\n')
+        report->first_line++;
+    report->verdict = gritstrut_verdict_of(report->text, report->first_line);
+    return number;
+}
+
+/* A verdict in words. */
+static inline const char *gritstrut_verdict_word(gritstrut_day_verdict verdict)
+{
+    switch (verdict) {
+    case GRITSTRUT_DAY_CLOSES: return "closes";
+    case GRITSTRUT_DAY_DISAGREES: return "closes, but the meters disagree";
+    case GRITSTRUT_DAY_UNCHECKED: return "closes, but no meter is checked";
+    case GRITSTRUT_DAY_NOT_CERTAIN: return "not certain";
+    case GRITSTRUT_DAY_DOES_NOT_CLOSE: return "does not close";
+    case GRITSTRUT_DAY_REFUSED: return "refused";
+    case GRITSTRUT_DAY_UNKNOWN: break;
+    }
+    return "no report";
+}
+
+/* The exit status that the command has for a verdict: 0 closes, 1 not to be signed, 2 refused, 3. */
+static inline int gritstrut_verdict_status(gritstrut_day_verdict verdict)
+{
+    if (verdict == GRITSTRUT_DAY_CLOSES) return 0;
+    if (verdict == GRITSTRUT_DAY_REFUSED) return 2;
+    return verdict == GRITSTRUT_DAY_UNKNOWN ? 3 : 1;
+}
+
 /* -------------------------------------------------------------------------------------- the step */
 
 /* The problem of a step: the least d'Bd / 2 + g'd, B = L L', under constraints and bounds. */

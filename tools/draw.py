@@ -583,4 +583,5 @@ def main():
         sys.exit(str(complaint))
 
 
-main()
+if __name__ == "__main__":
+    main()

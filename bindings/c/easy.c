@@ -164,6 +164,45 @@ static void try_day(void)
     }
 }
 
+static void try_report(void)
+{
+    static const char sheet[] = "title t\nmeter a 0 10 1\nmeter b 0 12 1\nbalance h a = b\ntolerance 0.001\n";
+    static const struct {
+        const char *line;
+        gritstrut_day_verdict verdict;
+        int status;
+    } lines[] = {{"closes", GRITSTRUT_DAY_CLOSES, 0},
+                 {"closes, but the meters disagree: look at a or b first", GRITSTRUT_DAY_DISAGREES, 1},
+                 {"closes, but the meters disagree", GRITSTRUT_DAY_DISAGREES, 1},
+                 {"closes, but no meter is checked", GRITSTRUT_DAY_UNCHECKED, 1},
+                 {"not certain", GRITSTRUT_DAY_NOT_CERTAIN, 1},
+                 {"does not close", GRITSTRUT_DAY_DOES_NOT_CLOSE, 1},
+                 {"refused 7: the working did not end within its rounds", GRITSTRUT_DAY_REFUSED, 2},
+                 {"closes,", GRITSTRUT_DAY_UNKNOWN, 3},
+                 {"close", GRITSTRUT_DAY_UNKNOWN, 3},
+                 {"", GRITSTRUT_DAY_UNKNOWN, 3}};
+    static gritstrut_day_report report;
+    static uint8_t text[GRITSTRUT_DAY_REPORT];
+    size_t bytes = 0, k;
+
+    memset(&report, 7, sizeof report);
+    memset(text, 7, sizeof text);
+    HOLDS(gritstrut_report_day(sheet, strlen(sheet), &report) == GRITSTRUT_DONE && report.verdict == GRITSTRUT_DAY_CLOSES);
+    HOLDS(gritstrut_report((const uint8_t *)sheet, strlen(sheet), text, sizeof text, &bytes) == GRITSTRUT_DONE);
+    HOLDS(bytes == report.bytes && same(text, report.text, sizeof text) && report.first_line == 6 && same(text, "closes\n", 7));
+    HOLDS(gritstrut_report((const uint8_t *)sheet, strlen(sheet), text, sizeof text - 1, &bytes) == GRITSTRUT_LENGTH);
+    HOLDS(bytes == report.bytes && same(text, report.text, sizeof text));
+    HOLDS(gritstrut_report_day(NULL, 0, &report) == GRITSTRUT_DONE && report.verdict == GRITSTRUT_DAY_REFUSED);
+    HOLDS(report.first_line + 1 == report.bytes && strcmp(gritstrut_verdict_word(report.verdict), "refused") == 0);
+    HOLDS(gritstrut_report_day(NULL, 1, &report) == GRITSTRUT_LENGTH);
+    for (k = 0; k < sizeof lines / sizeof *lines; k++) {
+        const char *line = lines[k].line;
+        const gritstrut_day_verdict verdict = gritstrut_verdict_of((const uint8_t *)line, strlen(line));
+        HOLDS(verdict == lines[k].verdict && gritstrut_verdict_status(verdict) == lines[k].status);
+        HOLDS(verdict == GRITSTRUT_DAY_UNKNOWN || strncmp(line, gritstrut_verdict_word(verdict), strlen(gritstrut_verdict_word(verdict))) == 0);
+    }
+}
+
 static void try_mending(void)
 {
     /* meter 1: 999999 at minute 0, 4 at minute 1, again minute 1; and a short record */
@@ -343,6 +382,7 @@ int main(void)
     }
     try_least_squares();
     try_day();
+    try_report();
     try_mending();
     try_step();
     try_hessian();

@@ -22,15 +22,20 @@ gritstrut.Refused: refused 13: a spread is not finite and above zero (meter 2)
 The library is looked for where GRITSTRUT_LIBRARY says, beside this file, in the folder that it was installed in, in the
 repository that it stands in, and where the system keeps its libraries.
 """
+import base64
 import ctypes
 import ctypes.util
+import functools
+import html
+import importlib.util
 import math
 import os
+import re
 import sys
 import threading
 from typing import Any, List, NamedTuple, Optional
 
-__all__ = ["Refused", "settle", "certify", "reconcile", "mend", "suspect", "nnls", "lsei", "Problem", "equality", "floor", "band", "step",
+__all__ = ["day", "Report", "Refused", "settle", "certify", "reconcile", "mend", "suspect", "nnls", "lsei", "Problem", "equality", "floor", "band", "step",
            "check", "Hessian", "search", "version", "MESSAGES"]
 # A doctest that is run as a script shows the same names as one that is imported.
 if __name__ == "__main__":
@@ -368,6 +373,188 @@ def suspect(values, spreads, balances, still=None) -> Suspected:
     parts = [_shape(numbers[at * n:(at + 1) * n], values) for at in range(3)]
     return Suspected(*parts, list(groups), list(marks), misfit.value, finding.freedom, finding.first, bool(finding.agree),
                      bool(finding.explained))
+
+
+# ------------------------------------------------------------------------------------------------------- the day's report
+
+class Meter(NamedTuple):
+    """A row of a report: a meter, a line or a stock, as `kind` says. `old` and `new` are words, `marks` are a list of words."""
+
+    name: str
+    kind: str
+    old: str
+    new: str
+    volume: float
+    corrected: float
+    new_spread: float
+    correction: float
+    in_spreads: float
+    test: float
+    marks: List[str]
+
+
+class Balance(NamedTuple):
+    """What a balance came to as measured, what is left of it, and whether that is within the tolerance."""
+
+    name: str
+    measured: float
+    left: float
+    within: bool
+
+
+class Limit(NamedTuple):
+    """A floor or a ceiling, as `kind` says: its amount, what its names come to, its room, and whether it is kept."""
+
+    name: str
+    kind: str
+    amount: float
+    comes_to: float
+    left: float
+    within: bool
+
+
+_VERDICTS = ("closes", "closes, but the meters disagree", "closes, but no meter is checked", "not certain", "does not close")
+_ROW = re.compile(r"(\S+) +(meter|line|stock) +(\S+) +(\S+)((?: +\S+){6})  (\S.*)")
+_NAMED = {"<0.001": 0.0, ">-0.001": -0.0, "large": math.inf, "-large": -math.inf}
+
+
+def _number(word):
+    """The number of a cell."""
+    return _NAMED[word] if word in _NAMED else float(word)
+
+
+class Report:
+    """A day's report, read: what `day` answers, or one that was stored, from its bytes or its text.
+
+    `verdict` is "closes" and may be signed, "closes, but the meters disagree", "closes, but no meter is checked",
+    "not certain", "does not close", or "refused". `first_line` is the line itself, `look_at` has the names that it tells to look
+    at first, `number` is why it is refused, else 0, and `status` the exit status that the command has.
+
+    `title`; `doubts`; `certainty`, in spreads; `misfit`, and `usual` that it may come to, both None where no meter is checked;
+    `meters`, `balances` and `limits`, lists of rows; `tolerance`; `version`; `sheet`. Of a refused day they are None or empty.
+
+    `text` is all of it and `bytes` the same, to the last byte; a byte of a sheet that is no UTF-8 is a surrogate in the text.
+    A number that is not zero and reads `<0.001` or `>-0.001` is 0.0 or -0.0 here, and `large` is infinite.
+    """
+
+    def __init__(self, report):
+        self.bytes = _bytes(report)
+        self.text = self.bytes.decode("utf-8", "surrogateescape")
+        self.title = self.certainty = self.misfit = self.usual = self.tolerance = self.version = self.sheet = None
+        self.doubts, self.look_at, self.meters, self.balances, self.limits = [], [], [], [], []
+        self.number = 0
+        self.first_line, _, rest = self.text.partition("\n")
+        refused = re.match(r"refused ([0-9]+): ", self.first_line)
+        self.verdict, _, look = self.first_line.partition(": ")
+        if refused and not rest:
+            self.verdict, self.number = "refused", int(refused.group(1))
+        elif self.verdict in _VERDICTS:
+            self.look_at = [name for name in look.replace("look at ", "", 1).replace(" first", "").split(" or ") if name]
+            try:
+                self._read(rest)
+            except (AttributeError, IndexError, TypeError, ValueError):
+                raise ValueError("this report of a day is cut off, or was changed") from None
+        else:
+            raise ValueError("this is no report of a day")
+        self.status = {"closes": 0, "refused": 2}.get(self.verdict, 1)
+
+    def _read(self, rest):
+        """What stands below the verdict: parts with an empty line between them, and the sheet."""
+        head, found, tail = rest.partition("\n\nsheet of ")
+        count, _, self.sheet = tail.partition(" bytes\n")
+        if not found or not count.isdecimal() or len(_bytes(self.sheet)) != int(count):
+            raise ValueError
+        first, meters, balances, *limits, last = (part.split("\n") for part in head.strip("\n").split("\n\n"))
+        title, *doubts, certain, misfit = first
+        self.title, self.doubts = title[len("title "):], [doubt[len("doubt "):] for doubt in doubts]
+        self.certainty = float(certain.split()[2]) if certain.startswith("certain to ") else math.inf
+        told = re.fullmatch(r"misfit (\S+), usual up to (\S+)", misfit)
+        if told:
+            self.misfit, self.usual = map(_number, told.groups())
+        for name, kind, old, new, cells, marks in (_ROW.fullmatch(row).groups() for row in meters[1:]):
+            self.meters.append(Meter(name, kind, old, new, *map(_number, cells.split()),
+                                     [mark for mark in marks.split("  ") if mark != "-"]))
+        for name, *cells, within in map(str.split, balances[1:]):
+            self.balances.append(Balance(name, *map(_number, cells), within == "yes"))
+        for name, kind, *cells, within in map(str.split, limits[0][1:] if limits else ()):
+            self.limits.append(Limit(name, kind, *map(_number, cells), within == "yes"))
+        self.tolerance, self.version = _number(last[0].split()[1]), last[1].split()[1]
+
+    def __repr__(self):
+        return f"<Report: {self.first_line}>"
+
+    def __str__(self):
+        return self.bytes.decode("utf-8", "replace")
+
+    def __eq__(self, other):
+        return isinstance(other, Report) and self.bytes == other.bytes
+
+    def __hash__(self):
+        return hash(self.bytes)
+
+    def svg(self) -> Optional[str]:
+        """The picture, by draw.py of Gritstrut's tools; None where that is not found."""
+        drawing = _drawing()
+        return drawing.draw(str(self)) if drawing else None
+
+    _repr_svg_ = svg
+
+    def _repr_html_(self):
+        """The picture as a page of its own, so that its styles stay in it; else the text."""
+        picture = self.svg()
+        if picture is None:
+            return f"<pre>{html.escape(str(self))}</pre>"
+        coded = base64.b64encode(picture.encode()).decode()
+        return f'<img alt="{html.escape(self.first_line)}" src="data:image/svg+xml;base64,{coded}">'
+
+
+def _bytes(text):
+    return text.encode("utf-8", "surrogateescape") if isinstance(text, str) else bytes(text)
+
+
+@functools.lru_cache(maxsize=None)
+def _drawing():
+    """tools/draw.py, where it is found: beside this file, as it is installed, or in the repository that this file stands in."""
+    here = os.path.dirname(os.path.abspath(__file__))
+    for path in (os.path.join(here, "draw.py"), os.path.join(here, "..", "..", "tools", "draw.py")):
+        if not os.path.isfile(path):
+            continue
+        with open(path, encoding="utf-8", errors="replace") as source:
+            if "A picture of a day's report" not in source.read(200):
+                continue  # a file of the user's own that has this name
+        spec = importlib.util.spec_from_file_location("gritstrut_draw", path)
+        module = importlib.util.module_from_spec(spec)
+        spec.loader.exec_module(module)
+        return module
+    return None
+
+
+def day(text) -> Report:
+    """The report on a day's sheet, text or bytes, as the command writes it; in a notebook it shows its picture.
+
+    >>> report = day('''title Header 1, Tuesday (m3)
+    ... meter generator-A  431250 432450  10      # before, after, spread
+    ... meter generator-B  999710 000500  10
+    ... meter vessel-1     020000 021310  20
+    ... meter vessel-2     750300 751000   5
+    ... balance header-1  generator-A generator-B = vessel-1 vessel-2
+    ... tolerance 0.001
+    ... ''')
+    >>> report.verdict, report.title, report.certainty, report.misfit
+    ('closes', 'Header 1, Tuesday (m3)', 1e-06, 0.64)
+    >>> [(meter.name, meter.volume, meter.corrected, meter.marks) for meter in report.meters][:2]
+    [('generator-A', 1200.0, 1203.2, []), ('generator-B', 790.0, 793.2, ['rolled'])]
+    >>> report.balances
+    [Balance(name='header-1', measured=-20.0, left=-0.0, within=True)]
+
+    Nothing is raised for a sheet that is refused; the report says why.
+
+    >>> day("title t\\nmeter a 10 20\\n")
+    <Report: refused 9: line 2: expected a decimal number above zero, found the end of the line>
+    """
+    given, report, count = _bytes(text), _room(_BYTE, 81920), _SIZE()
+    _raise(_call("report", (_BYTE * len(given)).from_buffer_copy(given), report, ctypes.byref(count), lent=False))
+    return Report(memoryview(report)[:count.value])
 
 
 # -------------------------------------------------------------------------------------------------------- least squares

@@ -1,10 +1,14 @@
-"""What the docstrings of gritstrut.py do not show: the kinds of arrays, threads, refusals, and the search of examples/valves.c."""
+"""What the docstrings of gritstrut.py do not show: the kinds of arrays, threads, refusals, the stored reports, and the search of
+examples/valves.c."""
 import array
+import base64
 import doctest
 import math
 import os
+import shutil
 import subprocess
 import sys
+import tempfile
 import threading
 import types
 import unittest
@@ -150,6 +154,127 @@ class Refusals(unittest.TestCase):
         ended = subprocess.run(words, env=dict(os.environ, GRITSTRUT_LIBRARY="/nowhere.so"), capture_output=True, text=True)
         self.assertNotEqual(ended.returncode, 0)
         self.assertIn("libgritstrut.so is not found", ended.stderr)
+
+
+EXAMPLES = os.path.join(os.path.dirname(os.path.abspath(__file__)), "..", "..", "examples")
+
+
+def stored(name):
+    with open(os.path.join(EXAMPLES, name), "rb") as source:
+        return source.read()
+
+
+class Reports(unittest.TestCase):
+    def test_stored_reports(self):
+        names = sorted(name[:-len(".sheet")] for name in os.listdir(EXAMPLES) if name.endswith(".sheet"))
+        self.assertGreaterEqual(len(names), 6)
+        for name in names:
+            sheet, owed = stored(name + ".sheet"), stored(name + ".report")
+            report = gritstrut.day(sheet)
+            self.assertEqual(report.bytes, owed, name)
+            self.assertEqual((report, hash(report)), (gritstrut.day(sheet.decode()), hash(gritstrut.Report(owed.decode()))))
+            self.assertEqual(report.sheet.encode(), sheet)
+            self.told_again(report)
+
+    def told_again(self, report):
+        """Every number that was read stands in the report."""
+        lines = report.text.split("\n")
+        told = lambda number, cell: cell in ("<0.001", ">-0.001") or f"{number:.3f}" == cell  # noqa: E731
+        for rows, heading, words in ((report.meters, "name ", 2), (report.balances, "balance ", 1), (report.limits, "limit ", 2)):
+            at = next((k for k, line in enumerate(lines) if line.startswith(heading)), None)
+            self.assertEqual(at is None, not rows)
+            for k, row in enumerate(rows):
+                cells = lines[at + 1 + k].split()
+                self.assertEqual(list(row[:words]), cells[:words])
+                for number, cell in zip(row[words:], cells[words:]):
+                    self.assertTrue(number == cell if isinstance(number, str) else number == (cell == "yes") if isinstance(number, bool)
+                                    else isinstance(number, list) or told(number, cell), (row, cell))
+            self.assertEqual(lines[at + 1 + len(rows)] if rows else "", "")
+        self.assertIn(f"title {report.title}", lines)
+        self.assertIn(f"misfit {report.misfit:.3f}, usual up to {report.usual:.3f}", lines)
+        self.assertIn(f"gritstrut {report.version}", lines)
+
+    def test_what_the_plant_says(self):
+        plant = gritstrut.day(stored("plant.sheet"))
+        self.assertEqual((plant.verdict, plant.status, plant.look_at, plant.doubts), ("closes", 0, [], []))
+        self.assertEqual((plant.certainty, plant.misfit, plant.usual, plant.tolerance), (1e-5, 1.337, 9.488, 0.001))
+        self.assertEqual(plant.meters[8], ("reactor-1", "meter", "998930", "000765", 1835.0, 1826.686, 15.738, -8.314, -0.462, -0.849, ["rolled"]))
+        self.assertEqual((plant.meters[12].kind, plant.meters[12].old, plant.meters[13].kind), ("line", "-", "stock"))
+        self.assertEqual(plant.balances[1], ("north", 11.0, -0.0, True))
+        self.assertEqual(plant.limits[1], ("compressors", "ceiling", 7680.0, 7680.0, 0.0, True))
+        stuck = gritstrut.day(stored("plant-stuck.sheet"))
+        self.assertEqual((stuck.verdict, stuck.status, stuck.look_at), ("closes, but the meters disagree", 1, ["dryer", "packing"]))
+        self.assertEqual([meter.name for meter in stuck.meters if "look here" in meter.marks], stuck.look_at)
+        self.assertEqual((gritstrut.day(stored("twice.sheet")).verdict, gritstrut.day(stored("twice.sheet")).status), ("not certain", 1))
+
+    def test_days_of_other_kinds(self):
+        lone = gritstrut.day("title t\ndoubt one\ndoubt two: #2\nmeter a 5 5 1\nmeter b 3 3 1\nbalance h a = b\ntolerance 1\n# \xfc \r\n")
+        self.assertEqual((lone.verdict, lone.misfit, lone.usual, lone.doubts), ("closes, but no meter is checked", None, None, ["one", "two: #2"]))
+        self.assertTrue(lone.sheet.endswith("# \xfc \r\n"))
+        latin = gritstrut.day(lone.bytes[-len(_utf8(lone.sheet)):].replace(b"\xc3\xbc", b"\xfc"))
+        self.assertEqual(gritstrut.day(latin.sheet), latin)
+        self.assertIn("\ufffd", str(latin))
+        sharp = gritstrut.day(stored("header.sheet").replace(b"tolerance 0.001", b"tolerance 0.0000001"))
+        self.assertEqual((sharp.verdict, sharp.tolerance), ("closes", 0.0))
+        for refused, number in ((gritstrut.day(""), 9), (gritstrut.day(b"#" * 65537), 9),
+                                (gritstrut.day("title t\nmeter a 0 9 1\nmeter b 0 9 1\nbalance h a = b\nbalance k a = b\ntolerance 1\n"), 11)):
+            self.assertEqual((refused.verdict, refused.number, refused.status, refused.meters, refused.sheet), ("refused", number, 2, [], None))
+
+    def test_drawn_days(self):
+        """Sheets of every kind that the second reading of the rules draws (oracle/day): each report is read and drawn."""
+        sys.path.append(os.path.join(EXAMPLES, "..", "oracle", "day"))
+        import draws
+        seen = set()
+        for index in range(600):
+            sheet = draws.drawn(7, index)[1]
+            report = gritstrut.day(sheet)
+            seen.add(report.verdict)
+            if report.verdict != "refused":
+                self.assertEqual(report.sheet.encode("utf-8", "surrogateescape"), sheet)
+                rows = report.text.split("\n\n")[2].split("\n")[1:]
+                self.assertEqual([row.split()[:4] for row in rows], [list(meter[:4]) for meter in report.meters])
+            self.assertTrue(report.svg().startswith("<svg "))
+        self.assertEqual(len(seen), 6)
+
+    def test_what_is_no_report(self):
+        report = stored("twice.report")
+        for end in range(len(report)):
+            self.assertRaises(ValueError, gritstrut.Report, report[:end])
+        self.assertRaises(ValueError, gritstrut.Report, report + b" ")
+        self.assertRaises(ValueError, gritstrut.Report, "refused: KEPT is there already\n")
+
+    def test_pictures(self):
+        for name in ("plant.sheet", "plant-stuck.sheet"):
+            report = gritstrut.day(stored(name))
+            picture = report._repr_svg_()
+            self.assertTrue(picture.startswith("<svg ") and report.title in picture)
+            self.assertIn(base64.b64encode(picture.encode()).decode(), report._repr_html_())
+        with open(os.path.join(EXAMPLES, "..", "docs", "day.svg"), encoding="utf-8") as owed:
+            self.assertEqual(gritstrut.day(stored("plant.sheet")).svg(), owed.read())
+        self.assertIn("refused 9", gritstrut.day("")._repr_svg_())
+
+    def test_without_the_drawing(self):
+        drawing = gritstrut._drawing
+        gritstrut._drawing = lambda: None
+        try:
+            report = gritstrut.day(stored("header.sheet").replace(b"header-1", b"h<b>"))
+            self.assertIsNone(report._repr_svg_())
+            self.assertTrue(report._repr_html_().startswith("<pre>closes\n") and "h&lt;b&gt;" in report._repr_html_())
+        finally:
+            gritstrut._drawing = drawing
+
+    def test_another_file_of_that_name(self):
+        with tempfile.TemporaryDirectory() as folder:
+            shutil.copy(gritstrut.__file__, folder)
+            with open(os.path.join(folder, "draw.py"), "w") as other:
+                other.write("raise SystemExit('this was run')\n")
+            words = [sys.executable, "-c", "import sys; sys.path.insert(0, %r); import gritstrut; print(gritstrut._drawing())" % folder]
+            ended = subprocess.run(words, env=dict(os.environ, GRITSTRUT_LIBRARY=gritstrut._library._name), capture_output=True, text=True)
+            self.assertEqual((ended.returncode, ended.stdout), (0, "None\n"), ended.stderr)
+
+
+def _utf8(text):
+    return text.encode("utf-8")
 
 
 SET_POINTS, SIZES, SUPPLIES, LEAST = (0.60, 0.55, 6.0), (900.0, 700.0), (8.0, 7.2), (150.0, 190.0)

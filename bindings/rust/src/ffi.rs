@@ -54,6 +54,9 @@ extern "C" {
         totals: *mut u64, totals_len: usize, rollovers: *mut u64, rollovers_len: usize, kept_bytes: *mut usize,
         meters: *mut u32,
     ) -> u32;
+    pub fn gritstrut_report(
+        sheet: *const u8, sheet_len: usize, report: *mut u8, report_len: usize, count: *mut usize,
+    ) -> u32;
     pub fn gritstrut_settle(
         n: usize, m: usize, p: usize, values: *const f64, values_len: usize, spreads: *const f64,
         spreads_len: usize, balances: *const f64, balances_len: usize, limits: *const f64, limits_len: usize,
