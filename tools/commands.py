@@ -498,11 +498,36 @@ def any_instant(tries):
     row(f"mend: ended at {tries} instants, the day changed or KEPT there and not whole", 0, bad, f"KEPT {seen}")
 
 
+def walk(room):
+    """From the loggers' records to the picture, through a link: the files that are stored."""
+    link, examples = os.path.join(room, "gritstrut"), os.path.join(ROOT, "examples")
+    os.symlink(COMMAND, link)
+    steps = (("mend", os.path.join(examples, "plant.readings"), "kept", "dropped", "-o", "totals"), ("sheet", "kept", PLANT, "-o", "sheet"),
+             ("day", "sheet", "-o", "report"), ("draw", "report", "-o", "picture"))
+    row("the whole way, through a link", [0] * 4, [run([link, *words], cwd=room)[0] for words in steps])
+    for name, stored in (("sheet", "examples/plant.sheet"), ("report", "examples/plant.report"), ("picture", "docs/day.svg")):
+        with open(os.path.join(room, name), "rb") as came, open(os.path.join(ROOT, stored), "rb") as owed:
+            row(f"the whole way: the {name} is {stored}", mark(owed.read()), mark(came.read()))
+
+
+def manual():
+    """The man page: no warning, and a section for each word."""
+    if not shutil.which("groff"):
+        skipped.append("the man page: there is no groff")
+        return
+    done = run(["groff", "-man", "-ww", "-Tascii", "-P-c", os.path.join(ROOT, "docs", "gritstrut.1")])
+    row("the man page, by groff -man -ww", (0, b""), (done[0], done[2]))
+    sections = re.sub(rb".\x08", b"", done[1]).decode().split("\n")
+    row("the man page: a section for each word", [], [word for word in (*WORDS, "version", "help") if word.upper() not in sections])
+
+
 def tried(room):
     os.chmod(room, 0o777)
     os.environ["TMPDIR"] = tempfile.tempdir = room
     table(tempfile.mkdtemp())
     asked()
+    walk(tempfile.mkdtemp())
+    manual()
     statuses(tempfile.mkdtemp())
     fakes(tempfile.mkdtemp())
     for words in ([], ["day"], ["day", "kept"], ["day", "kept", "dropped", "more"]):
