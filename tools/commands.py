@@ -510,6 +510,13 @@ def walk(room):
             row(f"the whole way: the {name} is {stored}", mark(owed.read()), mark(came.read()))
 
 
+def shown_table():
+    """docs/TABLE.md shows what is written."""
+    out = run([COMMAND, "table", "examples/header.report"], cwd=ROOT)[1].decode()
+    with open(os.path.join(ROOT, "docs", "TABLE.md"), encoding="utf-8") as page:
+        row("docs/TABLE.md shows the table of examples/header.report as it is", True, "".join(f"    {line}\n" for line in out.splitlines()) in page.read())
+
+
 def manual():
     """The man page: no warning, and a section for each word."""
     if not shutil.which("groff"):
@@ -527,6 +534,7 @@ def tried(room):
     table(tempfile.mkdtemp())
     asked()
     walk(tempfile.mkdtemp())
+    shown_table()
     manual()
     statuses(tempfile.mkdtemp())
     fakes(tempfile.mkdtemp())

@@ -60,10 +60,10 @@ def main():
     if not 2 <= len(sys.argv) <= 5 or not all(word.isdecimal() for word in sys.argv[2:]):
         sys.exit(__doc__)
     cabinets, days, seed = [int(word) for word in sys.argv[2:]] + [2000, 5, 1][len(sys.argv) - 2:]
-    count = {"sheets": 0, "meters wrong": 0, "slips of the hand": 0, "cabinets with a meter wrong every day": 0}
+    count, wrong = {"sheets": 0, "meters wrong": 0, "slips of the hand": 0}, []
     for number in range(cabinets):
         cabinet = Cabinet(number, random.Random(f"fleet {seed} {number}"))
-        count["cabinets with a meter wrong every day"] += bool(cabinet.wrong)
+        wrong += [f"{cabinet.name} {cabinet.wrong}"] * bool(cabinet.wrong)
         os.makedirs(os.path.join(sys.argv[1], cabinet.name), exist_ok=True)
         for day in range(days):
             date = datetime.date(2026, 4, 13) + datetime.timedelta(day)
@@ -71,6 +71,7 @@ def main():
                 out.write(cabinet.sheet(date, count))
             count["sheets"] += 1
     print(", ".join(f"{number} {what}" for what, number in count.items()))
+    print("wrong every day:", ", ".join(wrong))
 
 
 main()
