@@ -429,6 +429,12 @@ def failures():
         if subprocess.run(["sh", "-c", disk + " && umount small"], cwd=room, capture_output=True).returncode:
             skipped.append("a small disk: it cannot be mounted")
             return
+    with tempfile.TemporaryDirectory() as room:
+        sheet = written("sheet", CLOSES, room)
+        subprocess.run(["sh", "-c", disk + "; echo old > small/report; head -c 65536 /dev/zero > small/filler"], cwd=room, capture_output=True)
+        before = held(os.path.join(room, "small"))
+        row("day: -o on a full disk", (3, True), (run([COMMAND, "day", sheet, "-o", "small/report"], cwd=room)[0], held(os.path.join(room, "small")) == before))
+        subprocess.run(["umount", "small"], cwd=room, check=True)
     mend("a full disk: KEPT", 3, "small/kept", "dropped", disk, data=sound)
     mend("a full disk: DROPPED", 3, "kept", "small/dropped", disk, data=b"\1" * 131072)
     mend("a full disk: both", 3, "small/kept", "small/dropped", disk, data=sound + b"\1" * 131072)
@@ -488,7 +494,7 @@ def any_instant(tries):
                 command.wait()
                 length = time.time() - started
                 continue
-            time.sleep(rng.random() * length)
+            time.sleep(rng.uniform(0.3, 1.1) * length)
             os.killpg(command.pid, signal.SIGKILL)
             command.wait()
             now = held(room)
@@ -498,16 +504,25 @@ def any_instant(tries):
     row(f"mend: ended at {tries} instants, the day changed or KEPT there and not whole", 0, bad, f"KEPT {seen}")
 
 
-def walk(room):
+def installed(room):
+    """A copy as it is installed, and the link to its command in another folder."""
+    for name, folder, place in (("gritstrut", HERE, "bin"), *((name, os.path.join(ROOT, "target", "bin"), "libexec/gritstrut") for name in ("day", "records", "mend_files")),
+                                *((name, HERE, "libexec/gritstrut") for name in ("day.py", "draw.py"))):
+        os.makedirs(os.path.join(room, place), exist_ok=True)
+        shutil.copy(os.path.join(folder, name), os.path.join(room, place))
+    return os.path.join(room, "bin", "gritstrut")
+
+
+def walk(room, command, how):
     """From the loggers' records to the picture, through a link: the files that are stored."""
     link, examples = os.path.join(room, "gritstrut"), os.path.join(ROOT, "examples")
-    os.symlink(COMMAND, link)
+    os.symlink(command, link)
     steps = (("mend", os.path.join(examples, "plant.readings"), "kept", "dropped", "-o", "totals"), ("sheet", "kept", PLANT, "-o", "sheet"),
              ("day", "sheet", "-o", "report"), ("draw", "report", "-o", "picture"))
-    row("the whole way, through a link", [0] * 4, [run([link, *words], cwd=room)[0] for words in steps])
+    row(f"the whole way, {how}", [0] * 4, [run([link, *words], cwd=room)[0] for words in steps])
     for name, stored in (("sheet", "examples/plant.sheet"), ("report", "examples/plant.report"), ("picture", "docs/day.svg")):
         with open(os.path.join(room, name), "rb") as came, open(os.path.join(ROOT, stored), "rb") as owed:
-            row(f"the whole way: the {name} is {stored}", mark(owed.read()), mark(came.read()))
+            row(f"the whole way, {how}: the {name} is {stored}", mark(owed.read()), mark(came.read()))
 
 
 def shown_table():
@@ -533,7 +548,8 @@ def tried(room):
     os.environ["TMPDIR"] = tempfile.tempdir = room
     table(tempfile.mkdtemp())
     asked()
-    walk(tempfile.mkdtemp())
+    walk(tempfile.mkdtemp(), COMMAND, "through a link")
+    walk(tempfile.mkdtemp(), installed(tempfile.mkdtemp()), "installed")
     shown_table()
     manual()
     statuses(tempfile.mkdtemp())
