@@ -364,8 +364,8 @@ enum {
  * volumes between kept neighbours, a reading below the one before it being one rollover of
  * 1,000,000; 0 for a meter without a kept record. *meters has bit i set where meter i has one.
  * The number is 0, or 2. There is no workspace; 512 bytes of state stand on the stack. A call is a
- * whole day: the minutes before it are not known. The program tools/mend takes files of any length
- * in pieces. */
+ * whole day: the minutes before it are not known. The command `gritstrut mend` takes files, in
+ * pieces. */
 uint32_t gritstrut_mend(const uint8_t *records, size_t records_len,
                         uint8_t *kept, size_t kept_len, uint8_t *reasons, size_t reasons_len,
                         uint64_t *totals, size_t totals_len,

@@ -1,7 +1,7 @@
 #!/usr/bin/env python3
 """A picture of a day's report: it fits on A4, in colour or in grey, with a line for the signature.
 
-    draw.py [REPORT] > PICTURE.svg     of a report of tools/day, or of one on standard input
+    draw.py [REPORT] > PICTURE.svg     of a report of `gritstrut day`, or of one on standard input; `gritstrut draw` is its front
     draw.py --test                     tries it, and that docs/day.svg is the picture of examples/plant.report
 
 It shows what the report says and works out nothing but lengths. A unit in brackets at the title's end, as in `Plant 7, 2026-11-15 (m3)`, stands at the axis.
@@ -38,13 +38,13 @@ class Report:
         if self.head not in VERDICTS or self.take():
             self.complain()
         self.title = self.after("title ")
-        while self.lines[self.at].startswith("doubt "):
+        while self.next().startswith("doubt "):
             self.doubts.append(self.after("doubt "))
         self.certain, self.misfit = self.take(), self.take()
         self.take()
         self.items = [self.item(line) for line in self.table("name ")]
         self.balances = [line.split() for line in self.table("balance ")]
-        if self.lines[self.at].startswith("limit "):
+        if self.next().startswith("limit "):
             self.limits = [line.split() for line in self.table("limit ")]
         self.tolerance, self.version = self.after("tolerance "), self.take()
         widths = [len(row) for row in self.balances] + [len(row) - 2 for row in self.limits]
@@ -52,13 +52,17 @@ class Report:
             self.complain()
 
     def complain(self):
-        raise Complaint(f"{self.path}: not a report of tools/day")
+        raise Complaint(f"{self.path}: not a report of gritstrut day")
 
-    def take(self):
+    def next(self):
         if self.at == len(self.lines):
             self.complain()
+        return self.lines[self.at]
+
+    def take(self):
+        line = self.next()
         self.at += 1
-        return self.lines[self.at - 1]
+        return line
 
     def after(self, word):
         line = self.take()
