@@ -6,6 +6,7 @@ slopes, from the measured values. The half is for their sake: both begin with B 
 volumes, for feasible; SciPy's ftol is 1e-15. Each may take 1,000 evaluations or iterations.
 """
 import ctypes
+import math
 import sys
 
 STOP, FEASIBLE, MOST = 1e-15, 1e-3, 1000
@@ -39,6 +40,23 @@ class Scaled:
         self.balances, self.limits = times(d.balances), times(d.limits)
 
 
+class Bounded:
+    """The same day with its limits, each of which is of one meter, as bounds."""
+
+    def __init__(self, d):
+        self.n, self.values, self.spreads, self.balances, self.limits, self.least = d.n, d.values, d.spreads, d.balances, [], []
+        self.bounds = [-math.inf] * d.n, [math.inf] * d.n
+        for row, least in zip(rows(d.limits, d.n), d.least):
+            i = next(i for i, c in enumerate(row) if c)
+            self.bounds[row[i] < 0][i] = least / row[i]
+
+
+def start(d):
+    """The measured values, moved into the bounds where there are any: NLopt begins nowhere else."""
+    lower, upper = getattr(d, "bounds", (d.values, d.values))
+    return [min(max(v, low), high) for v, low, high in zip(d.values, lower, upper)]
+
+
 class NLopt:
     def __init__(self):
         self.wrong, self.made = None, ctypes.CDLL("libnlopt.so.0")
@@ -48,7 +66,8 @@ class NLopt:
         made.nlopt_set_min_objective.argtypes, made.nlopt_set_ftol_rel.argtypes = [POINTER, FUNCTION, POINTER], [POINTER, NUMBER]
         for kind in "equality", "inequality":
             getattr(made, f"nlopt_add_{kind}_constraint").argtypes = [POINTER, FUNCTION, POINTER, NUMBER]
-        made.nlopt_optimize.argtypes = [POINTER, NUMBERS, NUMBERS]
+        for name in "optimize", "set_lower_bounds", "set_upper_bounds":
+            getattr(made, f"nlopt_{name}").argtypes = [POINTER, NUMBERS] + [NUMBERS] * (name == "optimize")
         version = [ctypes.c_int() for _ in range(3)]
         made.nlopt_version(*map(ctypes.byref, version))
         self.name = "NLopt " + ".".join(str(part.value) for part in version)
@@ -67,6 +86,9 @@ class NLopt:
     def constrained(self, opt, d):
         """Adds the constraints, and answers what must be kept while they are asked."""
         kept = []
+        if hasattr(d, "bounds"):
+            self.made.nlopt_set_lower_bounds(opt, (NUMBER * d.n)(*d.bounds[0]))
+            self.made.nlopt_set_upper_bounds(opt, (NUMBER * d.n)(*d.bounds[1]))
         for row in rows(d.balances, d.n):
             kept.append(self.told(lambda x, row=row: sum_of(row, x), lambda x, row=row: row))
             self.made.nlopt_add_equality_constraint(opt, kept[-1], None, FEASIBLE)
@@ -82,7 +104,7 @@ class NLopt:
         kept = self.constrained(opt, d)
         self.made.nlopt_set_ftol_rel(opt, STOP)
         self.made.nlopt_set_maxeval(opt, MOST)
-        x, least = (NUMBER * d.n)(*d.values), NUMBER()
+        x, least = (NUMBER * d.n)(*start(d)), NUMBER()
         status = self.made.nlopt_optimize(opt, x, ctypes.byref(least))
         self.made.nlopt_destroy(opt)
         del kept
@@ -101,7 +123,8 @@ class SciPy:
         held = [{"type": "eq", "fun": lambda x, row=row: sum_of(row, x), "jac": lambda x, row=row: row} for row in rows(d.balances, d.n)]
         held += [{"type": "ineq", "fun": lambda x, row=row, least=least: sum_of(row, x) - least, "jac": lambda x, row=row: row}
                  for row, least in zip(rows(d.limits, d.n), d.least)]
-        found = self.minimize(lambda x: total(d, x), d.values, jac=lambda x: slopes(d, x), method="SLSQP", constraints=held,
+        bounds = list(zip(*d.bounds)) if hasattr(d, "bounds") else None
+        found = self.minimize(lambda x: total(d, x), start(d), jac=lambda x: slopes(d, x), method="SLSQP", constraints=held, bounds=bounds,
                               options={"ftol": STOP, "maxiter": MOST})
         return [float(u) for u in found.x], bool(found.success), found.status
 
@@ -118,7 +141,17 @@ def at_hand():
     return found
 
 
+def as_stated(peer, d):
+    return peer(d)
+
+
 def in_spreads(peer, d):
-    """What a peer answers where it is given the day in spreads."""
     x, said, status = peer(Scaled(d))
     return [u * s for u, s in zip(x, d.spreads)], said, status
+
+
+def by_bounds(peer, d):
+    return peer(Bounded(d))
+
+
+WAYS = ("", as_stated), (", in spreads", in_spreads), (", limits as bounds", by_bounds)

@@ -51,7 +51,7 @@ def off(d, x, best):
     return max(abs(float((Fraction(u) - b) / Fraction(s))) for u, b, s in zip(x, best, d.spreads))
 
 
-def asked(peer, how=lambda peer, d: peer(d)):
+def asked(peer, how=peers.as_stated):
     """For each family a peer's errors at the distances, and whether it says success; nothing of one that is not there."""
     found = {name: [] for name, _, _ in FAMILIES}
     for z in DISTANCES if peer else ():
@@ -153,15 +153,16 @@ def lines(rows):
             distance, *ours = rows[name][k]
             told = "".join(f"{word(found[name][k][1]):>11}  {'done' if found[name][k][2] else 'fails'}  " if found[name] else f"{'-':>11}  -  " for found in theirs)
             print(f"{name:<8}{distance:>10.0e}{word(ours[0]):>11}{word(ours[1]):>11}{word(ours[2]):>13}{word(ours[3]):>10}{told}".rstrip())
-    for peer, found in zip(two, theirs):
+    for peer in two:
         if peer:
-            successes(peer, found)
+            successes(peer)
             vent(peer)
 
 
-def successes(peer, found):
-    """What a peer says at all distances, and how far it is off where it says success; the same where it is given the days in spreads."""
-    for words, points in ("", found), (", in spreads", asked(peer, peers.in_spreads)):
+def successes(peer):
+    """What a peer says at all distances, and how far it is off where it says success, in each way of stating the days."""
+    for words, how in peers.WAYS:
+        points = asked(peer, how)
         for name, _, _ in FAMILIES:
             done = [error for _, error, success in points[name] if success]
             wrong = sum(error > 1e-3 for error in done)
@@ -170,7 +171,7 @@ def successes(peer, found):
 
 def vent(peer):
     d = Data(4, 2, 4, [1338.0, 5681.0, 5680.0, 0.0], [40.0, 40.0, 10.0, 0.5], BALANCES, [v for i in range(4) for v in unit(4, i)], [0.0] * 4)
-    for words, how in ("", lambda peer, d: peer(d)), (", in spreads", peers.in_spreads):
+    for words, how in peers.WAYS:
         x, success, status = how(peer, d)
         print(f"{peer.name}{words}, the pinned vent:", " ".join(f"{u:.4f}" for u in x), f"off by {off(d, x, best_of(d)):.1e}, {'success' if success else 'fails'} ({status})")
 
@@ -186,19 +187,20 @@ def pinned(r):
 
 
 def drawn(archive, count=1000, seed=1):
-    made, r, errors = Library(archive), random.Random(seed), {}
+    made, r, errors, bounds = Library(archive), random.Random(seed), {}, []
     reading, two = Reading(made), [peer for peer in peers.at_hand() if peer]
     for _ in range(count):
         d = pinned(r)
         best, told, first = best_of(d), made.settle(d, 1e-3), reading.settle(d, 1e-3)[3]
+        bounds.append(told[4])
         answers = [("LSEI", first and first[0], first is not None), ("settled", told[2], told[0] == 0)]
-        answers += [(peer.name, *peer(d)[:2]) for peer in two] + [(peer.name + ", in spreads", *peers.in_spreads(peer, d)[:2]) for peer in two]
+        answers += [(peer.name + words, *how(peer, d)[:2]) for words, how in peers.WAYS for peer in two]
         for name, x, success in answers:
             errors.setdefault(name, []).append(off(d, x, best) if success else None)
-    print(f"{count} days, seed {seed}")
+    print(f"{count} days, seed {seed}; the largest bound of settled volumes is {max(bounds):.1e}")
     for name, found in errors.items():
         done = [error for error in found if error is not None]
-        print(f"{name:<26} success on {len(done)}, off by more than 1e-3 spreads on {sum(e > 1e-3 for e in done)} of these, by {max(done, default=0):.1e} at most")
+        print(f"{name:<32} success on {len(done)}, off by more than 1e-3 spreads on {sum(e > 1e-3 for e in done)} of these, by {max(done, default=0):.1e} at most")
 
 
 def main(words):
