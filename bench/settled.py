@@ -2,7 +2,8 @@
 """Settled volumes beside LSEI's, NLopt's and SciPy's, against the distance to the bound that holds.
 
     /usr/bin/python3 bench/settled.py TABLE > docs/settled.svg     draws errors and bounds
-    /usr/bin/python3 bench/settled.py TABLE lines                  the lines of docs/ACCURACY.md, and the pinned vent by NLopt and SciPy
+    /usr/bin/python3 bench/settled.py TABLE lines [STOP]           the lines of docs/ACCURACY.md, and the pinned vent by NLopt and SciPy,
+                                                                   which stop at a change of STOP, 1e-15 where it is left out
     /usr/bin/python3 bench/settled.py drawn LIBRARY                drawn days of four meters, of which the balances hold one at zero
 
 TABLE is what `oracle/settle/settle.py far` prints, LIBRARY is libgritstrut.a. NLopt and SciPy are asked by bench/peers.py for the same days;
@@ -153,10 +154,18 @@ def lines(rows):
             distance, *ours = rows[name][k]
             told = "".join(f"{word(found[name][k][1]):>11}  {'done' if found[name][k][2] else 'fails'}  " if found[name] else f"{'-':>11}  -  " for found in theirs)
             print(f"{name:<8}{distance:>10.0e}{word(ours[0]):>11}{word(ours[1]):>11}{word(ours[2]):>13}{word(ours[3]):>10}{told}".rstrip())
-    for peer in two:
+    for peer, found in zip(two, theirs):
         if peer:
+            beside(peer, found, rows)
             successes(peer)
             vent(peer)
+
+
+def beside(peer, found, rows):
+    """A peer's error over LSEI's, where LSEI answers and neither is zero."""
+    for name, _, _ in FAMILIES:
+        over = sorted(error / ours[1] for (_, error, _), ours in zip(found[name], rows[name]) if ours[1] and error)
+        print(f"{peer.name}, {name}: error over LSEI's from {over[0]:.2g} to {over[-1]:.2g}, median {over[len(over) // 2]:.2g}, at {len(over)} distances")
 
 
 def successes(peer):
@@ -206,8 +215,11 @@ def drawn(archive, count=1000, seed=1):
 def main(words):
     if len(words) == 2 and words[0] == "drawn":
         drawn(words[1])
-    elif len(words) == 1 or words[1:] == ["lines"]:
-        (lines if words[1:] else draw)(read(words[0]))
+    elif len(words) == 1:
+        draw(read(words[0]))
+    elif words[1:2] == ["lines"] and len(words) <= 3:
+        peers.STOP = float(words[2]) if len(words) == 3 else peers.STOP
+        lines(read(words[0]))
     else:
         sys.exit(__doc__)
 
