@@ -173,7 +173,7 @@ def _floats(given):
 def _matrix(given, columns):
     """A matrix as an array, and its count of rows; each row must have so many columns."""
     rows = _list(given)
-    if rows and not hasattr(rows[0], "__len__") and not hasattr(rows[0], "tolist"):
+    if rows and not hasattr(rows[0], "__len__"):
         rows = [rows]  # a single row, as a vector
     for row in rows:
         if len(_flat(row)) != columns:
@@ -220,8 +220,8 @@ def _day(values, spreads, balances, limits, least, nonnegative):
     values, spreads = _floats(values), _floats(spreads)
     n = len(values)
     balances, m = _matrix(balances, n)
-    rows = [_flat(row) for row in _list(limits)]
-    least = _flat(least)
+    rows, least = _list(limits), _flat(least)
+    rows = [_flat(rows)] if n > 1 and rows and not hasattr(rows[0], "__len__") else [_flat(row) for row in rows]
     if nonnegative:
         rows += [[1.0 if i == j else 0.0 for j in range(n)] for i in range(n)]
         least += [0.0] * n
@@ -249,7 +249,8 @@ def settle(values, spreads, balances, limits=(), least=(), tolerance=1e-3, nonne
     number = _call("settle", _SIZE(n), _SIZE(m), _SIZE(p), *given, _DOUBLE(tolerance), volumes, multipliers,
                    ctypes.byref(bound), ctypes.byref(place))
     _raise(number, place, _DAY if m else {**_DAY, 5: "meter"})
-    return Settled(_shape(volumes, values), _shape(multipliers[:m], values), _shape(multipliers[m:], values), bound.value)
+    parts = [_shape(each, values, spreads, balances, limits) for each in (volumes, multipliers[:m], multipliers[m:])]
+    return Settled(*parts, bound.value)
 
 
 def certify(values, spreads, balances, volumes, balance_multipliers, limit_multipliers=(), limits=(), least=(),
@@ -300,7 +301,7 @@ def reconcile(before, after, spreads, balances) -> Reconciled:
     volumes, named, place = _room(_DOUBLE, n), _room(_BYTE, n), _WORD(_NOWHERE)
     number = _call("reconcile", _SIZE(n), _SIZE(m), *readings, _floats(spreads), rows, volumes, named, ctypes.byref(place))
     _raise(number, place, _DAY if m else {**_DAY, 5: "meter"})
-    return Reconciled(_shape(volumes, before, after, spreads), [bool(each) for each in named])
+    return Reconciled(_shape(volumes, before, after, spreads, balances), [bool(each) for each in named])
 
 
 class Mended(NamedTuple):
@@ -370,7 +371,7 @@ def suspect(values, spreads, balances, still=None) -> Suspected:
     number = _call("suspect", _SIZE(n), _SIZE(m), given, _floats(spreads), rows, (_BYTE * len(stand))(*stand), numbers,
                    groups, marks, ctypes.byref(misfit), ctypes.byref(finding), ctypes.byref(place))
     _raise(number, place, _DAY)
-    parts = [_shape(numbers[at * n:(at + 1) * n], values) for at in range(3)]
+    parts = [_shape(numbers[at * n:(at + 1) * n], values, spreads, balances) for at in range(3)]
     return Suspected(*parts, list(groups), list(marks), misfit.value, finding.freedom, finding.first, bool(finding.agree),
                      bool(finding.explained))
 
@@ -609,7 +610,7 @@ def lsei(c, d, e, f, g=(), h=()) -> Lsei:
     number = _call("lsei", _SIZE(n), _SIZE(mc), _SIZE(me), _SIZE(mg), c_, _floats(d), e_, _floats(f), g_, _floats(h), x, multipliers,
                    ctypes.byref(place))
     _raise(number, place, {5: "column of what the equalities leave" if mc else "variable", 11: "equality"})
-    return Lsei(_shape(x, e, f), _shape(multipliers[:mc], e, f), _shape(multipliers[mc:], e, f))
+    return Lsei(*(_shape(each, c, d, e, f, g, h) for each in (x, multipliers[:mc], multipliers[mc:])))
 
 
 # --------------------------------------------------------------------------------------------------------------- the step
@@ -649,7 +650,7 @@ class Problem:
     """
 
     def __init__(self, factor, gradient=None, constraints=(), lower=None, upper=None):
-        self._given = factor
+        self._given = factor, gradient, lower, upper
         rows = _list(factor)
         self.n = n = len(rows)
         if rows and not hasattr(rows[0], "__len__"):
@@ -706,7 +707,7 @@ def step(problem: Problem) -> Step:
     place = _WORD(report[1] if number == 15 else report[3])
     _raise(number, place, {5: "variable", 15: "variable"})
     where = None if report[1] == _NOWHERE else report[1]
-    return Step(_shape(d, problem._given), _shape(multipliers, problem._given), relaxation.value, report[0], where, report[4],
+    return Step(_shape(d, *problem._given), _shape(multipliers, *problem._given), relaxation.value, report[0], where, report[4],
                 report[5])
 
 
@@ -858,7 +859,8 @@ def _bounds(bounds, n):
     if bounds is None:
         return [-math.inf] * n, [math.inf] * n
     if hasattr(bounds, "lb"):
-        return _flat(bounds.lb), _flat(bounds.ub)
+        sides = _flat(bounds.lb), _flat(bounds.ub)
+        return [side * n if len(side) == 1 else side for side in sides]  # SciPy's Bounds(0, inf) are those of every variable
     pairs = [tuple(pair) for pair in bounds]
     return ([-math.inf if low is None else float(low) for low, _ in pairs],
             [math.inf if high is None else float(high) for _, high in pairs])

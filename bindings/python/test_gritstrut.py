@@ -63,6 +63,51 @@ class Arrays(unittest.TestCase):
         if isinstance(numpy, types.ModuleType) and not hasattr(numpy, "ndarray"):
             print("NumPy is not there: a stand-in was tried in its place")
 
+    def test_every_call_takes_numpy(self):
+        try:
+            import numpy
+        except ImportError:
+            self.skipTest("NumPy is not there")
+        row = numpy.array(BALANCES[0])
+        plain = gritstrut.settle(VALUES, SPREADS, BALANCES)
+        for kind in "f8", "f4", "i8", "u2", ">f8", "O":
+            self.assertEqual(gritstrut.settle(numpy.array(VALUES, kind), SPREADS, BALANCES).volumes.tolist(), plain.volumes)
+        for given in numpy.repeat(VALUES, 2)[::2], numpy.reshape(VALUES, (4, 1)), numpy.ma.array(VALUES):
+            self.assertEqual(gritstrut.settle(given, SPREADS, BALANCES).volumes.tolist(), plain.volumes)
+        for given in row, list(row), row[None], numpy.asfortranarray(row[None]), [row]:
+            self.assertEqual(list(gritstrut.settle(VALUES, SPREADS, given).volumes), plain.volumes)
+        for limits in [-row], -row, list(-row), (-row)[None]:
+            settled = gritstrut.settle(VALUES, SPREADS, numpy.zeros((0, 4)), limits, numpy.array([5.0]))
+            self.assertEqual(list(settled.volumes), gritstrut.settle(VALUES, SPREADS, [], [(-row).tolist()], [5.0]).volumes)
+        flags = numpy.array([False, False, True, False])
+        meters = gritstrut.Problem([1, 1, 0.5, 2], lower=numpy.full(4, -1.0), constraints=[gritstrut.equality(row, numpy.float64(-2.6))])
+        answers = [gritstrut.settle(VALUES, numpy.array(SPREADS), BALANCES).volumes, gritstrut.settle(VALUES, SPREADS, row).volumes,
+                   gritstrut.reconcile(numpy.arange(4), numpy.array(VALUES, int), SPREADS, row).volumes,
+                   gritstrut.suspect(VALUES, SPREADS, row, flags).shares, gritstrut.nnls(numpy.eye(2), [3, -4]).x,
+                   gritstrut.lsei(numpy.ones((1, 2)), [2], [[1, 0], [0, 1]], [3, 0]).x, gritstrut.step(meters).d,
+                   gritstrut.Hessian(numpy.int64(2)).times(numpy.ones(2))]
+        for answer in answers:
+            self.assertIs(type(answer), numpy.ndarray)
+            self.assertEqual(answer.dtype, numpy.float64)
+        step = gritstrut.step(meters)
+        self.assertTrue(gritstrut.check(meters, step.d, step.multipliers).yes)
+        settled = gritstrut.settle(numpy.array(VALUES), SPREADS, row)
+        self.assertEqual(gritstrut.certify(VALUES, SPREADS, row, settled.volumes, settled.balance_multipliers), plain.bound)
+
+    def test_a_search_in_numpy(self):
+        try:
+            import numpy
+        except ImportError:
+            self.skipTest("NumPy is not there")
+        goal, rows = numpy.array([1, 2.5]), numpy.array([[1.0, -2.0], [-1.0, -2.0]])
+        slopes, within = lambda x: 2 * (x - goal), {"type": "ineq", "fun": lambda x: rows @ x + [2, 6], "jac": lambda x: rows}
+        one = types.SimpleNamespace(lb=numpy.zeros(1), ub=numpy.full(1, math.inf))  # as SciPy's Bounds(0, inf)
+        for bounds in None, numpy.array([[0, math.inf]] * 2), [(numpy.float64(0), None)] * 2, one:
+            for jac in None, "3-point", slopes:
+                found = gritstrut.search(lambda x: ((x - goal) ** 2).sum(), numpy.array([2, 0]), jac=jac, bounds=bounds, constraints=within)
+                self.assertEqual(found.message, "converged")
+                self.assertLess(abs(found.x - [1.4, 1.7]).max(), 1e-6)
+
     def test_text_is_no_number(self):
         self.assertRaises(TypeError, gritstrut.settle, "1234", SPREADS, BALANCES)
 
