@@ -1,0 +1,2 @@
+-- What reading the lines of a plant file tells. Definitions only.
+pub mod Table
