@@ -1,11 +1,15 @@
 // The lines of a plant file: meters by number, told by places, and a table of them.
 ghost use mathlib.Core.Path.{_≡_};
+ghost use mathlib.Core.Bool.{false};
 ghost use mathlib.Core.List.{List, []};
 ghost use Prim.Native.Nat.{_+_, _≤_, _<_};
 ghost use lib.ListN.{length, drop};
 ghost use Rattle.day_words.specs.Words.{linesOf, rest};
-ghost use Rattle.plant.specs.Lines.{Meter, meterNumber, lineOf, remarkOf, linesFrom};
-ghost use Rattle.plant_lines.specs.Table.{lineTold, Fits, Known, Noted, LinesTold};
+ghost use Rattle.sheet_words.specs.Lines.{Lies};
+ghost use Rattle.sheet_words.specs.Names.{nameJudged, ShortIf};
+ghost use Rattle.plant.specs.Lines.{Meter, meterNumber, noNames, lineOf, remarkOf, linesFrom};
+ghost use Rattle.plant_lines.specs.Table.{lineTold, InLine, Fits, Known, Noted, LinesTold};
+ghost use Rattle.plant_lines.specs.inner.Work.{AllowedRead, SpreadRead, NameRead, MeterRead, NextRead, limitIn, withRow};
 use day_words::Count;
 use day_words::Number;
 use plant::Wanted;
@@ -58,80 +62,92 @@ fn meter_number(word: &[u8]) -> Count
     Count::Shows(n)
 }
 
-// Whether a word may be a name.
-fn is_name(word: &[u8]) -> bool {
+// Whether a word may be a name, where none is given yet.
+fn judge(word: &[u8]) -> Judged
+    ensures { λ r. ⌜ r ≡ nameJudged (now (word .entry)) noNames ⌝ }
+    ensures { λ r. ⌜ ShortIf r (now (word .entry)) ⌝ }
+{
     let blank = [b' '; 768];
-    match sheet_words::judge_name(word, &blank) {
-        Judged::Fine => true,
-        Judged::Not(_) => false,
-    }
+    sheet_words::judge_name(word, &blank)
 }
 
-// What may follow the spread of a meter.
-fn read_allowed(
-    line: &[u8],
-    number: u32,
-    name: usize,
-    name_end: usize,
-    spread: usize,
-    spread_end: usize,
-) -> Step {
-    let w = day_words::find_word(line, spread_end);
+// What may follow the spread of a meter, which is not limited yet.
+fn read_allowed(line: &[u8], g: Given) -> Step
+    requires { ⌜ InLine (now line) g × (g .limited ≡ false) ⌝ }
+    ensures { λ r. ⌜ AllowedRead (now (line .entry)) g r ⌝ }
+    ensures { λ r. ⌜ Fits (now (line .entry)) r ⌝ }
+{
+    let w = day_words::find_word(line, g.spread_end);
     let at = w.start;
     let end = w.end;
     if at == end {
-        return Step::Metered(Given {
-            number: number,
-            name: name,
-            name_end: name_end,
-            spread: spread,
-            spread_end: spread_end,
-            limited: false,
-            allowed: 0,
-        });
+        return Step::Metered(g);
     }
     let Count::Shows(k) = day_words::reading_of(&line[at..end]) else {
         return Step::Wrong(Wanted::Minutes, at, end);
     };
-    let e = day_words::find_word(line, end);
-    if e.start != e.end {
-        return Step::Wrong(Wanted::End, e.start, e.end);
+    let v = day_words::find_word(line, end);
+    let a = v.start;
+    let b = v.end;
+    if a != b {
+        return Step::Wrong(Wanted::End, a, b);
     }
     Step::Metered(Given {
-        number: number,
-        name: name,
-        name_end: name_end,
-        spread: spread,
-        spread_end: spread_end,
+        number: g.number,
+        name: g.name,
+        name_end: g.name_end,
+        spread: g.spread,
+        spread_end: g.spread_end,
         limited: true,
         allowed: k,
     })
 }
 
-// The spread of a meter, and what follows.
-fn read_spread(line: &[u8], number: u32, name: usize, name_end: usize) -> Step {
-    let w = day_words::find_word(line, name_end);
+// The spread of a meter whose name stands from `name` to `to`, and what follows.
+fn read_spread(line: &[u8], number: u32, name: usize, to: usize) -> Step
+    requires { ⌜ (number < 16) × Lies name to (now line) × (to ≤ name + 16) ⌝ }
+    ensures { λ r. ⌜ SpreadRead (now (line .entry)) number name to r ⌝ }
+    ensures { λ r. ⌜ Fits (now (line .entry)) r ⌝ }
+{
+    let w = day_words::find_word(line, to);
     let at = w.start;
     let end = w.end;
     let Number::Is(_) = sheet_words::above_zero(&line[at..end]) else {
         return Step::Wrong(Wanted::Spread, at, end);
     };
-    read_allowed(line, number, name, name_end, at, end)
+    let g = Given {
+        number: number,
+        name: name,
+        name_end: to,
+        spread: at,
+        spread_end: end,
+        limited: false,
+        allowed: 0,
+    };
+    read_allowed(line, g)
 }
 
 // The name of a meter, and what follows.
-fn read_name(line: &[u8], number: u32, from: usize) -> Step {
+fn read_name(line: &[u8], number: u32, from: usize) -> Step
+    requires { ⌜ (number < 16) × (from ≤ length (now line)) ⌝ }
+    ensures { λ r. ⌜ NameRead (now (line .entry)) number from r ⌝ }
+    ensures { λ r. ⌜ Fits (now (line .entry)) r ⌝ }
+{
     let w = day_words::find_word(line, from);
     let at = w.start;
     let end = w.end;
-    if !is_name(&line[at..end]) {
-        return Step::Wrong(Wanted::Name, at, end);
+    match judge(&line[at..end]) {
+        Judged::Not(_) => Step::Wrong(Wanted::Name, at, end),
+        Judged::Fine => read_spread(line, number, at, end),
     }
-    read_spread(line, number, at, end)
 }
 
 // A meter's line from the place after its first word on.
-fn read_meter(line: &[u8], from: usize, table: &[u32]) -> Step {
+fn read_meter(line: &[u8], from: usize, table: &[u32]) -> Step
+    requires { ⌜ (from ≤ length (now line)) × (length (now table) ≡ 64) ⌝ }
+    ensures { λ r. ⌜ MeterRead (now (line .entry)) from (now (table .entry)) r ⌝ }
+    ensures { λ r. ⌜ Fits (now (line .entry)) r ⌝ }
+{
     let w = day_words::find_word(line, from);
     let at = w.start;
     let end = w.end;
@@ -147,7 +163,7 @@ fn read_meter(line: &[u8], from: usize, table: &[u32]) -> Step {
 // A line without its carriage return.
 pub fn read_line(line: &[u8], table: &[u32]) -> Step
     requires { ⌜ length (now table) ≡ 64 ⌝ }
-    ensures { λ r. ⌜ (ms : List Meter) → Known ms (now (table .entry)) → lineTold (now (line .entry)) r ≡ lineOf (now (line .entry)) ms ⌝ }
+    ensures { λ r. ⌜ ((ms : List Meter) → Known ms (now (table .entry)) → lineTold (now (line .entry)) r ≡ lineOf (now (line .entry)) ms) ⌝ }
     ensures { λ r. ⌜ Fits (now (line .entry)) r ⌝ }
 {
     let w = day_words::find_word(line, 0);
@@ -161,21 +177,50 @@ pub fn read_line(line: &[u8], table: &[u32]) -> Step
     read_meter(&line[..end], from, table)
 }
 
+// The line from a place to a place, told by places in the plant file.
+fn next_line(plant: &[u8], at: usize, end: usize, table: &[u32]) -> Step
+    requires { ⌜ Lies at end (now plant) × (length (now table) ≡ 64) ⌝ }
+    ensures { λ r. ⌜ NextRead (now (plant .entry)) at end (now (table .entry)) r ⌝ }
+    ensures { λ r. ⌜ Fits (now (plant .entry)) r ⌝ }
+{
+    let line = &plant[at..end];
+    let n = day_words::trimmed(line);
+    match read_line(&line[..n], table) {
+        Step::Wrong(e, a, b) => Step::Wrong(e, at + a, at + b),
+        Step::Copied => Step::Copied,
+        Step::Metered(g) => Step::Metered(Given {
+            number: g.number,
+            name: at + g.name,
+            name_end: at + g.name_end,
+            spread: at + g.spread,
+            spread_end: at + g.spread_end,
+            limited: g.limited,
+            allowed: g.allowed,
+        }),
+    }
+}
+
 // 1 more than the minutes allowed; 0 where they are not limited.
-fn limit_of(g: Given) -> u32 {
+fn limit_of(g: Given) -> u32
+    requires { ⌜ g .allowed ≤ 999999 ⌝ }
+    ensures { λ r. ⌜ r ≡ limitIn g ⌝ }
+{
     if g.limited {
         return g.allowed + 1;
     }
     0
 }
 
-// Notes a meter whose line begins at a place.
-fn note(table: &mut [u32], at: usize, g: Given) {
+// Notes a meter.
+fn note(table: &mut [u32], g: Given)
+    requires { ⌜ (length (now table) ≡ 64) × (g .number < 16) × (g .name ≤ 65536) × (g .«name_end» ≤ 65536) × (g .allowed ≤ 999999) ⌝ }
+    ensures { λ _. ⌜ now (table .exit) ≡ withRow g (now (table .entry)) ⌝ }
+{
     let m = g.number as usize;
-    table[m] = 1;
-    table[NAMES + m] = (at + g.name) as u32;
-    table[NAME_ENDS + m] = (at + g.name_end) as u32;
+    table[NAME_ENDS + m] = g.name_end as u32;
     table[ALLOWED + m] = limit_of(g);
+    table[NAMES + m] = g.name as u32;
+    table[m] = 1;
 }
 
 // Every line from a place on, and its meters into the table.
@@ -189,12 +234,10 @@ pub fn read_lines(plant: &[u8], from: usize, table: &mut [u32]) -> Reading
     while at < plant.len() {
         let end = day_words::line_end(plant, at);
         k += 1;
-        let line = &plant[at..end];
-        let n = day_words::trimmed(line);
-        match read_line(&line[..n], table) {
-            Step::Wrong(e, a, b) => return Reading::Fault(k, e, at + a, at + b),
+        match next_line(plant, at, end, table) {
+            Step::Wrong(e, a, b) => return Reading::Fault(k, e, a, b),
             Step::Metered(g) => {
-                note(table, at, g);
+                note(table, g);
                 metered = true;
             }
             Step::Copied => {}
@@ -215,4 +258,3 @@ pub fn remark_of(line: &[u8]) -> usize
     let from = w.end;
     from + sheet_words::before_remark(&line[from..])
 }
-
