@@ -132,7 +132,7 @@ fn put_parts(out: &mut [u8], start: u32, end: u32, allowed: Count, s: Seen) -> u
     put_still(out, b, allowed, s.still)
 }
 
-// The doubt of a meter of the plant file, if there is one.
+// The doubt of a meter of the plant file, if there is one: its parts are written aside, so that `out` stays as it is where there are none.
 pub fn put_own_doubt(
     out: &mut [u8],
     at: usize,
