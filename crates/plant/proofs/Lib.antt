@@ -1,5 +1,11 @@
-pub mod Cases
 pub mod Words
-pub mod Back
+pub mod Each
 pub mod Taken
+pub mod Back
+pub mod Kept
+pub mod Lines
+pub mod Doubts
+pub mod Sheeted
 pub mod Volumes
+pub mod Whole
+pub mod Cases
