@@ -59,6 +59,16 @@ fit-after a b s c cs p l f = record {
   tidy = tidy-after s c cs (f .tidy);
 }
 
+append-some : (s : List ℕ) (c : ℕ) (cs : List ℕ) → s ++ (c ∷ cs) ≡ [] → ⊥
+append-some s c cs e = let z : length (s ++ (c ∷ cs)) ≡ 0 = ap length e in let y = length-append s (c ∷ cs) in omega (arith, z, y)
+
+fit-behind : (a b : ℕ) (s t : List ℕ) → Each isPlain s → length s ≤ a → Fit b t → (t ≡ [] → ⊥) → Fit (a + b) (s ++ t)
+fit-behind a b s [] p l f n = absurd (n refl)
+fit-behind a b s (c ∷ cs) p l f n = fit-after a b s c cs p l f
+
+widen : (a b : ℕ) (t : List ℕ) → a ≤ b → Fit a t → Fit b t
+widen a b t l f = record { plain = f .plain; short = let k = f .short in omega (arith, k, l); tidy = f .tidy }
+
 fit-also : (a b : ℕ) (s t : List ℕ) → Fit a s → Fit b t → Fit (a + (2 + b)) (also s t)
 unfolding ascii tab
 fit-also a b [] t f g = record { plain = g .plain; short = let k = g .short in omega (arith, k); tidy = g .tidy }
@@ -90,58 +100,48 @@ fit-minutes : Fit 8 (ascii " minutes")
 unfolding ascii tab withoutBlanks
 fit-minutes = record { plain = plain-known (ascii " minutes") refl; short = omega arith; tidy = refl }
 
-fit-still : (allowed : Count) (still : ℕ) → still < 4294967296 → Fit 28 (stillText allowed still)
+fit-still : (n : ℕ) (allowed : Count) (still : ℕ) → length (decimalText still) ≤ n → Fit (10 + (n + 8)) (stillText allowed still)
 unfolding stillText ascii tab
-fit-still Unread still h = fit-none 28
-fit-still (Shows k) still h = go (ltb k still)
+fit-still n Unread still h = fit-none (10 + (n + 8))
+fit-still n (Shows k) still h = go (ltb k still)
   where
-    digits-short : length (decimalText still) ≤ 10
-    digits-short = decimal-short 9 still (omega (arith, h))
+    go : (b : Bool) → Fit (10 + (n + 8)) (cond b (ascii "still for " ++ (decimalText still ++ ascii " minutes")) [])
+    go true =
+        fit-behind 10 (n + 8) (ascii "still for ") (decimalText still ++ ascii " minutes") (plain-known (ascii "still for ") refl) (omega arith)
+        (fit-after n 8 (decimalText still) _ _ (plain-decimal still) h fit-minutes) (append-some (decimalText still) _ _)
+    go false = fit-none (10 + (n + 8))
 
-    counted : Fit 18 (decimalText still ++ ascii " minutes")
-    counted = fit-after 10 8 (decimalText still) _ _ (plain-decimal still) digits-short fit-minutes
-
-    text : List ℕ
-    text = ascii "still for " ++ (decimalText still ++ ascii " minutes")
-
-    behind : (t : List ℕ) → Fit 18 t → (t ≡ [] → ⊥) → Fit 28 (ascii "still for " ++ t)
-    behind [] f n = absurd (n refl)
-    behind (c ∷ cs) f n = fit-after 10 18 (ascii "still for ") c cs (plain-known (ascii "still for ") refl) (omega arith) f
-
-    go : (b : Bool) → Fit 28 (cond b (ascii "still for " ++ (decimalText still ++ ascii " minutes")) [])
-    go true = behind (decimalText still ++ ascii " minutes") counted (λ e. let z : length (decimalText still ++ ascii " minutes") ≡ 0 = ap length e in let y = length-append (decimalText still) (ascii " minutes") in omega (arith, z, y))
-    go false = fit-none 28
-
-fit-parts : (start end : ℕ) (allowed : Count) (s : Seen) → s .still < 4294967296 → Fit 54 (parts start end allowed s)
+fit-parts : (n start end : ℕ) (allowed : Count) (s : Seen) → length (decimalText (s .still)) ≤ n → Fit (44 + n) (parts start end allowed s)
 unfolding parts
-fit-parts start end allowed s h =
-    let f = fit-also 24 28 (also (beginsText start (s .from)) (endsText end (s .to))) (stillText allowed (s .still))
-    (fit-also 12 10 (beginsText start (s .from)) (endsText end (s .to)) (fit-begins start (s .from)) (fit-ends end (s .to))) (fit-still allowed (s .still) h) in
-    f
+fit-parts n start end allowed s h =
+    widen (24 + (2 + (10 + (n + 8)))) (44 + n) _ (omega arith)
+    (fit-also 24 (10 + (n + 8)) (also (beginsText start (s .from)) (endsText end (s .to))) (stillText allowed (s .still))
+    (fit-also 12 10 (beginsText start (s .from)) (endsText end (s .to)) (fit-begins start (s .from)) (fit-ends end (s .to))) (fit-still n allowed (s .still) h))
 
--- ---- a doubt: its text begins with no blank, so that it is what is read
+-- ---- a doubt, where n bytes suffice for the minutes: its text begins with no blank, so that it is what is read
 
-pub record Doubt (t : List ℕ) : Type 0 where
+pub record Doubt (n : ℕ) (t : List ℕ) : Type 0 where
   pub some : 0 < length t
-  pub fit : Fit 72 t
+  pub fit : Fit (62 + n) t
   pub begins : skipBlanks t ≡ t
 
 abbrev pub doubtWith : List ℕ → List ℕ
 doubtWith t = ascii "doubt " ++ t
 
 -- nothing, or one line
-pub data AtMostOne : List ℕ → Type 0 where
-  no-line : {s : List ℕ} → s ≡ [] → AtMostOne s
-  one-line : {s : List ℕ} (t : List ℕ) → Doubt t → s ≡ doubtWith t ++ (10 ∷ []) → AtMostOne s
+pub data AtMostOne (n : ℕ) : List ℕ → Type 0 where
+  no-line : {s : List ℕ} → s ≡ [] → AtMostOne n s
+  one-line : {s : List ℕ} (t : List ℕ) → Doubt n t → s ≡ doubtWith t ++ (10 ∷ []) → AtMostOne n s
 
-own-doubt : (m : Meter) (ps : List ℕ) → Sound m → Fit 54 ps → AtMostOne (doubtOf (m .name) ps)
+own-doubt : (n : ℕ) (m : Meter) (ps : List ℕ) → Sound m → Fit (44 + n) ps → AtMostOne n (doubtOf (m .name) ps)
 unfolding ascii tab
-own-doubt m [] h f = no-line refl
-own-doubt m (c ∷ cs) h f =
+own-doubt n m [] h f = no-line refl
+own-doubt n m (c ∷ cs) h f =
     one-line (m .name ++ (ascii ": " ++ (c ∷ cs))) (record {
       some = let e = length-append (m .name) (ascii ": " ++ (c ∷ cs)) in omega (arith, e);
-      fit = fit-after 16 56 (m .name) 58 (32 ∷ (c ∷ cs)) (plain-name-bytes (m .name) (h .name-bytes)) (h .name-short)
-      (fit-after 2 54 (58 ∷ (32 ∷ [])) c cs (refl, (refl, tt)) (omega arith) f);
+      fit = widen (16 + (2 + (44 + n))) (62 + n) _ (omega arith)
+      (fit-after 16 (2 + (44 + n)) (m .name) 58 (32 ∷ (c ∷ cs)) (plain-name-bytes (m .name) (h .name-bytes)) (h .name-short)
+      (fit-after 2 (44 + n) (58 ∷ (32 ∷ [])) c cs (refl, (refl, tt)) (omega arith) f));
       begins = skip-plain (m .name) (ascii ": " ++ (c ∷ cs)) (h .name-plain);
     })
     (ap (λ (l : List ℕ). ascii "doubt " ++ l) (sym (append-assoc (m .name) (ascii ": " ++ (c ∷ cs)) (10 ∷ []))))
@@ -157,23 +157,15 @@ pub stranger-is : (m : ℕ) → strangerText m ≡ doubtWith (strangerWith m) ++
 unfolding strangerText ascii tab
 stranger-is m = ap (λ (l : List ℕ). ascii "doubt meter " ++ l) (sym (append-assoc (decimalText m) (ascii " has records, and the plant file has no such meter") (10 ∷ [])))
 
-pub stranger-doubt : (m : ℕ) → m < 16 → Doubt (strangerWith m)
+pub stranger-doubt : (n m : ℕ) → m < 16 → Doubt n (strangerWith m)
 unfolding ascii tab skipBlanks
-stranger-doubt m h = record {
+stranger-doubt n m h = record {
   some = omega arith;
-  fit = widen (6 + (2 + 51)) (strangerWith m)
-  (behind (decimalText m ++ ascii " has records, and the plant file has no such meter") (fit-after 2 51 (decimalText m) _ _ (plain-decimal m) (decimal-short 1 m (omega (arith, h))) fit-stranger)
-  (λ e. let z : length (decimalText m ++ ascii " has records, and the plant file has no such meter") ≡ 0 = ap length e in let y = length-append (decimalText m) (ascii " has records, and the plant file has no such meter") in omega (arith, z, y)))
-  (omega arith);
+  fit = widen 59 (62 + n) _ (omega arith)
+  (fit-behind 6 53 (ascii "meter ") (decimalText m ++ ascii " has records, and the plant file has no such meter") (plain-known (ascii "meter ") refl) (omega arith)
+  (fit-after 2 51 (decimalText m) _ _ (plain-decimal m) (decimal-short 1 m (omega (arith, h))) fit-stranger) (append-some (decimalText m) _ _));
   begins = refl;
 }
-  where
-    widen : (n : ℕ) (t : List ℕ) → Fit n t → n ≤ 72 → Fit 72 t
-    widen n t f l = record { plain = f .plain; short = let k = f .short in omega (arith, k, l); tidy = f .tidy }
-
-    behind : (t : List ℕ) → Fit 53 t → (t ≡ [] → ⊥) → Fit 59 (ascii "meter " ++ t)
-    behind [] f n = absurd (n refl)
-    behind (c ∷ cs) f n = fit-after 6 53 (ascii "meter ") c cs (plain-known (ascii "meter ") refl) (omega arith) f
 
 -- ---- all of them
 
@@ -195,17 +187,18 @@ found-sound n (m ∷ ms) h = go (eqb (m .number) n) (found-sound n ms (h .1))
     go true k = h .0
     go false k = k
 
-one-at : (f : Found) (m start end : ℕ) (s : Seen) → IfOne f → m < 16 → s .still < 4294967296 → AtMostOne (doubtBy f m start end s)
-one-at none m start end s h l k = go (s .there)
+pub one-at : (n : ℕ) (f : Found) (m start end : ℕ) (s : Seen) → IfOne f → m < 16 → length (decimalText (s .still)) ≤ n → AtMostOne n (doubtBy f m start end s)
+one-at n none m start end s h l k = go (s .there)
   where
-    go : (b : Bool) → AtMostOne (strangerIf b m)
-    go true = one-line (strangerWith m) (stranger-doubt m l) (stranger-is m)
+    go : (b : Bool) → AtMostOne n (strangerIf b m)
+    go true = one-line (strangerWith m) (stranger-doubt n m l) (stranger-is m)
     go false = no-line refl
-one-at (one x) m start end s h l k = own-doubt x (parts start end (x .allowed) s) h (fit-parts start end (x .allowed) s k)
+one-at n (one x) m start end s h l k = own-doubt n x (parts start end (x .allowed) s) h (fit-parts n start end (x .allowed) s k)
 
+-- where ten bytes suffice
 abbrev pub AllDoubts : List (List ℕ) → Type 0
 AllDoubts [] = Unit
-AllDoubts (t ∷ ts) = Doubt t × AllDoubts ts
+AllDoubts (t ∷ ts) = Doubt 10 t × AllDoubts ts
 
 -- the texts of some lines
 pub record Doubts (left : ℕ) (text : List ℕ) : Type 0 where
@@ -214,30 +207,28 @@ pub record Doubts (left : ℕ) (text : List ℕ) : Type 0 where
   pub all : AllDoubts texts
   pub lines : linesOf text ≡ map doubtWith texts
 
-plain-with : (t : List ℕ) → Doubt t → Each isPlain (doubtWith t)
+plain-with : (n : ℕ) (t : List ℕ) → Doubt n t → Each isPlain (doubtWith t)
 unfolding ascii tab
-plain-with t d = each-append isPlain (ascii "doubt ") t (plain-known (ascii "doubt ") refl) (d .fit .plain)
+plain-with n t d = each-append isPlain (ascii "doubt ") t (plain-known (ascii "doubt ") refl) (d .fit .plain)
 
-no-feeds : (t : List ℕ) → Doubt t → Each noFeed (doubtWith t)
-no-feeds t d = each-as isPlain noFeed plain-no-feed (doubtWith t) (plain-with t d)
+pub line-more : (n : ℕ) (t others : List ℕ) → Doubt n t → linesOf ((doubtWith t ++ (10 ∷ [])) ++ others) ≡ doubtWith t ∷ linesOf others
+line-more n t others d =
+    ap linesOf (append-assoc (doubtWith t) (10 ∷ []) others) ∙ lines-first (doubtWith t) others (each-as isPlain noFeed plain-no-feed (doubtWith t) (plain-with n t d))
 
-pub line-more : (t others : List ℕ) → Doubt t → linesOf ((doubtWith t ++ (10 ∷ [])) ++ others) ≡ doubtWith t ∷ linesOf others
-line-more t others d = ap linesOf (append-assoc (doubtWith t) (10 ∷ []) others) ∙ lines-first (doubtWith t) others (no-feeds t d)
-
-doubts-more : (left : ℕ) (s others : List ℕ) → AtMostOne s → Doubts left others → Doubts (suc left) (s ++ others)
+doubts-more : (left : ℕ) (s others : List ℕ) → AtMostOne 10 s → Doubts left others → Doubts (suc left) (s ++ others)
 doubts-more left s others (no-line e) d = record { texts = d .texts; few = let k = d .few in omega (arith, k); all = d .all; lines = rw e (d .lines) }
 doubts-more left s others (one-line t h e) d = record {
   texts = t ∷ d .texts;
   few = let k = d .few in omega (arith, k);
   all = (h, d .all);
-  lines = rw e (line-more t others h ∙ ap (λ (ls : List (List ℕ)). doubtWith t ∷ ls) (d .lines));
+  lines = rw e (line-more 10 t others h ∙ ap (λ (ls : List (List ℕ)). doubtWith t ∷ ls) (d .lines));
 }
 
-pub doubts-are : (left m : ℕ) (ms : List Meter) (start end : ℕ) (rs : List Bytes) → AllSound ms → ((k : ℕ) → seen k rs .still < 4294967296) → left + m ≤ 16 → Doubts left (doubtsFrom left m ms start end rs)
+pub doubts-are : (left m : ℕ) (ms : List Meter) (start end : ℕ) (rs : List Bytes) → AllSound ms → ((k : ℕ) → length (decimalText (seen k rs .still)) ≤ 10) → left + m ≤ 16 → Doubts left (doubtsFrom left m ms start end rs)
 unfolding doubtsFrom linesOf
 doubts-are zero m ms start end rs h k l = record { texts = []; few = omega arith; all = tt; lines = refl }
 doubts-are (suc left) m ms start end rs h k l =
-    doubts-more left (doubtBy (find m ms) m start end (seen m rs)) (doubtsFrom left (m + 1) ms start end rs) (one-at (find m ms) m start end (seen m rs) (found-sound m ms h) (omega (arith, l)) (k m))
+    doubts-more left (doubtBy (find m ms) m start end (seen m rs)) (doubtsFrom left (m + 1) ms start end rs) (one-at 10 (find m ms) m start end (seen m rs) (found-sound m ms h) (omega (arith, l)) (k m))
     (doubts-are left (m + 1) ms start end rs h k (omega (arith, l)))
 
 pub drop-doubts : (ts : List (List ℕ)) → map (drop 6) (map doubtWith ts) ≡ ts
@@ -256,13 +247,13 @@ unfolding upTo
 up-plain [] h = refl
 up-plain (c ∷ cs) h = rw (h .0) (ap (λ (l : List ℕ). c ∷ l) (up-plain cs (h .1)))
 
-text-is : (p : ℕ) (t texts : List ℕ) → Doubt t → textAt p t texts ≡ texted (placed p t texts)
+text-is : (p : ℕ) (t texts : List ℕ) → Doubt 10 t → textAt p t texts ≡ texted (placed p t texts)
 unfolding textAt soundPart
 text-is p t texts d =
     let e : length t ≡ 0 → ⊥ = λ z. let s = d .some in omega (arith, z, s) in
     rw (ne-eqb (length t) 0 e, up-plain t (d .fit .plain), take-all 72 t (d .fit .short), le-ltb (length t) (length t) (omega arith)) refl
 
-text-in : (t : List ℕ) → Doubt t → textIn (32 ∷ t) ≡ t
+text-in : (t : List ℕ) → Doubt 10 t → textIn (32 ∷ t) ≡ t
 unfolding skipBlanks
 text-in t d = ap withoutBlanks (d .begins) ∙ d .fit .tidy
 
@@ -280,7 +271,7 @@ plain-doubt : Plain (ascii "doubt")
 unfolding ascii tab
 plain-doubt = (refl, refl, (refl, (refl, (refl, (refl, tt)))))
 
-doubt-line : (l t : List ℕ) (st : State) → word l ≡ ascii "doubt" → rest l ≡ 32 ∷ t → Doubt t → lineRead l st ≡ doubtTaken t st
+doubt-line : (l t : List ℕ) (st : State) → word l ≡ ascii "doubt" → rest l ≡ 32 ∷ t → Doubt 10 t → lineRead l st ≡ doubtTaken t st
 unfolding lineRead kindOf placeAmong sameText ascii tab doubtLine doubtTaken
 doubt-line l t st e f d = rw (e, f, text-in t d, text-is (840 + 72 * st .doubts) t (st .texts) d) refl
 
@@ -288,7 +279,7 @@ blank-in : (t : List ℕ) → doubtWith t ≡ ascii "doubt" ++ (32 ∷ t)
 unfolding ascii tab
 blank-in t = refl
 
-pub reads-doubt : (t : List ℕ) (st : State) → Doubt t → lineRead (withoutReturn (doubtWith t)) st ≡ doubtTaken t st
+pub reads-doubt : (t : List ℕ) (st : State) → Doubt 10 t → lineRead (withoutReturn (doubtWith t)) st ≡ doubtTaken t st
 reads-doubt t st d =
-    ap (λ (l : List ℕ). lineRead l st) (return-plain (doubtWith t) (plain-with t d))
+    ap (λ (l : List ℕ). lineRead l st) (return-plain (doubtWith t) (plain-with 10 t d))
     ∙ doubt-line (doubtWith t) t st (ap word (blank-in t) ∙ word-is (ascii "doubt") t plain-doubt) (ap rest (blank-in t) ∙ rest-is (ascii "doubt") t plain-doubt) d

@@ -8,4 +8,5 @@ pub mod Doubts
 pub mod Sheeted
 pub mod Volumes
 pub mod Whole
+pub mod Lost
 pub mod Cases

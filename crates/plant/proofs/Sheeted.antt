@@ -95,7 +95,7 @@ abbrev isSound : Lines → Bool
 isSound (sound ms) = true
 isSound (fault line e w) = false
 
-not-fault : {A : Type 0} (line : ℕ) (e : Wanted) (w : List ℕ) (ms : List Meter) → fault line e w ≡ sound ms → A
+pub not-fault : {A : Type 0} (line : ℕ) (e : Wanted) (w : List ℕ) (ms : List Meter) → fault line e w ≡ sound ms → A
 not-fault line e w ms f = absurd (false≢true (ap isSound f))
 
 pub lines-end : (k : ℕ) (acc ms : List Meter) → linesEnd k acc ≡ sound ms → acc ≡ ms
@@ -135,7 +135,7 @@ first-none : (t others : List ℕ) → firstOf t others ≡ [] → (t ≡ []) ×
 first-none [] others e = (refl, e)
 first-none (c ∷ cs) others e = absurd (let z : suc (length cs) ≡ 0 = ap length e in omega (arith, z))
 
-past : (m n : ℕ) → m ≤ n → (n ≡ m → ⊥) → m + 1 ≤ n
+pub past : (m n : ℕ) → m ≤ n → (n ≡ m → ⊥) → m + 1 ≤ n
 past m n a z = ⊎-elim (λ (h : n < m + 1). absurd (z (omega (arith, a, h)))) (λ (h : m + 1 ≤ n). h) (lt-or-ge n (m + 1))
 
 amiss-none : (left m : ℕ) (ms : List Meter) (totals : List ℕ) (rs : List Bytes) → amissFrom left m ms totals rs ≡ [] → (n : ℕ) → m ≤ n → n < left + m → amissBy (find n ms) n (seen n rs .there) (getD totals n 0) ≡ []

@@ -11,7 +11,7 @@ use borrow.Author.Tests.{le-ltb}
 use Rattle.numbers.specs.Numbers.{tab}
 use Rattle.endian.specs.Claims.{AreBytes}
 use Rattle.ascii.specs.Text.{ascii, decimalText}
-use Rattle.totaliser.specs.Volume.{largest}
+use Rattle.ascii.proofs.Numerals.{decimal-short}
 use Rattle.day_words.specs.declared.Number.the-variants.{Is}
 use Rattle.day_words.specs.Words.{upTo, isBlank, linesOf, withoutReturn, skipBlanks, word, rest}
 use Rattle.day_words.specs.Items.{valueIn}
@@ -105,10 +105,14 @@ text-lines plant ms rs =
     ∙ lines-text ls rs (minutesText from to ++ (10 ∷ doubts)) (each-lines (afterMark plant))
     ∙ ap (λ (x : List (List ℕ)). map (λ l. written l rs) ls ++ x) (lines-first (minutesText from to) doubts (free-minutes from to))
 
+pub sheet-lines : (kept plant text : List ℕ) → Sheeted kept plant text
+    → linesOf (afterMark text) ≡ map (λ l. written l (recordsOf kept)) (linesOf (afterMark plant)) ++ (minutesText (startOf kept plant) (endsAt kept plant) ∷ doubtLines kept plant)
+sheet-lines kept plant text s = ap (λ (t : List ℕ). linesOf (afterMark t)) (s .text-is) ∙ text-lines plant (metersOf plant) (recordsOf kept)
+
 module _ (kept plant text : List ℕ) (bytes : AreBytes kept) where
   doubts-of : Sheeted kept plant text → Doubts 16 (doubtsFrom 16 0 (metersOf plant) (startOf kept plant) (endsAt kept plant) (recordsOf kept))
   doubts-of s =
-      doubts-are 16 0 (metersOf plant) (startOf kept plant) (endsAt kept plant) (recordsOf kept) (sound-meters plant (metersOf plant) (s .sound-lines)) (λ m. still-small m kept bytes) (omega arith)
+      doubts-are 16 0 (metersOf plant) (startOf kept plant) (endsAt kept plant) (recordsOf kept) (sound-meters plant (metersOf plant) (s .sound-lines)) (λ m. decimal-short 9 (seen m (recordsOf kept) .still) (let h = still-small m kept bytes in omega (arith, h))) (omega arith)
 
 pub reads-back-whole : ReadsBack
 unfolding sheetOf
@@ -117,8 +121,7 @@ reads-back-whole kept plant text bytes e =
     let d = doubts-of kept plant text bytes s in
     let rs = recordsOf kept in
     let ls = linesOf (afterMark plant) in
-    let lines : linesOf (afterMark text) ≡ map (λ l. written l rs) ls ++ (minutesText (startOf kept plant) (endsAt kept plant) ∷ doubtLines kept plant) =
-    ap (λ (t : List ℕ). linesOf (afterMark t)) (s .text-is) ∙ text-lines plant (metersOf plant) rs in
+    let lines = sheet-lines kept plant text s in
     let same : doubtsOf kept plant ≡ d .texts = ap (map (drop 6)) (d .lines) ∙ drop-doubts (d .texts) in
     record {
       lines = lines;
