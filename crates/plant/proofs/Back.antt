@@ -1,9 +1,11 @@
--- A meter's line reads back.
+-- A meter's line reads back, whatever its remark.
 use mathlib.Core.Path.{_≡_, refl, sym, ap, _∙_}
 use mathlib.Core.Bool.{Bool, true, false, cond}
-use mathlib.Core.List.{List, [], _∷_, _++_}
-use Prim.Native.Nat.{ℕ, _+_, _*_, _≤_}
-use lib.Dec.{leb, ltb}
+use mathlib.Core.List.{List, [], _∷_, _++_, append-assoc}
+use Prim.Native.Nat.{ℕ, suc, _+_, _-_, _*_, _≤_}
+use native.Mathlib.Omega.{arith}
+use lib.Dec.{leb, ltb, eqb}
+use lib.ListN.{length, take, getD}
 use lib.Ieee.{Float}
 use Rattle.numbers.specs.Numbers.{+0, tab}
 use Rattle.endian.specs.Little.{placed}
@@ -12,7 +14,7 @@ use Rattle.ascii.specs.Text.{ascii, sameText, decimalText}
 use Rattle.totaliser.specs.Volume.{largest}
 use Rattle.day_words.specs.declared.Number.the-variants.{Is}
 use Rattle.day_words.specs.declared.Count.the-variants.{Shows}
-use Rattle.day_words.specs.Words.{upTo, skipBlanks, word, rest}
+use Rattle.day_words.specs.Words.{upTo, withoutReturn, skipBlanks, word, rest}
 use Rattle.day_words.specs.Items.{filled, readingOf}
 use Rattle.sheet_words.specs.declared.Expected.the-variants.{Late, FewItems}
 use Rattle.sheet_words.specs.declared.Judged.{Judged}
@@ -24,8 +26,8 @@ use Rattle.sheet_lines.specs.Lines.{State, Line, wrong, itemRead, itemNamed, it
 use Rattle.sheet.specs.Sheet.{placeAmong, kindOf, plainLine, lineRead}
 use Rattle.logged.specs.declared.Seen.{Seen}
 use Rattle.plant.specs.Texts.{afterBlank, minutesText, meterText}
-use Rattle.plant.specs.Claims.{Plain, withMeter, meterTaken, ReadsBack}
-use Rattle.plant.proofs.Words.{word-is, rest-is, word-blank, rest-blank, bare-word, place, six-is, plain-six, six-no-letter, reading-six}
+use Rattle.plant.specs.Claims.{withMeter, meterTaken}
+use Rattle.plant.proofs.Words.{Plain, word-is, rest-is, word-blank, rest-blank, bare-word, place, six-is, plain-six, six-no-letter, reading-six}
 
 -- ---- what follows the first word, and what of it the remark leaves
 
@@ -83,18 +85,18 @@ line-is : (l t : List ℕ) (st : State) → word l ≡ ascii "meter" → unremar
 unfolding lineRead kindOf placeAmong plainLine sameText ascii tab
 line-is l t st e f = rw (e, f) refl
 
-named-is : (j : Judged) (name t : List ℕ) (x : Float) (s : Seen) (st : State) → word t ≡ name → itemOf 0 (rest t) ≡ itemed (s .first) (s .last) x +0 +0
-    → itemNamed 0 (namedBy j (st .items) t (st .texts)) st ≡ withMeter j name x s st
+named-is : (j : Judged) (name t : List ℕ) (x : Float) (old new : ℕ) (st : State) → word t ≡ name → itemOf 0 (rest t) ≡ itemed old new x +0 +0
+    → itemNamed 0 (namedBy j (st .items) t (st .texts)) st ≡ withMeter j name x old new st
 unfolding itemNamed itemRead
-named-is Fine name t x s st e f = rw (f, e) refl
-named-is (Not j) name t x s st e f = ap (wrong j) e
+named-is Fine name t x old new st e f = rw (f, e) refl
+named-is (Not j) name t x old new st e f = ap (wrong j) e
 
-item-line : (name t : List ℕ) (x : Float) (s : Seen) (st : State) → word t ≡ name → itemOf 0 (rest t) ≡ itemed (s .first) (s .last) x +0 +0
-    → itemLine 0 (ascii "meter") t st ≡ meterTaken name x s st
+item-line : (name t : List ℕ) (x : Float) (old new : ℕ) (st : State) → word t ≡ name → itemOf 0 (rest t) ≡ itemed old new x +0 +0
+    → itemLine 0 (ascii "meter") t st ≡ meterTaken name x old new st
 unfolding itemLine nameAt meterTaken
-item-line name t x s st e f =
+item-line name t x old new st e f =
     ap (λ (z : Line). cond (ltb 0 (st .balances + st .limits)) (wrong Late (ascii "meter")) (cond (leb 16 (st .items)) (wrong FewItems (ascii "meter")) z))
-    (named-is (nameJudged (word t) (st .texts)) name t x s st e f ∙ ap (λ (w : List ℕ). withMeter (nameJudged w (st .texts)) name x s st) e)
+    (named-is (nameJudged (word t) (st .texts)) name t x old new st e f ∙ ap (λ (w : List ℕ). withMeter (nameJudged w (st .texts)) name x old new st) e)
 
 -- ---- the line as it is written
 
@@ -102,26 +104,75 @@ plain-kind : Plain (ascii "meter")
 unfolding ascii tab
 plain-kind = (refl, refl, (refl, (refl, (refl, (refl, tt)))))
 
+-- the line up to its first remark, and what comes after
+abbrev pub front : (name spread : List ℕ) (old new : ℕ) → List ℕ
+front name spread old new = ascii "meter" ++ (32 ∷ (name ++ (32 ∷ (place old ++ (32 ∷ (place new ++ (32 ∷ (spread ++ (32 ∷ [])))))))))
+
+abbrev lineWith : (name spread : List ℕ) (old new : ℕ) (r : List ℕ) → List ℕ
+lineWith name spread old new r = ascii "meter" ++ (32 ∷ (name ++ numbers (place old) (place new) spread (35 ∷ r)))
+
+reads-with : (name spread r : List ℕ) (x : Float) (old new : ℕ) (st : State) → Plain name → Plain spread → aboveZero spread ≡ Is x → old ≤ largest → new ≤ largest
+    → lineRead (lineWith name spread old new r) st ≡ meterTaken name x old new st
+reads-with name spread r x old new st p q e h k =
+    let a = place old in
+    let b = place new in
+    let full : List ℕ = name ++ numbers a b spread (35 ∷ r) in
+    let short : List ℕ = 32 ∷ (name ++ numbers a b spread []) in
+    let left : unremarkedFrom true (rest (ascii "meter" ++ (32 ∷ full))) ≡ short =
+    ap (unremarkedFrom true) (rest-is (ascii "meter") full plain-kind) ∙ bare name a b spread r p (plain-six old) (plain-six new) q in
+    let w : word short ≡ name = word-blank (name ++ numbers a b spread []) ∙ word-is name _ p in
+    let n : rest short ≡ numbers a b spread [] = rest-blank (name ++ numbers a b spread []) ∙ rest-is name _ p in
+    line-is (ascii "meter" ++ (32 ∷ full)) short st (word-is (ascii "meter") full plain-kind) left
+    ∙ item-line name short x old new st w (ap (itemOf 0) n ∙ item-is (numbers a b spread []) spread old new x (words-are a b spread (plain-six old) (plain-six new) q) h k e)
+
+-- ---- the line as it is written, with or without a carriage return at the end of its remark
+
 abbrev remark : (from to : ℕ) (r : List ℕ) → List ℕ
 remark from to r = (ascii " minutes " ++ (decimalText from ++ (ascii " to " ++ decimalText to))) ++ afterBlank r
 
-text-is : (name spread r : List ℕ) (s : Seen) → meterText name spread r s ≡ ascii "meter" ++ (32 ∷ (name ++ numbers (place (s .first)) (place (s .last)) spread (35 ∷ remark (s .from) (s .to) r)))
+text-is : (name spread r : List ℕ) (s : Seen) → meterText name spread r s ≡ lineWith name spread (s .first) (s .last) (remark (s .from) (s .to) r)
 unfolding meterText minutesText ascii tab
 text-is name spread r s =
     let tail : List ℕ = 32 ∷ (spread ++ (32 ∷ (minutesText (s .from) (s .to) ++ afterBlank r))) in
     ap (λ (d : List ℕ). ascii "meter " ++ (name ++ (32 ∷ (d ++ (32 ∷ (digits 10 6 (s .last) ++ tail)))))) (six-is (s .first))
     ∙ ap (λ (d : List ℕ). ascii "meter " ++ (name ++ (32 ∷ (place (s .first) ++ (32 ∷ (d ++ tail)))))) (six-is (s .last))
 
-pub reads-back : ReadsBack
+return-kept : (c d : ℕ) (t : List ℕ) → withoutReturn (c ∷ (d ∷ t)) ≡ c ∷ withoutReturn (d ∷ t)
+unfolding withoutReturn
+return-kept c d t =
+    let n = length t in
+    let e : suc (suc n) - 1 ≡ suc n = omega arith in
+    let f : suc n - 1 ≡ n = omega arith in
+    rw (e, f) (go (eqb (getD (d ∷ t) n 0) 13))
+  where
+    go : (b : Bool) → cond b (take (suc (length t)) (c ∷ (d ∷ t))) (c ∷ (d ∷ t)) ≡ c ∷ cond b (take (length t) (d ∷ t)) (d ∷ t)
+    go true = refl
+    go false = refl
+
+-- a `#` is no carriage return
+pub return-after : (s t : List ℕ) → withoutReturn (s ++ (35 ∷ t)) ≡ s ++ (35 ∷ withoutReturn t)
+unfolding withoutReturn
+return-after [] [] = refl
+return-after [] (d ∷ t) = return-kept 35 d t
+return-after (c ∷ []) t = return-kept c 35 t ∙ ap (λ (l : List ℕ). c ∷ l) (return-after [] t)
+return-after (c ∷ (d ∷ s)) t = return-kept c d (s ++ (35 ∷ t)) ∙ ap (λ (l : List ℕ). c ∷ l) (return-after (d ∷ s) t)
+
+front-is : (name spread r : List ℕ) (old new : ℕ) → lineWith name spread old new r ≡ front name spread old new ++ (35 ∷ r)
+unfolding ascii tab
+front-is name spread r old new =
+    let u4 : List ℕ = spread ++ (32 ∷ []) in
+    let u3 : List ℕ = place new ++ (32 ∷ u4) in
+    let u2 : List ℕ = place old ++ (32 ∷ u3) in
+    ap (λ (l : List ℕ). ascii "meter" ++ (32 ∷ l))
+    (ap (λ (l : List ℕ). name ++ (32 ∷ (place old ++ (32 ∷ (place new ++ (32 ∷ l)))))) (sym (append-assoc spread (32 ∷ []) (35 ∷ r)))
+    ∙ ap (λ (l : List ℕ). name ++ (32 ∷ (place old ++ (32 ∷ l)))) (sym (append-assoc (place new) (32 ∷ u4) (35 ∷ r)))
+    ∙ ap (λ (l : List ℕ). name ++ (32 ∷ l)) (sym (append-assoc (place old) (32 ∷ u3) (35 ∷ r)))
+    ∙ sym (append-assoc name (32 ∷ u2) (35 ∷ r)))
+
+pub reads-back : (name spread r : List ℕ) (x : Float) (s : Seen) (st : State) → Plain name → Plain spread → aboveZero spread ≡ Is x → s .first ≤ largest → s .last ≤ largest
+    → lineRead (withoutReturn (meterText name spread r s)) st ≡ meterTaken name x (s .first) (s .last) st
 reads-back name spread r x s st p q e h k =
-    let a = place (s .first) in
-    let b = place (s .last) in
-    let full : List ℕ = name ++ numbers a b spread (35 ∷ remark (s .from) (s .to) r) in
-    let short : List ℕ = 32 ∷ (name ++ numbers a b spread []) in
-    let left : unremarkedFrom true (rest (ascii "meter" ++ (32 ∷ full))) ≡ short =
-    ap (unremarkedFrom true) (rest-is (ascii "meter") full plain-kind) ∙ bare name a b spread (remark (s .from) (s .to) r) p (plain-six (s .first)) (plain-six (s .last)) q in
-    let w : word short ≡ name = word-blank (name ++ numbers a b spread []) ∙ word-is name _ p in
-    let n : rest short ≡ numbers a b spread [] = rest-blank (name ++ numbers a b spread []) ∙ rest-is name _ p in
-    ap (λ (l : List ℕ). lineRead l st) (text-is name spread r s)
-    ∙ line-is (ascii "meter" ++ (32 ∷ full)) short st (word-is (ascii "meter") full plain-kind) left
-    ∙ item-line name short x s st w (ap (itemOf 0) n ∙ item-is (numbers a b spread []) spread (s .first) (s .last) x (words-are a b spread (plain-six (s .first)) (plain-six (s .last)) q) h k e)
+    let t = remark (s .from) (s .to) r in
+    ap (λ (l : List ℕ). lineRead (withoutReturn l) st) (text-is name spread r s ∙ front-is name spread t (s .first) (s .last))
+    ∙ ap (λ (l : List ℕ). lineRead l st) (return-after (front name spread (s .first) (s .last)) t ∙ sym (front-is name spread (withoutReturn t) (s .first) (s .last)))
+    ∙ reads-with name spread (withoutReturn t) x (s .first) (s .last) st p q e h k

@@ -1,5 +1,12 @@
-pub mod Cases
 pub mod Words
-pub mod Back
+pub mod Each
 pub mod Taken
+pub mod Back
+pub mod Kept
+pub mod Lines
+pub mod Doubts
+pub mod Sheeted
 pub mod Volumes
+pub mod Whole
+pub mod Lost
+pub mod Cases

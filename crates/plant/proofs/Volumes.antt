@@ -1,6 +1,6 @@
 -- The volume between a meter's two readings is its total.
 use mathlib.Core.Path.{_≡_, refl, sym, ap, _∙_, subst}
-use mathlib.Core.Bool.{Bool, true, false, cond, false≢true}
+use mathlib.Core.Bool.{Bool, true, false, cond}
 use mathlib.Core.List.{List, [], _∷_}
 use Prim.Native.Nat.{ℕ, _+_, _-_, _*_, _≤_, _<_}
 use native.Mathlib.Omega.{arith}
@@ -8,14 +8,12 @@ use lib.Dec.{ltb}
 use lib.ListN.{getD}
 use borrow.Author.Tests.{ltb-true, ltb-false}
 use Rattle.totaliser.specs.Volume.{largest, volume}
-use Rattle.mend.specs.Mend.{Bytes, readingOf, recordsOf, ofMeter, mend}
-use Rattle.mend.specs.Claims.{endOf, Totalled}
+use Rattle.mend.specs.Mend.{Bytes, recordsOf, ofMeter, mend}
+use Rattle.mend.specs.Claims.{Totalled}
 use Rattle.mend.proofs.Told.{total-is}
-use Rattle.logged.specs.declared.Seen.{Seen}
-use Rattle.logged.specs.Meters.{seen}
-use Rattle.logged.specs.Claims.{EndsOf}
-use Rattle.logged.proofs.Ends.{first-and-last}
-use Rattle.plant.specs.Claims.{SameVolume}
+use Rattle.plant.specs.Claims.{metersOf, oldOf, newOf, SameVolume}
+use Rattle.plant.proofs.Kept.{none-dropped, same-file, readings-small}
+use Rattle.plant.proofs.Sheeted.{sheeted, sound-meters, number-small, total-small}
 
 volume-is : (old new total rollovers : ℕ) → old ≤ largest → new ≤ largest → total ≤ largest → total + old ≡ new + 1000000 * rollovers → volume old new ≡ total
 unfolding volume
@@ -25,15 +23,19 @@ volume-is old new total rollovers a b c e = go (ltb new old) refl
     go true f = let l : new < old = ltb-true new old f in omega (arith, a, b, c, e, l)
     go false f = let l : old ≤ new = ltb-false new old f in omega (arith, a, b, c, e, l)
 
-by-ends : (own : List Bytes) (s : Seen) (total rollovers : ℕ) → EndsOf own s → Totalled own total rollovers → s .there ≡ true → s .first ≤ largest → s .last ≤ largest → total ≤ largest
-    → volume (s .first) (s .last) ≡ total
-by-ends [] s total rollovers e w t a b c = absurd (false≢true (sym e ∙ t))
-by-ends (r ∷ qs) s total rollovers e w t a b c =
-    volume-is (s .first) (s .last) total rollovers a b c (let f = e .first-reading in let l = e .last-reading in omega (arith, w, f, l))
+-- without records both are 0
+by-ends : (own : List Bytes) (total rollovers : ℕ) → Totalled own total rollovers → oldOf own ≤ largest → newOf own ≤ largest → total ≤ largest → volume (oldOf own) (newOf own) ≡ total
+by-ends [] total rollovers w a b c = volume-is 0 0 total rollovers a b c (let z = w .0 in let y = w .1 in omega (arith, z, y))
+by-ends (r ∷ qs) total rollovers w a b c = volume-is (oldOf (r ∷ qs)) (newOf (r ∷ qs)) total rollovers a b c w
 
 pub same-volume : SameVolume
-same-volume kept m h f t a b c =
-    let rollovers = getD (mend kept .rollovers) m 0 in
+same-volume kept plant text m e g =
+    let s = sheeted kept plant text e in
+    let ms = metersOf plant in
+    let h = sound-meters plant ms (s .sound-lines) in
     let total = getD (mend kept .totals) m 0 in
-    by-ends (ofMeter m (recordsOf kept)) (seen m (recordsOf kept)) total rollovers (first-and-last m (recordsOf kept))
-    (subst (λ (z : Bytes). Totalled (ofMeter m (recordsOf z)) total rollovers) f (total-is kept m h)) t a b c
+    let rollovers = getD (mend kept .rollovers) m 0 in
+    let small = readings-small m (recordsOf kept) (none-dropped kept (s .kept-all) .all-sound) in
+    by-ends (ofMeter m (recordsOf kept)) total rollovers
+    (subst (λ (z : List Bytes). Totalled (ofMeter m z) total rollovers) (same-file kept (s .kept-all)) (total-is kept m (number-small m ms h g)))
+    (small .0) (small .1) (total-small m ms (mend kept .totals) (recordsOf kept) h g (s .none-amiss))

@@ -17,7 +17,15 @@ use Rattle.day_words.specs.Words.{upTo, isBlank, skipBlanks, word, rest}
 use Rattle.day_words.specs.Items.{readingOf}
 use Rattle.sheet_words.specs.Names.{isLetter, beginsLetter}
 use Rattle.sheet_words.specs.Lines.{unremarkedFrom}
-use Rattle.plant.specs.Claims.{NoBlanks, Plain}
+
+abbrev pub NoBlanks : List ℕ → Type 0
+NoBlanks [] = Unit
+NoBlanks (c ∷ cs) = (isBlank c ≡ false) × NoBlanks cs
+
+-- a word that begins no remark
+abbrev pub Plain : List ℕ → Type 0
+Plain [] = ⊥
+Plain (c ∷ cs) = (eqb c 35 ≡ false) × (isBlank c ≡ false) × NoBlanks cs
 
 -- ---- a word before a blank
 
@@ -26,7 +34,7 @@ unfolding upTo
 up-word [] t h = refl
 up-word (c ∷ cs) t h = rw (h .0) (ap (λ (l : List ℕ). c ∷ l) (up-word cs t (h .1)))
 
-skip-plain : (w t : List ℕ) → Plain w → skipBlanks (w ++ t) ≡ w ++ t
+pub skip-plain : (w t : List ℕ) → Plain w → skipBlanks (w ++ t) ≡ w ++ t
 unfolding skipBlanks
 skip-plain [] t h = absurd h
 skip-plain (c ∷ cs) t h = rw (h .1) refl
@@ -77,7 +85,7 @@ digit-plain d = (ne-eqb (48 + d) 35 (λ e. omega (arith, e)), rw (ne-eqb (48 + d
 no-letter : (d : ℕ) → d < 10 → isLetter (48 + d) ≡ false
 no-letter d h = rw (lt-leb 65 (48 + d) (omega (arith, h)), lt-leb 97 (48 + d) (omega (arith, h))) refl
 
-pub six : (a b c d e f : ℕ) → List ℕ
+unfoldable pub six : (a b c d e f : ℕ) → List ℕ
 six a b c d e f = (48 + a) ∷ ((48 + b) ∷ ((48 + c) ∷ ((48 + d) ∷ ((48 + e) ∷ ((48 + f) ∷ [])))))
 
 abbrev pub place : (n : ℕ) → List ℕ

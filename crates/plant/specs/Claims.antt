@@ -1,69 +1,144 @@
--- What is shown of the sheet: a meter's line, as it is written, reads back as its name, its first and last reading and its spread; and the words of every line that is taken are such. Definitions only.
+-- What is shown of every sheet that is written: how it reads back, whose volumes it has, that no record is passed over, and that its doubts can stand. Definitions only.
 use mathlib.Core.Path.{_≡_}
-use mathlib.Core.Bool.{true, false, cond}
-use mathlib.Core.List.{List, [], _∷_}
+use mathlib.Core.Bool.{Bool, true, cond}
+use mathlib.Core.Logic.{_⊎_}
+use mathlib.Core.List.{List, [], _∷_, _++_, map}
 use Prim.Native.Nat.{ℕ, _+_, _*_, _≤_, _<_}
-use lib.Dec.{leb, ltb, eqb}
+use lib.Dec.{leb, ltb}
 use lib.Ieee.{Float}
-use lib.ListN.{getD}
+use lib.ListN.{length, drop, getD}
 use Rattle.numbers.specs.Numbers.{+0}
 use Rattle.endian.specs.Little.{placed}
+use Rattle.endian.specs.Claims.{AreBytes}
 use Rattle.ascii.specs.Text.{ascii}
-use Rattle.totaliser.specs.Volume.{largest, volume}
-use Rattle.day_words.specs.declared.Number.the-variants.{Is}
-use Rattle.day_words.specs.Words.{isBlank}
-use Rattle.day_words.specs.Items.{filled}
-use Rattle.sheet_words.specs.declared.Expected.the-variants.{Late, FewItems}
+use Rattle.totaliser.specs.Volume.{volume}
+use Rattle.day_words.specs.Words.{linesOf, withoutReturn}
+use Rattle.day_words.specs.Items.{filled, valueIn}
+use Rattle.sheet_words.specs.declared.Expected.the-variants.{Late, FewItems, FewDoubts}
 use Rattle.sheet_words.specs.declared.Judged.{Judged}
 use Rattle.sheet_words.specs.declared.Judged.the-variants.{Fine, Not}
 use Rattle.sheet_words.specs.Names.{nameJudged, aboveZero}
-use Rattle.sheet_lines.specs.Lines.{State, Line, taken, wrong, withItem}
-use Rattle.sheet.specs.Sheet.{lineRead}
-use Rattle.mend.specs.Mend.{Bytes, recordsOf, mend}
-use Rattle.logged.specs.declared.Seen.{Seen}
-use Rattle.logged.specs.Meters.{seen}
-use Rattle.plant.specs.Lines.{Meter, metered, lineOf}
-use Rattle.plant.specs.Texts.{meterText}
+use Rattle.sheet_words.specs.Lines.{afterMark}
+use Rattle.sheet_parts.specs.Texts.{isPlain}
+use Rattle.sheet_lines.specs.Lines as read
+use Rattle.sheet.specs.Sheet.{lineRead, Outcome, sheetEnd, onward, atStart, sheetOf}
+use Rattle.mend.specs.Mend.{Bytes, meterOf, readingOf, recordsOf, ofMeter, mend}
+use Rattle.mend.specs.Claims.{endOf}
+use Rattle.plant.specs.Lines.{Meter, isGiven, Line, copied, metered, wrong, lineOf, Lines, sound, fault, linesFrom}
+use Rattle.plant.specs.Texts.{minutesText, strangerText}
+use Rattle.plant.specs.Plant.{sheet, written, dayStart, dayEnd, doubtsFrom, plantSheet}
 
-abbrev pub NoBlanks : List ℕ → Type 0
-NoBlanks [] = Unit
-NoBlanks (c ∷ cs) = (isBlank c ≡ false) × NoBlanks cs
+-- ---- what a plant file and kept records give
 
--- a word that begins no remark
-abbrev pub Plain : List ℕ → Type 0
-Plain [] = ⊥
-Plain (c ∷ cs) = (eqb c 35 ≡ false) × (isBlank c ≡ false) × NoBlanks cs
+abbrev pub metersIn : Lines → List Meter
+metersIn (sound ms) = ms
+metersIn (fault line e w) = []
 
--- an item more, with the readings of a meter; or its name cannot stand
-abbrev pub withMeter : Judged → (name : List ℕ) (x : Float) → Seen → State → Line
-withMeter Fine name x s st = taken (withItem 0 (s .first) (s .last) x +0 +0 (placed (16 * st .items) (filled name) (st .texts)) st)
-withMeter (Not e) name x s st = wrong e name
+-- the meters of a plant file
+unfoldable pub metersOf : (plant : List ℕ) → List Meter
+metersOf plant = metersIn (linesFrom (linesOf (afterMark plant)) 0 [])
+
+-- OLD and NEW: the readings of the first and of the last of a meter's records
+abbrev pub oldOf : List Bytes → ℕ
+oldOf [] = 0
+oldOf (r ∷ qs) = readingOf r
+
+abbrev pub newOf : List Bytes → ℕ
+newOf [] = 0
+newOf (r ∷ qs) = readingOf (endOf r qs)
+
+abbrev pub startOf : (kept plant : List ℕ) → ℕ
+startOf kept plant = dayStart (metersOf plant) (recordsOf kept)
+
+abbrev pub endsAt : (kept plant : List ℕ) → ℕ
+endsAt kept plant = dayEnd (metersOf plant) (recordsOf kept)
+
+abbrev pub doubtLines : (kept plant : List ℕ) → List (List ℕ)
+doubtLines kept plant = linesOf (doubtsFrom 16 0 (metersOf plant) (startOf kept plant) (endsAt kept plant) (recordsOf kept))
+
+-- the doubts: what stands after `doubt `
+abbrev pub doubtsOf : (kept plant : List ℕ) → List (List ℕ)
+doubtsOf kept plant = map (drop 6) (doubtLines kept plant)
+
+-- ---- the sheet reads back
+
+-- an item more, with two readings; or its name cannot stand
+abbrev pub withMeter : Judged → (name : List ℕ) (spread : Float) (old new : ℕ) → read.State → read.Line
+withMeter Fine name spread old new st = read.taken (read.withItem 0 old new spread +0 +0 (placed (16 * st .items) (filled name) (st .texts)) st)
+withMeter (Not e) name spread old new st = read.wrong e name
 
 -- what a sheet's reader makes of a meter after some lines
-unfoldable pub meterTaken : (name : List ℕ) (x : Float) → Seen → State → Line
-meterTaken name x s st =
-    cond (ltb 0 (st .balances + st .limits)) (wrong Late (ascii "meter"))
-    (cond (leb 16 (st .items)) (wrong FewItems (ascii "meter"))
-    (withMeter (nameJudged name (st .texts)) name x s st))
+unfoldable pub meterTaken : (name : List ℕ) (spread : Float) (old new : ℕ) → read.State → read.Line
+meterTaken name spread old new st =
+    cond (ltb 0 (st .balances + st .limits)) (read.wrong Late (ascii "meter"))
+    (cond (leb 16 (st .items)) (read.wrong FewItems (ascii "meter"))
+    (withMeter (nameJudged name (st .texts)) name spread old new st))
+
+-- and of a doubt: its text at its place
+unfoldable pub doubtTaken : (text : List ℕ) → read.State → read.Line
+doubtTaken text st = cond (leb 16 (st .doubts)) (read.wrong FewDoubts (ascii "doubt")) (read.taken (read.withDoubt st (placed (840 + 72 * st .doubts) text (st .texts))))
+
+-- of a line of the plant file: name and spread of its meter with the readings of the records; every other line says what it says
+abbrev pub plantLine : Line → (l : List ℕ) → (rs : List Bytes) → read.State → read.Line
+plantLine (metered m) l rs st = meterTaken (m .name) (valueIn (aboveZero (m .spread))) (oldOf (ofMeter (m .number) rs)) (newOf (ofMeter (m .number) rs)) st
+plantLine copied l rs st = lineRead (withoutReturn l) st
+plantLine (wrong e w) l rs st = lineRead (withoutReturn l) st
+
+unfoldable pub doubtsRead : List (List ℕ) → (k : ℕ) → read.State → Outcome
+doubtsRead [] k st = sheetEnd (k + 1) st
+doubtsRead (d ∷ ds) k st = onward (k + 1) (doubtTaken d st) (doubtsRead ds (k + 1))
+
+-- the lines of a plant file after the first k, then a line that says nothing, then doubts
+unfoldable pub plantRead : List (List ℕ) → (rs : List Bytes) (doubts : List (List ℕ)) → (k : ℕ) → read.State → Outcome
+plantRead [] rs ds k st = doubtsRead ds (k + 1) st
+plantRead (l ∷ ls) rs ds k st = onward (k + 1) (plantLine (lineOf (withoutReturn l) []) l rs st) (plantRead ls rs ds (k + 1))
+
+pub record Back (kept plant text : List ℕ) : Type 0 where
+  -- its lines are those of the plant file, each as it is written, the line of minutes, and the doubts
+  pub lines : linesOf (afterMark text) ≡ map (λ l. written l (recordsOf kept)) (linesOf (afterMark plant)) ++ (minutesText (startOf kept plant) (endsAt kept plant) ∷ doubtLines kept plant)
+  pub reads : sheetOf text ≡ plantRead (linesOf (afterMark plant)) (recordsOf kept) (doubtsOf kept plant) 0 atStart
 
 abbrev pub ReadsBack : Type 0
-ReadsBack = (name spread remark : List ℕ) (x : Float) (s : Seen) (st : State) → Plain name → Plain spread → aboveZero spread ≡ Is x → s .first ≤ largest → s .last ≤ largest
-    → lineRead (meterText name spread remark s) st ≡ meterTaken name x s st
+ReadsBack = (kept plant text : List ℕ) → AreBytes kept → plantSheet kept plant ≡ sheet text → Back kept plant text
 
--- ---- every meter that is taken has a name and a spread that can be written so
-
-pub record Sound (m : Meter) : Type 0 where
-  pub name-plain : Plain (m .name)
-  pub spread-plain : Plain (m .spread)
-  pub value : Float
-  pub spread-is : aboveZero (m .spread) ≡ Is value
-
-abbrev pub MetersSound : Type 0
-MetersSound = (l : List ℕ) (ms : List Meter) (m : Meter) → lineOf l ms ≡ metered m → Sound m
-
--- ---- of records none of which is dropped, the volume between a meter's two readings is the total that the mending tells, unless it turned fully
+-- ---- of each meter the volume between OLD and NEW is the total that the mending tells
 
 abbrev pub SameVolume : Type 0
-SameVolume = (kept : Bytes) (m : ℕ) → m < 16 → mend kept .file ≡ kept → seen m (recordsOf kept) .there ≡ true
-    → seen m (recordsOf kept) .first ≤ largest → seen m (recordsOf kept) .last ≤ largest → getD (mend kept .totals) m 0 ≤ largest
-    → volume (seen m (recordsOf kept) .first) (seen m (recordsOf kept) .last) ≡ getD (mend kept .totals) m 0
+SameVolume = (kept plant text : List ℕ) (m : ℕ) → plantSheet kept plant ≡ sheet text → isGiven m (metersOf plant) ≡ true
+    → volume (oldOf (ofMeter m (recordsOf kept))) (newOf (ofMeter m (recordsOf kept))) ≡ getD (mend kept .totals) m 0
+
+-- ---- no record is passed over: its meter has a line in the sheet, or a doubt that names its number
+
+abbrev pub lineAt : (k : ℕ) → List ℕ → List ℕ
+lineAt k text = getD (linesOf (afterMark text)) k []
+
+-- line k is that of a meter with the number m, and it is written
+pub record HasLine (kept plant text : List ℕ) (m k : ℕ) : Type 0 where
+  pub meter : Meter
+  pub is-meter : lineOf (withoutReturn (lineAt k plant)) [] ≡ metered meter
+  pub number-is : meter .number ≡ m
+  pub is-written : lineAt k text ≡ written (lineAt k plant) (recordsOf kept)
+
+abbrev pub Told : (kept plant text : List ℕ) (m : ℕ) → Type 0
+Told kept plant text m = ((k : ℕ) × HasLine kept plant text m k) ⊎ ((k : ℕ) × (lineAt k text ++ (10 ∷ []) ≡ strangerText m))
+
+abbrev pub NoneLost : Type 0
+NoneLost = (kept plant text : List ℕ) (i : ℕ) → plantSheet kept plant ≡ sheet text → i < length (recordsOf kept) → Told kept plant text (meterOf (getD (recordsOf kept) i []))
+
+-- ---- the doubts are at most 16, each of 1 to 72 bytes from 32 to 126
+
+abbrev pub Each : (ℕ → Bool) → List ℕ → Type 0
+Each p [] = Unit
+Each p (c ∷ cs) = (p c ≡ true) × Each p cs
+
+pub record Short (text : List ℕ) : Type 0 where
+  pub some : 0 < length text
+  pub fits : length text ≤ 72
+  pub plain : Each isPlain text
+
+abbrev pub AreShort : List (List ℕ) → Type 0
+AreShort [] = Unit
+AreShort (t ∷ ts) = Short t × AreShort ts
+
+abbrev pub ShortDoubts : Type 0
+ShortDoubts = (kept plant text : List ℕ) → AreBytes kept → plantSheet kept plant ≡ sheet text → (length (doubtsOf kept plant) ≤ 16) × AreShort (doubtsOf kept plant)
