@@ -140,8 +140,8 @@ own-doubt n m (c ∷ cs) h f =
     one-line (m .name ++ (ascii ": " ++ (c ∷ cs))) (record {
       some = let e = length-append (m .name) (ascii ": " ++ (c ∷ cs)) in omega (arith, e);
       fit = widen (16 + (2 + (44 + n))) (62 + n) _ (omega arith)
-      (fit-after 16 (2 + (44 + n)) (m .name) 58 (32 ∷ (c ∷ cs)) (plain-name-bytes (m .name) (h .name-bytes)) (h .name-short)
-      (fit-after 2 (44 + n) (58 ∷ (32 ∷ [])) c cs (refl, (refl, tt)) (omega arith) f));
+          (fit-after 16 (2 + (44 + n)) (m .name) 58 (32 ∷ (c ∷ cs)) (plain-name-bytes (m .name) (h .name-bytes)) (h .name-short)
+          (fit-after 2 (44 + n) (58 ∷ (32 ∷ [])) c cs (refl, (refl, tt)) (omega arith) f));
       begins = skip-plain (m .name) (ascii ": " ++ (c ∷ cs)) (h .name-plain);
     })
     (ap (λ (l : List ℕ). ascii "doubt " ++ l) (sym (append-assoc (m .name) (ascii ": " ++ (c ∷ cs)) (10 ∷ []))))
@@ -162,8 +162,8 @@ unfolding ascii tab skipBlanks
 stranger-doubt n m h = record {
   some = omega arith;
   fit = widen 59 (62 + n) _ (omega arith)
-  (fit-behind 6 53 (ascii "meter ") (decimalText m ++ ascii " has records, and the plant file has no such meter") (plain-known (ascii "meter ") refl) (omega arith)
-  (fit-after 2 51 (decimalText m) _ _ (plain-decimal m) (decimal-short 1 m (omega (arith, h))) fit-stranger) (append-some (decimalText m) _ _));
+      (fit-behind 6 53 (ascii "meter ") (decimalText m ++ ascii " has records, and the plant file has no such meter") (plain-known (ascii "meter ") refl) (omega arith)
+      (fit-after 2 51 (decimalText m) _ _ (plain-decimal m) (decimal-short 1 m (omega (arith, h))) fit-stranger) (append-some (decimalText m) _ _));
   begins = refl;
 }
 

@@ -9,4 +9,5 @@ pub mod Sheeted
 pub mod Volumes
 pub mod Whole
 pub mod Lost
+pub mod Enough
 pub mod Cases

@@ -21,7 +21,7 @@ use Rattle.plant.specs.declared.Wanted.the-variants as wanted
 use Rattle.plant.specs.Lines.{Meter, Found, none, one, find, isOne, isGiven, Line, copied, metered, wrong, noNames, nameBy, numberBy, meterNumber, meterLine, lineOf, Lines, sound, onward, linesFrom}
 use Rattle.plant.specs.Texts.{minutesText, strangerText}
 use Rattle.plant.specs.Plant.{sheet, written, doubtBy, doubtsFrom, plantSheet}
-use Rattle.plant.specs.Claims.{metersOf, startOf, endsAt, doubtLines, lineAt, HasLine, Told, NoneLost}
+use Rattle.plant.specs.Claims.{metersOf, dayFrom, dayTo, doubtLines, lineAt, HasLine, Told, NoneLost}
 use Rattle.plant.proofs.Kept.{none-dropped, record-there, record-numbered}
 use Rattle.plant.proofs.Doubts.{AllSound, Doubt, doubtWith, AtMostOne, no-line, one-line, strangerWith, stranger-is, stranger-doubt, found-sound, one-at, line-more}
 use Rattle.plant.proofs.Sheeted.{Sheeted, sheeted, not-fault, lines-end, sound-meters, past}
@@ -141,28 +141,31 @@ module _ (kept plant text : List ℕ) (s : Sheeted kept plant text) (n : ℕ) wh
       let ls = linesOf (afterMark plant) in
       let ws = map (λ l. written l (recordsOf kept)) ls in
       let size = length-map ls (λ l. written l (recordsOf kept)) in
-      let w = o .within in
-      (o .at, record {
-        meter = o .meter;
-        is-meter = o .is-meter;
-        number-is = o .number-is;
-        is-written = ap (λ (x : List (List ℕ)). getD x (o .at) []) (sheet-lines kept plant text s)
-        ∙ List·getD-append ws (minutesText (startOf kept plant) (endsAt kept plant) ∷ doubtLines kept plant) [] (o .at) (omega (arith, size, w))
-        ∙ written-at (recordsOf kept) ls (o .at) w;
-      })
+      let w = o .within in (
+        o .at,
+        record {
+          meter = o .meter;
+          is-meter = o .is-meter;
+          number-is = o .number-is;
+          is-written = ap (λ (x : List (List ℕ)). getD x (o .at) []) (sheet-lines kept plant text s)
+              ∙ List·getD-append ws (minutesText (dayFrom kept plant) (dayTo kept plant) ∷ doubtLines kept plant) [] (o .at) (omega (arith, size, w))
+              ∙ written-at (recordsOf kept) ls (o .at) w;
+        },
+      )
 
   by-doubt : Doubted (doubtLines kept plant) n → (k : ℕ) × (lineAt k text ++ (10 ∷ []) ≡ strangerText n)
   by-doubt d =
       let ws = map (λ l. written l (recordsOf kept)) (linesOf (afterMark plant)) in
-      let others = minutesText (startOf kept plant) (endsAt kept plant) ∷ doubtLines kept plant in
-      (length ws + suc (d .at),
-      ap (λ (x : List (List ℕ)). getD x (length ws + suc (d .at)) [] ++ (10 ∷ [])) (sheet-lines kept plant text s)
-      ∙ ap (λ (x : List ℕ). x ++ (10 ∷ [])) (getD-append-add ws others (suc (d .at)) []) ∙ d .is-stranger)
+      let others = minutesText (dayFrom kept plant) (dayTo kept plant) ∷ doubtLines kept plant in (
+        length ws + suc (d .at),
+        ap (λ (x : List (List ℕ)). getD x (length ws + suc (d .at)) [] ++ (10 ∷ [])) (sheet-lines kept plant text s)
+            ∙ ap (λ (x : List ℕ). x ++ (10 ∷ [])) (getD-append-add ws others (suc (d .at)) []) ∙ d .is-stranger,
+      )
 
   told-by : (f : Found) → find n (metersOf plant) ≡ f → n < 16 → seen n (recordsOf kept) .there ≡ true → Told kept plant text n
   unfolding find
   told-by none f l t =
-      inr (by-doubt (has-doubt 16 0 (metersOf plant) (startOf kept plant) (endsAt kept plant) (recordsOf kept) n (sound-meters plant (metersOf plant) (s .sound-lines)) (omega arith) f t (omega arith) (omega (arith, l))))
+      inr (by-doubt (has-doubt 16 0 (metersOf plant) (dayFrom kept plant) (dayTo kept plant) (recordsOf kept) n (sound-meters plant (metersOf plant) (s .sound-lines)) (omega arith) f t (omega arith) (omega (arith, l))))
   told-by (one m) f l t =
       ⊎-elim (λ (h : isGiven n [] ≡ true). absurd (false≢true h)) (λ (o : Owned (linesOf (afterMark plant)) n). inl (by-line o))
       (has-line (linesOf (afterMark plant)) 0 [] (metersOf plant) n (s .sound-lines) (ap isOne f))

@@ -1,4 +1,4 @@
--- What is shown of every sheet that is written: how it reads back, whose volumes it has, that no record is passed over, and that its doubts can stand. Definitions only.
+-- What is shown of every sheet that is written: how it reads back, whose volumes it has, that no record is passed over, and that its doubts can stand; and how much of the files decides. Definitions only.
 use mathlib.Core.Path.{_≡_}
 use mathlib.Core.Bool.{Bool, true, cond}
 use mathlib.Core.Logic.{_⊎_}
@@ -6,7 +6,7 @@ use mathlib.Core.List.{List, [], _∷_, _++_, map}
 use Prim.Native.Nat.{ℕ, _+_, _*_, _≤_, _<_}
 use lib.Dec.{leb, ltb}
 use lib.Ieee.{Float}
-use lib.ListN.{length, drop, getD}
+use lib.ListN.{length, take, drop, getD}
 use Rattle.numbers.specs.Numbers.{+0}
 use Rattle.endian.specs.Little.{placed}
 use Rattle.endian.specs.Claims.{AreBytes}
@@ -47,14 +47,15 @@ abbrev pub newOf : List Bytes → ℕ
 newOf [] = 0
 newOf (r ∷ qs) = readingOf (endOf r qs)
 
-abbrev pub startOf : (kept plant : List ℕ) → ℕ
-startOf kept plant = dayStart (metersOf plant) (recordsOf kept)
+-- the day's first and last minute
+abbrev pub dayFrom : (kept plant : List ℕ) → ℕ
+dayFrom kept plant = dayStart (metersOf plant) (recordsOf kept)
 
-abbrev pub endsAt : (kept plant : List ℕ) → ℕ
-endsAt kept plant = dayEnd (metersOf plant) (recordsOf kept)
+abbrev pub dayTo : (kept plant : List ℕ) → ℕ
+dayTo kept plant = dayEnd (metersOf plant) (recordsOf kept)
 
 abbrev pub doubtLines : (kept plant : List ℕ) → List (List ℕ)
-doubtLines kept plant = linesOf (doubtsFrom 16 0 (metersOf plant) (startOf kept plant) (endsAt kept plant) (recordsOf kept))
+doubtLines kept plant = linesOf (doubtsFrom 16 0 (metersOf plant) (dayFrom kept plant) (dayTo kept plant) (recordsOf kept))
 
 -- the doubts: what stands after `doubt `
 abbrev pub doubtsOf : (kept plant : List ℕ) → List (List ℕ)
@@ -95,7 +96,7 @@ plantRead (l ∷ ls) rs ds k st = onward (k + 1) (plantLine (lineOf (withoutRetu
 
 pub record Back (kept plant text : List ℕ) : Type 0 where
   -- its lines are those of the plant file, each as it is written, the line of minutes, and the doubts
-  pub lines : linesOf (afterMark text) ≡ map (λ l. written l (recordsOf kept)) (linesOf (afterMark plant)) ++ (minutesText (startOf kept plant) (endsAt kept plant) ∷ doubtLines kept plant)
+  pub lines : linesOf (afterMark text) ≡ map (λ l. written l (recordsOf kept)) (linesOf (afterMark plant)) ++ (minutesText (dayFrom kept plant) (dayTo kept plant) ∷ doubtLines kept plant)
   pub reads : sheetOf text ≡ plantRead (linesOf (afterMark plant)) (recordsOf kept) (doubtsOf kept plant) 0 atStart
 
 abbrev pub ReadsBack : Type 0
@@ -142,3 +143,8 @@ AreShort (t ∷ ts) = Short t × AreShort ts
 
 abbrev pub ShortDoubts : Type 0
 ShortDoubts = (kept plant text : List ℕ) → AreBytes kept → plantSheet kept plant ≡ sheet text → (length (doubtsOf kept plant) ≤ 16) × AreShort (doubtsOf kept plant)
+
+-- ---- bytes enough: those that the program reads decide
+
+abbrev pub EnoughBytes : Type 0
+EnoughBytes = (kept plant : List ℕ) → plantSheet kept plant ≡ plantSheet (take 524289 kept) (take 65537 plant)
