@@ -1,20 +1,20 @@
 -- The doubts: each is a line of its own, with a text that can stand and reads back.
-use mathlib.Core.Path.{_≡_, refl, sym, ap, _∙_, subst}
-use mathlib.Core.Bool.{Bool, true, false, cond, not, _&&_, _||_}
+use mathlib.Core.Path.{_≡_, refl, sym, ap, _∙_}
+use mathlib.Core.Bool.{Bool, true, false, cond}
 use mathlib.Core.List.{List, [], _∷_, _++_, map, append-assoc}
-use Prim.Native.Nat.{ℕ, zero, suc, _+_, _-_, _*_, _^_, _<_, _≤_}
+use Prim.Native.Nat.{ℕ, zero, suc, _+_, _-_, _*_, _<_, _≤_}
 use native.Mathlib.Omega.{arith}
 use lib.Dec.{leb, ltb, eqb}
-use lib.ListN.{length, take, drop, length-append, getD}
+use lib.ListN.{length, drop, length-append, getD}
 use lib.Seq.{take-all}
-use borrow.Author.Tests.{eqb-true, leb-true, le-ltb, ne-eqb}
+use borrow.Author.Tests.{leb-true, le-ltb, ne-eqb}
 use Rattle.numbers.specs.Numbers.{tab}
 use Rattle.endian.specs.Little.{placed}
 use Rattle.ascii.specs.Text.{ascii, sameText, decimalText}
 use Rattle.ascii.proofs.Numerals.{decimal-short}
 use Rattle.day_words.specs.declared.Count.{Count}
 use Rattle.day_words.specs.declared.Count.the-variants.{Shows, Unread}
-use Rattle.day_words.specs.Words.{upTo, isBlank, linesOf, withoutReturn, skipBlanks, word, rest}
+use Rattle.day_words.specs.Words.{upTo, linesOf, withoutReturn, skipBlanks, word, rest}
 use Rattle.sheet_parts.specs.Texts.{kept, withoutBlanks, textIn, isPlain, isForeign, soundPart}
 use Rattle.sheet_parts.specs.Parts.{texted, textAt}
 use Rattle.sheet_lines.specs.Lines.{State, doubtLine}
@@ -25,7 +25,7 @@ use Rattle.logged.specs.Meters.{seen}
 use Rattle.plant.specs.Lines.{Meter, Found, none, one, find}
 use Rattle.plant.specs.Texts.{also, beginsText, endsText, stillText, parts, doubtOf, strangerText}
 use Rattle.plant.specs.Plant.{strangerIf, doubtBy, doubtsFrom}
-use Rattle.plant.specs.Claims.{doubtTaken, Each, Short, AreShort}
+use Rattle.plant.specs.Claims.{doubtTaken, Each, AreShort}
 use Rattle.plant.proofs.Words.{Plain, skip-plain, word-is, rest-is}
 use Rattle.plant.proofs.Each.{each-append, each-as, noFeed, plain-no-feed, plain-name-bytes, plain-decimal, plain-known, both}
 use Rattle.plant.proofs.Taken.{Sound}

@@ -6,6 +6,7 @@ pub mod Kept
 pub mod Lines
 pub mod Doubts
 pub mod Sheeted
+pub mod Given
 pub mod Volumes
 pub mod Whole
 pub mod Lost

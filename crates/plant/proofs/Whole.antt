@@ -1,10 +1,8 @@
 -- The whole sheet reads back, and its doubts can stand.
 use mathlib.Core.Path.{_≡_, refl, sym, ap, _∙_, subst}
-use mathlib.Core.Bool.{Bool, true, false, cond}
 use mathlib.Core.List.{List, [], _∷_, _++_, map}
-use Prim.Native.Nat.{ℕ, _+_, _≤_, _<_}
+use Prim.Native.Nat.{ℕ, _+_, _≤_}
 use native.Mathlib.Omega.{arith}
-use lib.Dec.{eqb, ltb}
 use lib.Ieee.{Float}
 use lib.ListN.{length, drop}
 use borrow.Author.Tests.{le-ltb}
@@ -12,8 +10,7 @@ use Rattle.numbers.specs.Numbers.{tab}
 use Rattle.endian.specs.Claims.{AreBytes}
 use Rattle.ascii.specs.Text.{ascii, decimalText}
 use Rattle.ascii.proofs.Numerals.{decimal-short}
-use Rattle.day_words.specs.declared.Number.the-variants.{Is}
-use Rattle.day_words.specs.Words.{upTo, isBlank, linesOf, withoutReturn, skipBlanks, word, rest}
+use Rattle.day_words.specs.Words.{upTo, linesOf, withoutReturn, skipBlanks, word, rest}
 use Rattle.day_words.specs.Items.{valueIn}
 use Rattle.sheet_words.specs.Names.{aboveZero}
 use Rattle.sheet_words.specs.Lines.{afterMark}
@@ -23,8 +20,8 @@ use Rattle.mend.specs.Mend.{Bytes, recordsOf, ofMeter}
 use Rattle.logged.specs.Meters.{seen}
 use Rattle.plant.specs.Lines.{Meter, Line, copied, metered, wrong, lineOf, remarkOf}
 use Rattle.plant.specs.Texts.{minutesText, meterText}
-use Rattle.plant.specs.Plant.{writtenBy, written, linesText, dayStart, dayEnd, doubtsFrom, markOf, sheetText}
-use Rattle.plant.specs.Claims.{metersOf, oldOf, newOf, dayFrom, dayTo, doubtLines, doubtsOf, meterTaken, doubtTaken, plantLine, doubtsRead, plantRead, Back, ReadsBack, ShortDoubts, Each, AreShort}
+use Rattle.plant.specs.Plant.{writtenBy, written, dayStart, dayEnd, doubtsFrom, sheetText}
+use Rattle.plant.specs.Claims.{metersOf, oldOf, newOf, dayFrom, dayTo, doubtLines, doubtsOf, meterTaken, doubtTaken, plantLine, doubtsRead, plantRead, ReadsBack, ShortDoubts, Each, AreShort}
 use Rattle.plant.proofs.Each.{each-return, noFeed}
 use Rattle.plant.proofs.Taken.{Sound, meters-sound}
 use Rattle.plant.proofs.Back.{return-after, reads-back}

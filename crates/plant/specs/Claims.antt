@@ -22,9 +22,9 @@ use Rattle.sheet_words.specs.Lines.{afterMark}
 use Rattle.sheet_parts.specs.Texts.{isPlain}
 use Rattle.sheet_lines.specs.Lines as read
 use Rattle.sheet.specs.Sheet.{lineRead, Outcome, sheetEnd, onward, atStart, sheetOf}
-use Rattle.mend.specs.Mend.{Bytes, meterOf, readingOf, recordsOf, ofMeter, mend}
+use Rattle.mend.specs.Mend.{Bytes, meterOf, readingOf, recordsOf, ofMeter, isThere, mend}
 use Rattle.mend.specs.Claims.{endOf}
-use Rattle.plant.specs.Lines.{Meter, isGiven, Line, copied, metered, wrong, lineOf, Lines, sound, fault, linesFrom}
+use Rattle.plant.specs.Lines.{Meter, Line, copied, metered, wrong, lineOf, Lines, sound, fault, linesFrom}
 use Rattle.plant.specs.Texts.{minutesText, strangerText}
 use Rattle.plant.specs.Plant.{sheet, written, dayStart, dayEnd, doubtsFrom, plantSheet}
 
@@ -102,16 +102,20 @@ pub record Back (kept plant text : List ℕ) : Type 0 where
 abbrev pub ReadsBack : Type 0
 ReadsBack = (kept plant text : List ℕ) → AreBytes kept → plantSheet kept plant ≡ sheet text → Back kept plant text
 
--- ---- of each meter the volume between OLD and NEW is the total that the mending tells
+-- ---- of each meter there are records, and the volume between OLD and NEW is the total that the mending tells
 
-abbrev pub SameVolume : Type 0
-SameVolume = (kept plant text : List ℕ) (m : ℕ) → plantSheet kept plant ≡ sheet text → isGiven m (metersOf plant) ≡ true
-    → volume (oldOf (ofMeter m (recordsOf kept))) (newOf (ofMeter m (recordsOf kept))) ≡ getD (mend kept .totals) m 0
-
--- ---- no record is passed over: its meter has a line in the sheet, or a doubt that names its number
-
+-- line k of a text, from 0
 abbrev pub lineAt : (k : ℕ) → List ℕ → List ℕ
 lineAt k text = getD (linesOf (afterMark text)) k []
+
+pub record Measured (kept : List ℕ) (m : ℕ) : Type 0 where
+  pub has-records : isThere (ofMeter m (recordsOf kept)) ≡ true
+  pub total-is : volume (oldOf (ofMeter m (recordsOf kept))) (newOf (ofMeter m (recordsOf kept))) ≡ getD (mend kept .totals) m 0
+
+abbrev pub SameVolume : Type 0
+SameVolume = (kept plant text : List ℕ) (k : ℕ) (m : Meter) → plantSheet kept plant ≡ sheet text → lineOf (withoutReturn (lineAt k plant)) [] ≡ metered m → Measured kept (m .number)
+
+-- ---- no record is passed over: its meter has a line in the sheet, or a doubt that names its number
 
 -- line k is that of a meter with the number m, and it is written
 pub record HasLine (kept plant text : List ℕ) (m k : ℕ) : Type 0 where
