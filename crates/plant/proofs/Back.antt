@@ -2,24 +2,21 @@
 use mathlib.Core.Path.{_≡_, refl, sym, ap, _∙_}
 use mathlib.Core.Bool.{Bool, true, false, cond}
 use mathlib.Core.List.{List, [], _∷_, _++_, append-assoc}
-use Prim.Native.Nat.{ℕ, suc, _+_, _-_, _*_, _≤_}
+use Prim.Native.Nat.{ℕ, suc, _+_, _-_, _≤_}
 use native.Mathlib.Omega.{arith}
 use lib.Dec.{leb, ltb, eqb}
 use lib.ListN.{length, take, getD}
 use lib.Ieee.{Float}
 use Rattle.numbers.specs.Numbers.{+0, tab}
-use Rattle.endian.specs.Little.{placed}
 use Rattle.io.specs.Digits.{digits}
 use Rattle.ascii.specs.Text.{ascii, sameText, decimalText}
 use Rattle.totaliser.specs.Volume.{largest}
 use Rattle.day_words.specs.declared.Number.the-variants.{Is}
-use Rattle.day_words.specs.declared.Count.the-variants.{Shows}
 use Rattle.day_words.specs.Words.{upTo, withoutReturn, skipBlanks, word, rest}
-use Rattle.day_words.specs.Items.{filled, readingOf}
 use Rattle.sheet_words.specs.declared.Expected.the-variants.{Late, FewItems}
 use Rattle.sheet_words.specs.declared.Judged.{Judged}
 use Rattle.sheet_words.specs.declared.Judged.the-variants.{Fine, Not}
-use Rattle.sheet_words.specs.Names.{beginsLetter, nameJudged, aboveZero}
+use Rattle.sheet_words.specs.Names.{nameJudged, aboveZero}
 use Rattle.sheet_words.specs.Lines.{unremarkedFrom}
 use Rattle.sheet_parts.specs.Parts.{namedBy, nameAt, itemed, meterRead, meterOf, itemOf}
 use Rattle.sheet_lines.specs.Lines.{State, Line, wrong, itemRead, itemNamed, itemLine}

@@ -1,20 +1,20 @@
 -- The doubts: each is a line of its own, with a text that can stand and reads back.
-use mathlib.Core.Path.{_≡_, refl, sym, ap, _∙_, subst}
-use mathlib.Core.Bool.{Bool, true, false, cond, not, _&&_, _||_}
+use mathlib.Core.Path.{_≡_, refl, sym, ap, _∙_}
+use mathlib.Core.Bool.{Bool, true, false, cond}
 use mathlib.Core.List.{List, [], _∷_, _++_, map, append-assoc}
-use Prim.Native.Nat.{ℕ, zero, suc, _+_, _-_, _*_, _^_, _<_, _≤_}
+use Prim.Native.Nat.{ℕ, zero, suc, _+_, _-_, _*_, _<_, _≤_}
 use native.Mathlib.Omega.{arith}
 use lib.Dec.{leb, ltb, eqb}
-use lib.ListN.{length, take, drop, length-append, getD}
+use lib.ListN.{length, drop, length-append, getD}
 use lib.Seq.{take-all}
-use borrow.Author.Tests.{eqb-true, leb-true, le-ltb, ne-eqb}
+use borrow.Author.Tests.{leb-true, le-ltb, ne-eqb}
 use Rattle.numbers.specs.Numbers.{tab}
 use Rattle.endian.specs.Little.{placed}
 use Rattle.ascii.specs.Text.{ascii, sameText, decimalText}
 use Rattle.ascii.proofs.Numerals.{decimal-short}
 use Rattle.day_words.specs.declared.Count.{Count}
 use Rattle.day_words.specs.declared.Count.the-variants.{Shows, Unread}
-use Rattle.day_words.specs.Words.{upTo, isBlank, linesOf, withoutReturn, skipBlanks, word, rest}
+use Rattle.day_words.specs.Words.{upTo, linesOf, withoutReturn, skipBlanks, word, rest}
 use Rattle.sheet_parts.specs.Texts.{kept, withoutBlanks, textIn, isPlain, isForeign, soundPart}
 use Rattle.sheet_parts.specs.Parts.{texted, textAt}
 use Rattle.sheet_lines.specs.Lines.{State, doubtLine}
@@ -25,7 +25,7 @@ use Rattle.logged.specs.Meters.{seen}
 use Rattle.plant.specs.Lines.{Meter, Found, none, one, find}
 use Rattle.plant.specs.Texts.{also, beginsText, endsText, stillText, parts, doubtOf, strangerText}
 use Rattle.plant.specs.Plant.{strangerIf, doubtBy, doubtsFrom}
-use Rattle.plant.specs.Claims.{doubtTaken, Each, Short, AreShort}
+use Rattle.plant.specs.Claims.{doubtTaken, Each, AreShort}
 use Rattle.plant.proofs.Words.{Plain, skip-plain, word-is, rest-is}
 use Rattle.plant.proofs.Each.{each-append, each-as, noFeed, plain-no-feed, plain-name-bytes, plain-decimal, plain-known, both}
 use Rattle.plant.proofs.Taken.{Sound}
@@ -140,8 +140,8 @@ own-doubt n m (c ∷ cs) h f =
     one-line (m .name ++ (ascii ": " ++ (c ∷ cs))) (record {
       some = let e = length-append (m .name) (ascii ": " ++ (c ∷ cs)) in omega (arith, e);
       fit = widen (16 + (2 + (44 + n))) (62 + n) _ (omega arith)
-      (fit-after 16 (2 + (44 + n)) (m .name) 58 (32 ∷ (c ∷ cs)) (plain-name-bytes (m .name) (h .name-bytes)) (h .name-short)
-      (fit-after 2 (44 + n) (58 ∷ (32 ∷ [])) c cs (refl, (refl, tt)) (omega arith) f));
+          (fit-after 16 (2 + (44 + n)) (m .name) 58 (32 ∷ (c ∷ cs)) (plain-name-bytes (m .name) (h .name-bytes)) (h .name-short)
+          (fit-after 2 (44 + n) (58 ∷ (32 ∷ [])) c cs (refl, (refl, tt)) (omega arith) f));
       begins = skip-plain (m .name) (ascii ": " ++ (c ∷ cs)) (h .name-plain);
     })
     (ap (λ (l : List ℕ). ascii "doubt " ++ l) (sym (append-assoc (m .name) (ascii ": " ++ (c ∷ cs)) (10 ∷ []))))
@@ -162,8 +162,8 @@ unfolding ascii tab skipBlanks
 stranger-doubt n m h = record {
   some = omega arith;
   fit = widen 59 (62 + n) _ (omega arith)
-  (fit-behind 6 53 (ascii "meter ") (decimalText m ++ ascii " has records, and the plant file has no such meter") (plain-known (ascii "meter ") refl) (omega arith)
-  (fit-after 2 51 (decimalText m) _ _ (plain-decimal m) (decimal-short 1 m (omega (arith, h))) fit-stranger) (append-some (decimalText m) _ _));
+      (fit-behind 6 53 (ascii "meter ") (decimalText m ++ ascii " has records, and the plant file has no such meter") (plain-known (ascii "meter ") refl) (omega arith)
+      (fit-after 2 51 (decimalText m) _ _ (plain-decimal m) (decimal-short 1 m (omega (arith, h))) fit-stranger) (append-some (decimalText m) _ _));
   begins = refl;
 }
 

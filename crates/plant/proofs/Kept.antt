@@ -1,8 +1,8 @@
 -- Where mending drops no record: their readings are in range, their meters have numbers below 16, and the file has the same records.
-use mathlib.Core.Path.{_≡_, refl, sym, ap, _∙_, subst}
+use mathlib.Core.Path.{_≡_, refl, sym, ap, _∙_}
 use mathlib.Core.Bool.{Bool, true, false, cond, false≢true}
-use mathlib.Core.List.{List, [], _∷_, _++_}
-use Prim.Native.Nat.{ℕ, zero, suc, _+_, _-_, _*_, _^_, _<_, _≤_}
+use mathlib.Core.List.{List, [], _∷_}
+use Prim.Native.Nat.{ℕ, zero, suc, _+_, _-_, _*_, _<_, _≤_}
 use native.Mathlib.Omega.{arith}
 use lib.Dec.{ltb, eqb}
 use lib.ListN.{length, take, drop, length-take, getD}
@@ -14,7 +14,7 @@ use Rattle.endian.proofs.Laws.{part-bytes}
 use Rattle.endian.proofs.Little.{little-below}
 use Rattle.endian.proofs.Turns.{widened}
 use Rattle.totaliser.specs.Volume.{largest}
-use Rattle.mend.specs.Mend.{Bytes, meterOf, minuteOf, readingOf, countOf, recordsOf, ofMeter, Fate, isKept, fateOf, fates, sound, Dropped, dropped, isThere, mend}
+use Rattle.mend.specs.Mend.{Bytes, meterOf, minuteOf, readingOf, countOf, recordsOf, ofMeter, isKept, fateOf, fates, sound, dropped, isThere, mend}
 use Rattle.mend.specs.Claims.{endOf}
 use Rattle.mend.proofs.Fates.{sound-is}
 use Rattle.mend.proofs.Again.{file-records}
@@ -118,6 +118,13 @@ there-by (r ∷ qs) s e h = e .is-there
 
 pub record-there : (rs : List Bytes) (i : ℕ) → i < length rs → seen (meterOf (getD rs i [])) rs .there ≡ true
 record-there rs i h = there-by (ofMeter (meterOf (getD rs i [])) rs) (seen (meterOf (getD rs i [])) rs) (first-and-last (meterOf (getD rs i [])) rs) (own-some rs i h)
+
+own-by : (own : List Bytes) (s : Seen) → EndsOf own s → s .there ≡ true → isThere own ≡ true
+own-by [] s e h = absurd (false≢true (sym e ∙ h))
+own-by (r ∷ qs) s e h = refl
+
+pub own-there : (m : ℕ) (rs : List Bytes) → seen m rs .there ≡ true → isThere (ofMeter m rs) ≡ true
+own-there m rs h = own-by (ofMeter m rs) (seen m rs) (first-and-last m rs) h
 
 pub record-numbered : (rs : List Bytes) (i : ℕ) → i < length rs → AllSound rs → meterOf (getD rs i []) < 16
 record-numbered [] i h s = absurd (omega (arith, h))

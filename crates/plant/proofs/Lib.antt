@@ -6,7 +6,9 @@ pub mod Kept
 pub mod Lines
 pub mod Doubts
 pub mod Sheeted
+pub mod Given
 pub mod Volumes
 pub mod Whole
 pub mod Lost
+pub mod Enough
 pub mod Cases

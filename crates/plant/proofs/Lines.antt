@@ -2,7 +2,7 @@
 use mathlib.Core.Path.{_≡_, refl, sym, ap, _∙_, subst}
 use mathlib.Core.Bool.{Bool, true, false, cond, not, _&&_, false≢true}
 use mathlib.Core.List.{List, [], _∷_, _++_, map, append-assoc}
-use Prim.Native.Nat.{ℕ, zero, suc, _+_, _-_, _<_, _≤_}
+use Prim.Native.Nat.{ℕ, suc, _+_, _-_}
 use native.Mathlib.Omega.{arith}
 use lib.Dec.{eqb}
 use lib.ListN.{length, take, drop}
@@ -21,9 +21,9 @@ use Rattle.plant.specs.Lines.{Line, copied, metered, wrong, lineOf, rema
 use Rattle.plant.specs.Texts.{afterBlank, minutesText, meterText}
 use Rattle.plant.specs.Plant.{writtenBy, written, linesText, markOf}
 use Rattle.plant.specs.Claims.{Each}
-use Rattle.plant.proofs.Words.{six, place, six-is}
+use Rattle.plant.proofs.Words.{six, six-is}
 use Rattle.plant.proofs.Each.{each-append, each-drop, each-return, each-rest, each-as, noFeed, plain-no-feed, plain-name-bytes, plain-decimal, plain-known, both}
-use Rattle.plant.proofs.Taken.{Sound, meters-sound}
+use Rattle.plant.proofs.Taken.{meters-sound}
 
 -- ---- lines of a text
 

@@ -15,12 +15,11 @@ use Rattle.totaliser.specs.Volume.{largest}
 use Rattle.day_words.specs.Words.{linesOf, withoutReturn}
 use Rattle.sheet_words.specs.Lines.{afterMark}
 use Rattle.mend.specs.Mend.{Bytes, recordsOf, Dropped, dropped, mend}
-use Rattle.logged.specs.declared.Seen.{Seen}
 use Rattle.logged.specs.Meters.{seen}
 use Rattle.plant.specs.declared.Wanted.{Wanted}
 use Rattle.plant.specs.Lines.{Meter, Found, none, one, find, isOne, isGiven, Line, copied, metered, wrong, lineOf, Lines, sound, fault, linesEnd, onward, linesFrom}
 use Rattle.plant.specs.Texts.{missingText, turnedText, noDayText}
-use Rattle.plant.specs.Plant.{Answer, sheet, refused, dayStart, dayEnd, sheetText, amiss, amissBy, firstOf, amissFrom, fitted, byDay, unlessAmiss, byLines, byDropped, plantSheet}
+use Rattle.plant.specs.Plant.{Answer, sheet, refused, dayStart, dayEnd, sheetText, amissBy, firstOf, amissFrom, fitted, byDay, unlessAmiss, byLines, byDropped, plantSheet}
 use Rattle.plant.specs.Claims.{metersIn, metersOf}
 use Rattle.plant.proofs.Each.{each-return, noFeed}
 use Rattle.plant.proofs.Taken.{Sound, meters-sound}
@@ -162,16 +161,14 @@ turned-some : (m : ℕ) (name : List ℕ) → turnedText m name ≡ [] → ⊥
 unfolding turnedText ascii tab
 turned-some m name e = false≢true (sym (ap isSome e))
 
-not-amiss : (m : ℕ) (name : List ℕ) (there turned : Bool) → cond (not there) (missingText m name) (cond turned (turnedText m name) []) ≡ [] → turned ≡ false
+not-amiss : (m : ℕ) (name : List ℕ) (there turned : Bool) → cond (not there) (missingText m name) (cond turned (turnedText m name) []) ≡ [] → (there ≡ true) × (turned ≡ false)
 not-amiss m name false turned e = absurd (missing-some m name e)
 not-amiss m name true true e = absurd (turned-some m name e)
-not-amiss m name true false e = refl
+not-amiss m name true false e = (refl, refl)
 
-total-by : (f : Found) (m : ℕ) (there : Bool) (total : ℕ) → isOne f ≡ true → amissBy f m there total ≡ [] → total ≤ largest
-total-by none m there total g e = absurd (false≢true g)
-total-by (one x) m there total g e = ltb-false largest total (not-amiss m (x .name) there (ltb largest total) e)
+given-by : (f : Found) (m : ℕ) (there : Bool) (total : ℕ) → isOne f ≡ true → amissBy f m there total ≡ [] → (there ≡ true) × (total ≤ largest)
+given-by none m there total g e = absurd (false≢true g)
+given-by (one x) m there total g e = let p = not-amiss m (x .name) there (ltb largest total) e in (p .0, ltb-false largest total (p .1))
 
-pub total-small : (m : ℕ) (ms : List Meter) (totals : List ℕ) (rs : List Bytes) → AllSound ms → isGiven m ms ≡ true → amissFrom 16 0 ms totals rs ≡ [] → getD totals m 0 ≤ largest
-total-small m ms totals rs h g e =
-    let s = number-small m ms h g in
-    total-by (find m ms) m (seen m rs .there) (getD totals m 0) g (amiss-none 16 0 ms totals rs e m (omega arith) (omega (arith, s)))
+pub given-sound : (m : ℕ) (ms : List Meter) (totals : List ℕ) (rs : List Bytes) → m < 16 → isGiven m ms ≡ true → amissFrom 16 0 ms totals rs ≡ [] → (seen m rs .there ≡ true) × (getD totals m 0 ≤ largest)
+given-sound m ms totals rs l g e = given-by (find m ms) m (seen m rs .there) (getD totals m 0) g (amiss-none 16 0 ms totals rs e m (omega arith) (omega (arith, l)))

@@ -1,10 +1,8 @@
 -- The whole sheet reads back, and its doubts can stand.
 use mathlib.Core.Path.{_≡_, refl, sym, ap, _∙_, subst}
-use mathlib.Core.Bool.{Bool, true, false, cond}
 use mathlib.Core.List.{List, [], _∷_, _++_, map}
-use Prim.Native.Nat.{ℕ, _+_, _≤_, _<_}
+use Prim.Native.Nat.{ℕ, _+_, _≤_}
 use native.Mathlib.Omega.{arith}
-use lib.Dec.{eqb, ltb}
 use lib.Ieee.{Float}
 use lib.ListN.{length, drop}
 use borrow.Author.Tests.{le-ltb}
@@ -12,8 +10,7 @@ use Rattle.numbers.specs.Numbers.{tab}
 use Rattle.endian.specs.Claims.{AreBytes}
 use Rattle.ascii.specs.Text.{ascii, decimalText}
 use Rattle.ascii.proofs.Numerals.{decimal-short}
-use Rattle.day_words.specs.declared.Number.the-variants.{Is}
-use Rattle.day_words.specs.Words.{upTo, isBlank, linesOf, withoutReturn, skipBlanks, word, rest}
+use Rattle.day_words.specs.Words.{upTo, linesOf, withoutReturn, skipBlanks, word, rest}
 use Rattle.day_words.specs.Items.{valueIn}
 use Rattle.sheet_words.specs.Names.{aboveZero}
 use Rattle.sheet_words.specs.Lines.{afterMark}
@@ -23,8 +20,8 @@ use Rattle.mend.specs.Mend.{Bytes, recordsOf, ofMeter}
 use Rattle.logged.specs.Meters.{seen}
 use Rattle.plant.specs.Lines.{Meter, Line, copied, metered, wrong, lineOf, remarkOf}
 use Rattle.plant.specs.Texts.{minutesText, meterText}
-use Rattle.plant.specs.Plant.{writtenBy, written, linesText, dayStart, dayEnd, doubtsFrom, markOf, sheetText}
-use Rattle.plant.specs.Claims.{metersOf, oldOf, newOf, startOf, endsAt, doubtLines, doubtsOf, meterTaken, doubtTaken, plantLine, doubtsRead, plantRead, Back, ReadsBack, ShortDoubts, Each, AreShort}
+use Rattle.plant.specs.Plant.{writtenBy, written, dayStart, dayEnd, doubtsFrom, sheetText}
+use Rattle.plant.specs.Claims.{metersOf, oldOf, newOf, dayFrom, dayTo, doubtLines, doubtsOf, meterTaken, doubtTaken, plantLine, doubtsRead, plantRead, ReadsBack, ShortDoubts, Each, AreShort}
 use Rattle.plant.proofs.Each.{each-return, noFeed}
 use Rattle.plant.proofs.Taken.{Sound, meters-sound}
 use Rattle.plant.proofs.Back.{return-after, reads-back}
@@ -106,13 +103,13 @@ text-lines plant ms rs =
     ∙ ap (λ (x : List (List ℕ)). map (λ l. written l rs) ls ++ x) (lines-first (minutesText from to) doubts (free-minutes from to))
 
 pub sheet-lines : (kept plant text : List ℕ) → Sheeted kept plant text
-    → linesOf (afterMark text) ≡ map (λ l. written l (recordsOf kept)) (linesOf (afterMark plant)) ++ (minutesText (startOf kept plant) (endsAt kept plant) ∷ doubtLines kept plant)
+    → linesOf (afterMark text) ≡ map (λ l. written l (recordsOf kept)) (linesOf (afterMark plant)) ++ (minutesText (dayFrom kept plant) (dayTo kept plant) ∷ doubtLines kept plant)
 sheet-lines kept plant text s = ap (λ (t : List ℕ). linesOf (afterMark t)) (s .text-is) ∙ text-lines plant (metersOf plant) (recordsOf kept)
 
 module _ (kept plant text : List ℕ) (bytes : AreBytes kept) where
-  doubts-of : Sheeted kept plant text → Doubts 16 (doubtsFrom 16 0 (metersOf plant) (startOf kept plant) (endsAt kept plant) (recordsOf kept))
+  doubts-of : Sheeted kept plant text → Doubts 16 (doubtsFrom 16 0 (metersOf plant) (dayFrom kept plant) (dayTo kept plant) (recordsOf kept))
   doubts-of s =
-      doubts-are 16 0 (metersOf plant) (startOf kept plant) (endsAt kept plant) (recordsOf kept) (sound-meters plant (metersOf plant) (s .sound-lines)) (λ m. decimal-short 9 (seen m (recordsOf kept) .still) (let h = still-small m kept bytes in omega (arith, h))) (omega arith)
+      doubts-are 16 0 (metersOf plant) (dayFrom kept plant) (dayTo kept plant) (recordsOf kept) (sound-meters plant (metersOf plant) (s .sound-lines)) (λ m. decimal-short 9 (seen m (recordsOf kept) .still) (let h = still-small m kept bytes in omega (arith, h))) (omega arith)
 
 pub reads-back-whole : ReadsBack
 unfolding sheetOf
@@ -126,9 +123,9 @@ reads-back-whole kept plant text bytes e =
     record {
       lines = lines;
       reads = rw (le-ltb 65536 (length text) (s .fits))
-      (ap (λ (x : List (List ℕ)). linesRead x 0 atStart) (lines ∙ ap (λ (x : List (List ℕ)). map (λ l. written l rs) ls ++ (minutesText (startOf kept plant) (endsAt kept plant) ∷ x)) (d .lines))
-      ∙ lines-read ls rs (startOf kept plant) (endsAt kept plant) (d .texts) 0 atStart (each-lines (afterMark plant)) (none-dropped kept (s .kept-all) .all-sound) (d .all)
-      ∙ ap (λ (x : List (List ℕ)). plantRead ls rs x 0 atStart) (sym same));
+          (ap (λ (x : List (List ℕ)). linesRead x 0 atStart) (lines ∙ ap (λ (x : List (List ℕ)). map (λ l. written l rs) ls ++ (minutesText (dayFrom kept plant) (dayTo kept plant) ∷ x)) (d .lines))
+          ∙ lines-read ls rs (dayFrom kept plant) (dayTo kept plant) (d .texts) 0 atStart (each-lines (afterMark plant)) (none-dropped kept (s .kept-all) .all-sound) (d .all)
+          ∙ ap (λ (x : List (List ℕ)). plantRead ls rs x 0 atStart) (sym same));
     }
 
 pub short-doubts : ShortDoubts

@@ -1,4 +1,4 @@
--- What is shown of every sheet that is written: how it reads back, whose volumes it has, that no record is passed over, and that its doubts can stand. Definitions only.
+-- What is shown of every sheet that is written: how it reads back, whose volumes it has, that no record is passed over, and that its doubts can stand; and how much of the files decides. Definitions only.
 use mathlib.Core.Path.{_≡_}
 use mathlib.Core.Bool.{Bool, true, cond}
 use mathlib.Core.Logic.{_⊎_}
@@ -6,7 +6,7 @@ use mathlib.Core.List.{List, [], _∷_, _++_, map}
 use Prim.Native.Nat.{ℕ, _+_, _*_, _≤_, _<_}
 use lib.Dec.{leb, ltb}
 use lib.Ieee.{Float}
-use lib.ListN.{length, drop, getD}
+use lib.ListN.{length, take, drop, getD}
 use Rattle.numbers.specs.Numbers.{+0}
 use Rattle.endian.specs.Little.{placed}
 use Rattle.endian.specs.Claims.{AreBytes}
@@ -22,9 +22,9 @@ use Rattle.sheet_words.specs.Lines.{afterMark}
 use Rattle.sheet_parts.specs.Texts.{isPlain}
 use Rattle.sheet_lines.specs.Lines as read
 use Rattle.sheet.specs.Sheet.{lineRead, Outcome, sheetEnd, onward, atStart, sheetOf}
-use Rattle.mend.specs.Mend.{Bytes, meterOf, readingOf, recordsOf, ofMeter, mend}
+use Rattle.mend.specs.Mend.{Bytes, meterOf, readingOf, recordsOf, ofMeter, isThere, mend}
 use Rattle.mend.specs.Claims.{endOf}
-use Rattle.plant.specs.Lines.{Meter, isGiven, Line, copied, metered, wrong, lineOf, Lines, sound, fault, linesFrom}
+use Rattle.plant.specs.Lines.{Meter, Line, copied, metered, wrong, lineOf, Lines, sound, fault, linesFrom}
 use Rattle.plant.specs.Texts.{minutesText, strangerText}
 use Rattle.plant.specs.Plant.{sheet, written, dayStart, dayEnd, doubtsFrom, plantSheet}
 
@@ -47,14 +47,15 @@ abbrev pub newOf : List Bytes → ℕ
 newOf [] = 0
 newOf (r ∷ qs) = readingOf (endOf r qs)
 
-abbrev pub startOf : (kept plant : List ℕ) → ℕ
-startOf kept plant = dayStart (metersOf plant) (recordsOf kept)
+-- the day's first and last minute
+abbrev pub dayFrom : (kept plant : List ℕ) → ℕ
+dayFrom kept plant = dayStart (metersOf plant) (recordsOf kept)
 
-abbrev pub endsAt : (kept plant : List ℕ) → ℕ
-endsAt kept plant = dayEnd (metersOf plant) (recordsOf kept)
+abbrev pub dayTo : (kept plant : List ℕ) → ℕ
+dayTo kept plant = dayEnd (metersOf plant) (recordsOf kept)
 
 abbrev pub doubtLines : (kept plant : List ℕ) → List (List ℕ)
-doubtLines kept plant = linesOf (doubtsFrom 16 0 (metersOf plant) (startOf kept plant) (endsAt kept plant) (recordsOf kept))
+doubtLines kept plant = linesOf (doubtsFrom 16 0 (metersOf plant) (dayFrom kept plant) (dayTo kept plant) (recordsOf kept))
 
 -- the doubts: what stands after `doubt `
 abbrev pub doubtsOf : (kept plant : List ℕ) → List (List ℕ)
@@ -95,22 +96,26 @@ plantRead (l ∷ ls) rs ds k st = onward (k + 1) (plantLine (lineOf (withoutRetu
 
 pub record Back (kept plant text : List ℕ) : Type 0 where
   -- its lines are those of the plant file, each as it is written, the line of minutes, and the doubts
-  pub lines : linesOf (afterMark text) ≡ map (λ l. written l (recordsOf kept)) (linesOf (afterMark plant)) ++ (minutesText (startOf kept plant) (endsAt kept plant) ∷ doubtLines kept plant)
+  pub lines : linesOf (afterMark text) ≡ map (λ l. written l (recordsOf kept)) (linesOf (afterMark plant)) ++ (minutesText (dayFrom kept plant) (dayTo kept plant) ∷ doubtLines kept plant)
   pub reads : sheetOf text ≡ plantRead (linesOf (afterMark plant)) (recordsOf kept) (doubtsOf kept plant) 0 atStart
 
 abbrev pub ReadsBack : Type 0
 ReadsBack = (kept plant text : List ℕ) → AreBytes kept → plantSheet kept plant ≡ sheet text → Back kept plant text
 
--- ---- of each meter the volume between OLD and NEW is the total that the mending tells
+-- ---- of each meter there are records, and the volume between OLD and NEW is the total that the mending tells
 
-abbrev pub SameVolume : Type 0
-SameVolume = (kept plant text : List ℕ) (m : ℕ) → plantSheet kept plant ≡ sheet text → isGiven m (metersOf plant) ≡ true
-    → volume (oldOf (ofMeter m (recordsOf kept))) (newOf (ofMeter m (recordsOf kept))) ≡ getD (mend kept .totals) m 0
-
--- ---- no record is passed over: its meter has a line in the sheet, or a doubt that names its number
-
+-- line k of a text, from 0
 abbrev pub lineAt : (k : ℕ) → List ℕ → List ℕ
 lineAt k text = getD (linesOf (afterMark text)) k []
+
+pub record Measured (kept : List ℕ) (m : ℕ) : Type 0 where
+  pub has-records : isThere (ofMeter m (recordsOf kept)) ≡ true
+  pub total-is : volume (oldOf (ofMeter m (recordsOf kept))) (newOf (ofMeter m (recordsOf kept))) ≡ getD (mend kept .totals) m 0
+
+abbrev pub SameVolume : Type 0
+SameVolume = (kept plant text : List ℕ) (k : ℕ) (m : Meter) → plantSheet kept plant ≡ sheet text → lineOf (withoutReturn (lineAt k plant)) [] ≡ metered m → Measured kept (m .number)
+
+-- ---- no record is passed over: its meter has a line in the sheet, or a doubt that names its number
 
 -- line k is that of a meter with the number m, and it is written
 pub record HasLine (kept plant text : List ℕ) (m k : ℕ) : Type 0 where
@@ -142,3 +147,8 @@ AreShort (t ∷ ts) = Short t × AreShort ts
 
 abbrev pub ShortDoubts : Type 0
 ShortDoubts = (kept plant text : List ℕ) → AreBytes kept → plantSheet kept plant ≡ sheet text → (length (doubtsOf kept plant) ≤ 16) × AreShort (doubtsOf kept plant)
+
+-- ---- bytes enough: those that the program reads decide
+
+abbrev pub EnoughBytes : Type 0
+EnoughBytes = (kept plant : List ℕ) → plantSheet kept plant ≡ plantSheet (take 524289 kept) (take 65537 plant)
