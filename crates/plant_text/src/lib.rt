@@ -1,10 +1,11 @@
 // What is written of a plant's day: a meter's line, doubts, refusals.
 ghost use mathlib.Core.Path.{_≡_};
-ghost use Prim.Native.Nat.{_+_, _≤_};
+ghost use Prim.Native.Nat.{_+_, _≤_, _<_};
 ghost use lib.ListN.{length};
 ghost use Rattle.ascii.specs.inner.Work.{Wrote};
-ghost use Rattle.plant.specs.Texts.{minutesText, meterText, parts, doubtOf, strangerText, faultText, recordText, missingText, turnedText, noDayText};
+ghost use Rattle.plant.specs.Texts.{minutesText, afterBlank, meterText, beginsText, endsText, stillText, parts, doubtOf, wantedText, isLast, foundText, faultText, recordText, missingText, turnedText, noDayText};
 ghost use Rattle.plant.specs.Plant.{strangerIf};
+ghost use Rattle.plant_text.specs.inner.Work.{behind};
 use day_words::Count;
 use logged::Seen;
 use plant::Wanted;
@@ -22,7 +23,11 @@ pub fn put_minutes(out: &mut [u8], at: usize, from: u32, to: u32) -> usize
 }
 
 // A remark behind a blank, where there is one.
-fn put_remark(out: &mut [u8], at: usize, remark: &[u8]) -> usize {
+fn put_remark(out: &mut [u8], at: usize, remark: &[u8]) -> usize
+    requires { ⌜ at + (1 + length (now remark)) ≤ length (now out) ⌝ }
+    ensures { λ r. ⌜ Wrote (now (out .entry)) at (afterBlank (now (remark .entry))) (now (out .exit)) r ⌝ }
+    ensures { λ r. ⌜ r ≤ at + (1 + length (now (remark .entry))) ⌝ }
+{
     if remark.len() == 0 {
         return at;
     }
@@ -56,52 +61,78 @@ pub fn put_meter(
     put_remark(out, j, remark)
 }
 
-// Begins a further part of a doubt, where one stands before it.
-fn put_comma(out: &mut [u8], start: usize, at: usize) -> usize {
-    if start == at {
-        return at;
+// A part of a doubt, behind a comma where others stand before it.
+fn put_also(out: &mut [u8], at: usize, part: &[u8]) -> usize
+    requires { ⌜ (at + (2 + length (now part)) ≤ length (now out)) × (0 < length (now part)) ⌝ }
+    ensures { λ r. ⌜ Wrote (now (out .entry)) at (behind at (now (part .entry))) (now (out .exit)) r ⌝ }
+    ensures { λ r. ⌜ r ≤ at + (2 + length (now (part .entry))) ⌝ }
+{
+    if at == 0 {
+        return ascii::put_text(out, at, part);
     }
-    ascii::put_text(out, at, b", ")
+    let a = ascii::put_text(out, at, b", ");
+    ascii::put_text(out, a, part)
 }
 
 // Whether a meter begins late or early.
-fn put_begins(out: &mut [u8], at: usize, start: u32, from: u32) -> usize {
+fn put_begins(out: &mut [u8], start: u32, from: u32) -> usize
+    requires { ⌜ 12 ≤ length (now out) ⌝ }
+    ensures { λ r. ⌜ Wrote (now (out .entry)) 0 (beginsText start from) (now (out .exit)) r ⌝ }
+    ensures { λ r. ⌜ r ≤ 12 ⌝ }
+{
     if start < from {
-        return ascii::put_text(out, at, b"begins late");
+        return ascii::put_text(out, 0, b"begins late");
     }
     if from < start {
-        return ascii::put_text(out, at, b"begins early");
+        return ascii::put_text(out, 0, b"begins early");
+    }
+    0
+}
+
+// Whether it ends early or late.
+fn put_ends(out: &mut [u8], at: usize, end: u32, to: u32) -> usize
+    requires { ⌜ at + 12 ≤ length (now out) ⌝ }
+    ensures { λ r. ⌜ Wrote (now (out .entry)) at (behind at (endsText end to)) (now (out .exit)) r ⌝ }
+    ensures { λ r. ⌜ r ≤ at + 12 ⌝ }
+{
+    if to < end {
+        return put_also(out, at, b"ends early");
+    }
+    if end < to {
+        return put_also(out, at, b"ends late");
     }
     at
 }
 
-// Whether it ends early or late, behind what begins at `start`.
-fn put_ends(out: &mut [u8], start: usize, at: usize, end: u32, to: u32) -> usize {
-    if to == end {
+// For how long it stands still, where that is longer than allowed.
+fn put_still(out: &mut [u8], at: usize, allowed: Count, still: u32) -> usize
+    requires { ⌜ at + 40 ≤ length (now out) ⌝ }
+    ensures { λ r. ⌜ Wrote (now (out .entry)) at (behind at (stillText allowed still)) (now (out .exit)) r ⌝ }
+    ensures { λ r. ⌜ r ≤ at + 40 ⌝ }
+{
+    let Count::Shows(longest) = allowed else {
+        return at;
+    };
+    if still <= longest {
         return at;
     }
-    let a = put_comma(out, start, at);
-    if to < end {
-        return ascii::put_text(out, a, b"ends early");
-    }
-    ascii::put_text(out, a, b"ends late")
+    let a = put_also(out, at, b"still for ");
+    let b = ascii::put_decimal(out, a, still as u64);
+    ascii::put_text(out, b, b" minutes")
 }
 
-// For how long it stands still, where that is longer than allowed, behind what begins at `start`.
-fn put_still(out: &mut [u8], start: usize, at: usize, limit: u32, still: u32) -> usize {
-    if limit == 0 {
-        return at;
-    }
-    if still < limit {
-        return at;
-    }
-    let a = put_comma(out, start, at);
-    let b = ascii::put_text(out, a, b"still for ");
-    let c = ascii::put_decimal(out, b, still as u64);
-    ascii::put_text(out, c, b" minutes")
+// All parts of a meter's doubt.
+fn put_parts(out: &mut [u8], start: u32, end: u32, allowed: Count, s: Seen) -> usize
+    requires { ⌜ 64 ≤ length (now out) ⌝ }
+    ensures { λ r. ⌜ Wrote (now (out .entry)) 0 (parts start end allowed s) (now (out .exit)) r ⌝ }
+    ensures { λ r. ⌜ r ≤ 64 ⌝ }
+{
+    let a = put_begins(out, start, s.from);
+    let b = put_ends(out, a, end, s.to);
+    put_still(out, b, allowed, s.still)
 }
 
-// The doubt of a meter of the plant file, if there is one.
+// The doubt of a meter of the plant file, if there is one: its parts are written aside, so that `out` stays as it is where there are none.
 pub fn put_own_doubt(
     out: &mut [u8],
     at: usize,
@@ -115,16 +146,16 @@ pub fn put_own_doubt(
     ensures { λ r. ⌜ Wrote (now (out .entry)) at (doubtOf (now (name .entry)) (parts start end allowed s)) (now (out .exit)) r ⌝ }
     ensures { λ r. ⌜ r ≤ at + (73 + length (now (name .entry))) ⌝ }
 {
+    let mut told = [0u8; 64];
+    let n = put_parts(&mut told, start, end, allowed, s);
+    if n == 0 {
+        return at;
+    }
     let a = ascii::put_text(out, at, b"doubt ");
     let b = ascii::put_text(out, a, name);
     let c = ascii::put_text(out, b, b": ");
-    let d = put_begins(out, c, start, s.from);
-    let e = put_ends(out, c, d, end, s.to);
-    let f = put_still(out, c, e, limit, s.still);
-    if f == c {
-        return at;
-    }
-    ascii::put_byte(out, f, b'\n')
+    let d = ascii::put_text(out, c, &told[..n]);
+    ascii::put_byte(out, d, b'\n')
 }
 
 // The doubt of a meter that is not in the plant file and has a record.
@@ -146,7 +177,11 @@ pub fn put_stranger(out: &mut [u8], at: usize, m: usize, there: bool) -> usize
 }
 
 // What was expected.
-fn put_wanted(out: &mut [u8], at: usize, e: Wanted) -> usize {
+fn put_wanted(out: &mut [u8], at: usize, e: Wanted) -> usize
+    requires { ⌜ at + 76 ≤ length (now out) ⌝ }
+    ensures { λ r. ⌜ Wrote (now (out .entry)) at (wantedText e) (now (out .exit)) r ⌝ }
+    ensures { λ r. ⌜ r ≤ at + 76 ⌝ }
+{
     match e {
         Wanted::Number => ascii::put_text(out, at, b"a meter's number of 0 to 15"),
         Wanted::NewNumber => ascii::put_text(out, at, b"a number not given before"),
@@ -163,7 +198,9 @@ fn put_wanted(out: &mut [u8], at: usize, e: Wanted) -> usize {
 }
 
 // Whether it was expected after all lines.
-fn is_last(e: Wanted) -> bool {
+fn is_last(e: Wanted) -> bool
+    ensures { λ r. ⌜ r ≡ isLast e ⌝ }
+{
     match e {
         Wanted::Number => false,
         Wanted::NewNumber => false,
@@ -176,7 +213,11 @@ fn is_last(e: Wanted) -> bool {
 }
 
 // What was found.
-fn put_found(out: &mut [u8], at: usize, e: Wanted, word: &[u8]) -> usize {
+fn put_found(out: &mut [u8], at: usize, e: Wanted, word: &[u8]) -> usize
+    requires { ⌜ at + 132 ≤ length (now out) ⌝ }
+    ensures { λ r. ⌜ Wrote (now (out .entry)) at (foundText e (now (word .entry))) (now (out .exit)) r ⌝ }
+    ensures { λ r. ⌜ r ≤ at + 132 ⌝ }
+{
     if is_last(e) {
         return ascii::put_text(out, at, b"the end of the plant file");
     }
@@ -252,4 +293,3 @@ pub fn put_no_day(out: &mut [u8], start: u32, end: u32) -> usize
     let d = ascii::put_decimal(out, c, end as u64);
     ascii::put_byte(out, d, b'\n')
 }
-
