@@ -11,4 +11,3 @@ pub mod Volumes
 pub mod Whole
 pub mod Lost
 pub mod Enough
-pub mod Cases

@@ -2,5 +2,4 @@
 pub mod Lines
 pub mod Texts
 pub mod Plant
-pub mod Worked
 pub mod Claims

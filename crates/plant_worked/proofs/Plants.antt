@@ -17,10 +17,10 @@ use Rattle.sheet_parts.specs.Shown.{escape, escaped, shownWord}
 use Rattle.mend.specs.Mend.{spareZero, recordsOf, fileOf, ofMeter, fateOf, fates, after, sound, dropped, totalOf, rolloversOf, mend}
 use Rattle.logged.specs.Meters.{unseen, larger, since, next, seenFrom}
 use Rattle.logged.specs.Minutes.{times, better, commonestFrom, commonest}
 use Rattle.plant.specs.Lines.{find, meterNumber, noNames, lastWords, meterLine, lineOf, remarkOf, linesFrom}
 use Rattle.plant.specs.Texts.{minutesText, meterText, beginsText, endsText, stillText, parts, strangerText, wantedText, foundText, faultText, recordText, missingText, turnedText, noDayText}
 use Rattle.plant.specs.Plant.{written, linesText, starts, stops, dayStart, dayEnd, doubtsFrom, markOf, sheetText, amissFrom, plantSheet}
-use Rattle.plant.specs.Worked.{answered, cases}
+use Rattle.plant_worked.specs.WorkedPlants.{answered, cases}
 
 pub worked : map answered cases ≡ cases
 unfolding add sub mul div neg lt le eq isNan sum round size units odd span climb trailingZeros tab little placed ascii sameText decimalFrom decimalText volume numeralFrom minusText digitsOf valueOf within unsignedAt decimalAt areDigits upTo joined linesOf withoutReturn skipBlanks word rest filled readingOf decimalOf small sameSmall areNameBytes isTaken nameJudged aboveZero afterMark unremarkedFrom escape escaped shownWord spareZero recordsOf fileOf ofMeter fateOf fates after sound dropped totalOf rolloversOf mend unseen larger since next seenFrom times better commonestFrom commonest find meterNumber noNames lastWords meterLine lineOf remarkOf linesFrom minutesText meterText beginsText endsText stillText parts strangerText wantedText foundText faultText recordText missingText turnedText noDayText written linesText starts stops dayStart dayEnd doubtsFrom markOf sheetText amissFrom plantSheet
