@@ -1,5 +1,5 @@
 #!/usr/bin/env python3
-"""Checks what the pages point at: links, files that are named by their path, and headings that are cited as PAGE.md, "Heading".
+"""Checks what the pages point at: links, files that are named by their path, and headings that are cited, as in docs/RULES.md, "Sizes".
 
     tools/links.py    prints what is broken, with its file and line; status 1 if something is
 
