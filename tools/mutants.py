@@ -27,9 +27,9 @@ PLACES = {
 
 def page(text):
     rows = [[cell.strip() for cell in line.strip(" |").split(" | ")] for line in text.splitlines() if line.startswith("| ")]
-    rows = [row for row in rows if row[0] in PLACES]
-    if not rows or "UNEXPECTED" in text:
-        sys.exit("mutants.py: there are no rows, or unexpected ones")
+    rows = [row for row in rows if row[0] not in ("place", "none")]
+    if not rows or "UNEXPECTED" in text or any(row[0] not in PLACES for row in rows):
+        sys.exit("mutants.py: there are no rows, or unexpected ones, or some of a place that has no words here")
     heads = sorted(set(re.findall(r"^toolchain: (.*)$", text, re.M)))
     runs = len(re.findall(r"^toolchain: ", text, re.M))
     unseen = {}
