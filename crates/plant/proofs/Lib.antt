@@ -10,5 +10,6 @@ pub mod Given
 pub mod Volumes
 pub mod Whole
 pub mod Lost
+pub mod Still
 pub mod Enough
 pub mod Cases
