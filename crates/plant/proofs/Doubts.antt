@@ -170,15 +170,15 @@ stranger-doubt n m h = record {
 -- ---- all of them
 
 -- every meter is sound
-abbrev pub AllSound : List Meter → Type 0
-AllSound [] = Unit
-AllSound (m ∷ ms) = Sound m × AllSound ms
+abbrev pub SoundMeters : List Meter → Type 0
+SoundMeters [] = Unit
+SoundMeters (m ∷ ms) = Sound m × SoundMeters ms
 
 abbrev pub IfOne : Found → Type 0
 IfOne none = Unit
 IfOne (one m) = Sound m
 
-pub found-sound : (n : ℕ) (ms : List Meter) → AllSound ms → IfOne (find n ms)
+pub found-sound : (n : ℕ) (ms : List Meter) → SoundMeters ms → IfOne (find n ms)
 unfolding find
 found-sound n [] h = tt
 found-sound n (m ∷ ms) h = go (eqb (m .number) n) (found-sound n ms (h .1))
@@ -224,7 +224,7 @@ doubts-more left s others (one-line t h e) d = record {
   lines = rw e (line-more 10 t others h ∙ ap (λ (ls : List (List ℕ)). doubtWith t ∷ ls) (d .lines));
 }
 
-pub doubts-are : (left m : ℕ) (ms : List Meter) (start end : ℕ) (rs : List Bytes) → AllSound ms → ((k : ℕ) → length (decimalText (seen k rs .still)) ≤ 10) → left + m ≤ 16 → Doubts left (doubtsFrom left m ms start end rs)
+pub doubts-are : (left m : ℕ) (ms : List Meter) (start end : ℕ) (rs : List Bytes) → SoundMeters ms → ((k : ℕ) → length (decimalText (seen k rs .still)) ≤ 10) → left + m ≤ 16 → Doubts left (doubtsFrom left m ms start end rs)
 unfolding doubtsFrom linesOf
 doubts-are zero m ms start end rs h k l = record { texts = []; few = omega arith; all = tt; lines = refl }
 doubts-are (suc left) m ms start end rs h k l =

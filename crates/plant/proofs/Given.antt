@@ -17,14 +17,10 @@ use Rattle.sheet_words.specs.Names.{nameJudged}
 use Rattle.sheet_words.specs.Lines.{unremarked}
 use Rattle.plant.specs.declared.Wanted.the-variants as wanted
 use Rattle.plant.specs.Lines.{Meter, none, one, find, isOne, isGiven, Line, copied, metered, wrong, noNames, nameBy, numberBy, meterNumber, meterLine, lineOf, sound, onward, linesFrom}
+use Rattle.plant.proofs.Taken.{isMetered}
 use Rattle.plant.proofs.Sheeted.{not-fault, lines-end}
 
 -- ---- a meter's line is one whatever was given before it
-
-abbrev isMetered : Line → Bool
-isMetered copied = false
-isMetered (metered m) = true
-isMetered (wrong e w) = false
 
 number-alone : (c : Count) (t : List ℕ) (ms : List Meter) (m : Meter) → numberBy c t ms ≡ metered m → numberBy c t [] ≡ metered m
 unfolding find

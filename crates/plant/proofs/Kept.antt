@@ -24,12 +24,12 @@ use Rattle.logged.specs.Claims.{EndsOf}
 use Rattle.logged.proofs.Ends.{first-and-last}
 use Rattle.plant.specs.Claims.{oldOf, newOf}
 
-abbrev pub AllSound : List Bytes → Type 0
-AllSound [] = Unit
-AllSound (r ∷ rs) = (meterOf r ≤ 15) × (readingOf r ≤ largest) × AllSound rs
+abbrev pub SoundRecords : List Bytes → Type 0
+SoundRecords [] = Unit
+SoundRecords (r ∷ rs) = (meterOf r ≤ 15) × (readingOf r ≤ largest) × SoundRecords rs
 
 pub record AllKept (b rs : List Bytes) : Type 0 where
-  pub all-sound : AllSound rs
+  pub all-sound : SoundRecords rs
   pub same : sound (fates b rs) rs ≡ rs
 
 all-kept : (k : ℕ) (b rs : List Bytes) → dropped k (fates b rs) ≡ [] → AllKept b rs
@@ -54,29 +54,29 @@ same-file kept h = file-records kept ∙ none-dropped kept h .same
 
 -- ---- a meter's own records
 
-own-sound : (m : ℕ) (rs : List Bytes) → AllSound rs → AllSound (ofMeter m rs)
+own-sound : (m : ℕ) (rs : List Bytes) → SoundRecords rs → SoundRecords (ofMeter m rs)
 unfolding ofMeter
 own-sound m [] h = tt
 own-sound m (r ∷ rs) h = go (eqb (meterOf r) m) (own-sound m rs (h .2))
   where
-    go : (b : Bool) → AllSound (ofMeter m rs) → AllSound (cond b (r ∷ ofMeter m rs) (ofMeter m rs))
+    go : (b : Bool) → SoundRecords (ofMeter m rs) → SoundRecords (cond b (r ∷ ofMeter m rs) (ofMeter m rs))
     go true k = (h .0, h .1, k)
     go false k = k
 
-old-small : (own : List Bytes) → AllSound own → oldOf own ≤ largest
+old-small : (own : List Bytes) → SoundRecords own → oldOf own ≤ largest
 old-small [] h = omega arith
 old-small (r ∷ qs) h = h .1
 
-end-small : (r : Bytes) (qs : List Bytes) → readingOf r ≤ largest → AllSound qs → readingOf (endOf r qs) ≤ largest
+end-small : (r : Bytes) (qs : List Bytes) → readingOf r ≤ largest → SoundRecords qs → readingOf (endOf r qs) ≤ largest
 unfolding endOf
 end-small r [] l h = l
 end-small r (q ∷ qs) l h = end-small q qs (h .1) (h .2)
 
-new-small : (own : List Bytes) → AllSound own → newOf own ≤ largest
+new-small : (own : List Bytes) → SoundRecords own → newOf own ≤ largest
 new-small [] h = omega arith
 new-small (r ∷ qs) h = end-small r qs (h .1) (h .2)
 
-pub readings-small : (m : ℕ) (rs : List Bytes) → AllSound rs → (oldOf (ofMeter m rs) ≤ largest) × (newOf (ofMeter m rs) ≤ largest)
+pub readings-small : (m : ℕ) (rs : List Bytes) → SoundRecords rs → (oldOf (ofMeter m rs) ≤ largest) × (newOf (ofMeter m rs) ≤ largest)
 readings-small m rs h = (old-small (ofMeter m rs) (own-sound m rs h), new-small (ofMeter m rs) (own-sound m rs h))
 
 -- ---- what is seen of them
@@ -126,7 +126,7 @@ own-by (r ∷ qs) s e h = refl
 pub own-there : (m : ℕ) (rs : List Bytes) → seen m rs .there ≡ true → isThere (ofMeter m rs) ≡ true
 own-there m rs h = own-by (ofMeter m rs) (seen m rs) (first-and-last m rs) h
 
-pub record-numbered : (rs : List Bytes) (i : ℕ) → i < length rs → AllSound rs → meterOf (getD rs i []) < 16
+pub record-numbered : (rs : List Bytes) (i : ℕ) → i < length rs → SoundRecords rs → meterOf (getD rs i []) < 16
 record-numbered [] i h s = absurd (omega (arith, h))
 record-numbered (r ∷ rs) zero h s = let l = s .0 in omega (arith, l)
 record-numbered (r ∷ rs) (suc i) h s = record-numbered rs i (omega (arith, h)) (s .2)

@@ -10,4 +10,5 @@ pub mod Given
 pub mod Volumes
 pub mod Whole
 pub mod Lost
+pub mod Still
 pub mod Enough

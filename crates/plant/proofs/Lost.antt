@@ -19,7 +19,7 @@ use Rattle.plant.specs.Texts.{minutesText, strangerText}
 use Rattle.plant.specs.Plant.{written, doubtBy, doubtsFrom}
 use Rattle.plant.specs.Claims.{metersOf, dayFrom, dayTo, doubtLines, lineAt, HasLine, Told, NoneLost}
 use Rattle.plant.proofs.Kept.{none-dropped, record-there, record-numbered}
-use Rattle.plant.proofs.Doubts.{AllSound, AtMostOne, no-line, one-line, strangerWith, stranger-is, stranger-doubt, found-sound, one-at, line-more}
+use Rattle.plant.proofs.Doubts.{SoundMeters, AtMostOne, no-line, one-line, strangerWith, stranger-is, stranger-doubt, found-sound, one-at, line-more}
 use Rattle.plant.proofs.Sheeted.{Sheeted, sheeted, sound-meters, past}
 use Rattle.plant.proofs.Given.{Owned, has-line}
 use Rattle.plant.proofs.Whole.{sheet-lines}
@@ -37,7 +37,7 @@ later-in s others b n (one-line t h e) d = record { at = suc (d .at); is-strange
 here-in : (n : ℕ) (others : List ℕ) → n < 16 → Doubted (linesOf (strangerText n ++ others)) n
 here-in n others h = record { at = 0; is-stranger = rw (stranger-is n, line-more 0 (strangerWith n) others (stranger-doubt 0 n h)) refl }
 
-has-doubt : (left m : ℕ) (ms : List Meter) (start end : ℕ) (rs : List Bytes) (n : ℕ) → AllSound ms → left + m ≤ 16 → find n ms ≡ none → seen n rs .there ≡ true → m ≤ n → n < left + m
+has-doubt : (left m : ℕ) (ms : List Meter) (start end : ℕ) (rs : List Bytes) (n : ℕ) → SoundMeters ms → left + m ≤ 16 → find n ms ≡ none → seen n rs .there ≡ true → m ≤ n → n < left + m
     → Doubted (linesOf (doubtsFrom left m ms start end rs)) n
 unfolding doubtsFrom
 has-doubt zero m ms start end rs n h l f t a b = absurd (omega (arith, a, b))

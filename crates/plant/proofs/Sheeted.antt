@@ -24,7 +24,7 @@ use Rattle.plant.specs.Claims.{metersIn, metersOf}
 use Rattle.plant.proofs.Each.{each-return, noFeed}
 use Rattle.plant.proofs.Taken.{Sound, meters-sound}
 use Rattle.plant.proofs.Lines.{EachLine, each-lines}
-use Rattle.plant.proofs.Doubts.{AllSound}
+use Rattle.plant.proofs.Doubts.{SoundMeters}
 
 -- ---- each test in turn
 
@@ -101,27 +101,27 @@ pub lines-end : (k : ℕ) (acc ms : List Meter) → linesEnd k acc ≡ sound ms 
 lines-end k [] ms e = not-fault _ _ _ ms e
 lines-end k (m ∷ acc) ms e = ap metersIn e
 
-sound-more : (ms : List Meter) (m : Meter) → AllSound ms → Sound m → AllSound (ms ++ (m ∷ []))
+sound-more : (ms : List Meter) (m : Meter) → SoundMeters ms → Sound m → SoundMeters (ms ++ (m ∷ []))
 sound-more [] m h s = (s, tt)
 sound-more (x ∷ xs) m h s = (h .0, sound-more xs m (h .1) s)
 
-all-sound : (ls : List (List ℕ)) (k : ℕ) (acc ms : List Meter) → EachLine ls → AllSound acc → linesFrom ls k acc ≡ sound ms → AllSound ms
+all-sound : (ls : List (List ℕ)) (k : ℕ) (acc ms : List Meter) → EachLine ls → SoundMeters acc → linesFrom ls k acc ≡ sound ms → SoundMeters ms
 unfolding linesFrom
-all-sound [] k acc ms f h e = subst (λ (z : List Meter). AllSound z) (lines-end k acc ms e) h
+all-sound [] k acc ms f h e = subst (λ (z : List Meter). SoundMeters z) (lines-end k acc ms e) h
 all-sound (l ∷ ls) k acc ms f h e = go (lineOf (withoutReturn l) acc) refl e (all-sound ls (k + 1) acc ms (f .1) h) (λ m s. all-sound ls (k + 1) (acc ++ (m ∷ [])) ms (f .1) (sound-more acc m h s))
   where
-    go : (x : Line) → lineOf (withoutReturn l) acc ≡ x → onward k x acc (linesFrom ls (k + 1)) ≡ sound ms → (linesFrom ls (k + 1) acc ≡ sound ms → AllSound ms)
-        → ((m : Meter) → Sound m → linesFrom ls (k + 1) (acc ++ (m ∷ [])) ≡ sound ms → AllSound ms) → AllSound ms
+    go : (x : Line) → lineOf (withoutReturn l) acc ≡ x → onward k x acc (linesFrom ls (k + 1)) ≡ sound ms → (linesFrom ls (k + 1) acc ≡ sound ms → SoundMeters ms)
+        → ((m : Meter) → Sound m → linesFrom ls (k + 1) (acc ++ (m ∷ [])) ≡ sound ms → SoundMeters ms) → SoundMeters ms
     go copied g e i j = i e
     go (metered m) g e i j = j m (meters-sound (withoutReturn l) acc m (each-return noFeed l (f .0)) g) e
     go (wrong w v) g e i j = not-fault _ _ _ ms e
 
-pub sound-meters : (plant : List ℕ) (ms : List Meter) → linesFrom (linesOf (afterMark plant)) 0 [] ≡ sound ms → AllSound ms
+pub sound-meters : (plant : List ℕ) (ms : List Meter) → linesFrom (linesOf (afterMark plant)) 0 [] ≡ sound ms → SoundMeters ms
 sound-meters plant ms e = all-sound (linesOf (afterMark plant)) 0 [] ms (each-lines (afterMark plant)) tt e
 
 -- ---- a given meter is not amiss
 
-pub number-small : (n : ℕ) (ms : List Meter) → AllSound ms → isGiven n ms ≡ true → n < 16
+pub number-small : (n : ℕ) (ms : List Meter) → SoundMeters ms → isGiven n ms ≡ true → n < 16
 unfolding find
 number-small n [] h g = absurd (false≢true g)
 number-small n (m ∷ ms) h g = go (eqb (m .number) n) refl g (number-small n ms (h .1))

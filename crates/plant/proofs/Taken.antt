@@ -132,7 +132,7 @@ plain-spread t x e = plain-from (word t) (no-blanks-word t) (λ q. no-number x (
 
 -- ---- a line, word by word
 
-abbrev isMetered : Line → Bool
+abbrev pub isMetered : Line → Bool
 isMetered copied = false
 isMetered (metered m) = true
 isMetered (wrong e w) = false

@@ -25,14 +25,14 @@ use Rattle.plant.specs.Claims.{metersOf, oldOf, newOf, dayFrom, dayTo, d
 use Rattle.plant.proofs.Each.{each-return, noFeed}
 use Rattle.plant.proofs.Taken.{Sound, meters-sound}
 use Rattle.plant.proofs.Back.{return-after, reads-back}
-use Rattle.plant.proofs.Kept.{AllSound, none-dropped, readings-small, seen-is, still-small}
+use Rattle.plant.proofs.Kept.{SoundRecords, none-dropped, readings-small, seen-is, still-small}
 use Rattle.plant.proofs.Lines.{EachLine, each-lines, lines-first, free-minutes, lines-text, after-mark-is}
 use Rattle.plant.proofs.Doubts.{doubtWith, AllDoubts, Doubts, doubts-are, drop-doubts, are-short, reads-doubt}
 use Rattle.plant.proofs.Sheeted.{Sheeted, sheeted, sound-meters}
 
 -- ---- a line
 
-meter-read : (m : Meter) (r : List ℕ) (rs : List Bytes) (st : read.State) → Sound m → AllSound rs
+meter-read : (m : Meter) (r : List ℕ) (rs : List Bytes) (st : read.State) → Sound m → SoundRecords rs
     → lineRead (withoutReturn (meterText (m .name) (m .spread) r (seen (m .number) rs))) st
     ≡ meterTaken (m .name) (valueIn (aboveZero (m .spread))) (oldOf (ofMeter (m .number) rs)) (newOf (ofMeter (m .number) rs)) st
 meter-read m r rs st s h =
@@ -44,7 +44,7 @@ meter-read m r rs st s h =
     ∙ ap (λ (k : ℕ). meterTaken (m .name) (valueIn (aboveZero (m .spread))) k (seen n rs .last) st) (e .0)
     ∙ ap (λ (k : ℕ). meterTaken (m .name) (valueIn (aboveZero (m .spread))) (oldOf (ofMeter n rs)) k st) (e .1)
 
-line-read : (l : List ℕ) (rs : List Bytes) (st : read.State) → Each noFeed l → AllSound rs → lineRead (withoutReturn (written l rs)) st ≡ plantLine (lineOf (withoutReturn l) []) l rs st
+line-read : (l : List ℕ) (rs : List Bytes) (st : read.State) → Each noFeed l → SoundRecords rs → lineRead (withoutReturn (written l rs)) st ≡ plantLine (lineOf (withoutReturn l) []) l rs st
 unfolding written
 line-read l rs st f h = go (lineOf (withoutReturn l) []) refl
   where
@@ -78,7 +78,7 @@ doubts-read [] k st h = refl
 doubts-read (t ∷ ts) k st h =
     onward-same (k + 1) (lineRead (withoutReturn (doubtWith t)) st) (doubtTaken t st) (linesRead (map doubtWith ts) (k + 1)) (doubtsRead ts (k + 1)) (reads-doubt t st (h .0)) (λ s. doubts-read ts (k + 1) s (h .1))
 
-lines-read : (ls : List (List ℕ)) (rs : List Bytes) (from to : ℕ) (ts : List (List ℕ)) (k : ℕ) (st : read.State) → EachLine ls → AllSound rs → AllDoubts ts
+lines-read : (ls : List (List ℕ)) (rs : List Bytes) (from to : ℕ) (ts : List (List ℕ)) (k : ℕ) (st : read.State) → EachLine ls → SoundRecords rs → AllDoubts ts
     → linesRead (map (λ l. written l rs) ls ++ (minutesText from to ∷ map doubtWith ts)) k st ≡ plantRead ls rs ts k st
 unfolding linesRead plantRead
 lines-read [] rs from to ts k st f h d =

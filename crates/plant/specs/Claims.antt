@@ -1,4 +1,4 @@
--- What is shown of every sheet that is written: how it reads back, whose volumes it has, that no record is passed over, and that its doubts can stand; and how much of the files decides. Definitions only.
+-- What is shown of every sheet that is written: how it reads back, whose volumes it has, that no record is passed over, that its doubts can stand and what they count; and how much of the files decides. Definitions only.
 use mathlib.Core.Path.{_≡_}
 use mathlib.Core.Bool.{Bool, true, cond}
 use mathlib.Core.Logic.{_⊎_}
@@ -24,6 +24,8 @@ use Rattle.sheet_lines.specs.Lines as read
 use Rattle.sheet.specs.Sheet.{lineRead, Outcome, sheetEnd, onward, atStart, sheetOf}
 use Rattle.mend.specs.Mend.{Bytes, meterOf, readingOf, recordsOf, ofMeter, isThere, mend}
 use Rattle.mend.specs.Claims.{endOf}
+use Rattle.logged.specs.Meters.{seen}
+use Rattle.logged.specs.Claims.{longest}
 use Rattle.plant.specs.Lines.{Meter, Line, copied, metered, wrong, lineOf, Lines, sound, fault, linesFrom}
 use Rattle.plant.specs.Texts.{minutesText, strangerText}
 use Rattle.plant.specs.Plant.{sheet, written, dayStart, dayEnd, doubtsFrom, plantSheet}
@@ -147,6 +149,11 @@ AreShort (t ∷ ts) = Short t × AreShort ts
 
 abbrev pub ShortDoubts : Type 0
 ShortDoubts = (kept plant text : List ℕ) → AreBytes kept → plantSheet kept plant ≡ sheet text → (length (doubtsOf kept plant) ≤ 16) × AreShort (doubtsOf kept plant)
+
+-- ---- K of a doubt is the longest time between two of the meter's records such that all its readings from the one to the other are equal
+
+abbrev pub StillFor : Type 0
+StillFor = (kept plant text : List ℕ) (m : ℕ) → plantSheet kept plant ≡ sheet text → seen m (recordsOf kept) .still ≡ longest (ofMeter m (recordsOf kept))
 
 -- ---- bytes enough: those that the program reads decide
 
