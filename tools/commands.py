@@ -296,7 +296,7 @@ def fakes(room):
         os.makedirs(folder)
         shutil.copy(COMMAND, folder)
         row(f"day: its program is missing, {os.path.basename(os.path.dirname(folder))}", (3, b""), run([os.path.join(folder, "gritstrut"), "day"], CLOSES)[:2])
-    row("sheet: its script is missing", (3, b""), run([os.path.join(tree, "gritstrut"), *words_of("sheet", written("kept", GOOD["sheet"], room), room)])[:2])
+    row("sheet: its program is missing", (3, b""), run([os.path.join(tree, "gritstrut"), *words_of("sheet", written("kept", GOOD["sheet"], room), room)])[:2])
     for folder, place in ((tree, "target/bin"), (installed, "libexec/gritstrut")):
         fake = os.path.join(os.path.dirname(folder), place, "day")
         for what, text, owed, out in FAKES:
@@ -506,8 +506,8 @@ def any_instant(tries):
 
 def installed(room):
     """A copy as it is installed, and the link to its command in another folder."""
-    for name, folder, place in (("gritstrut", HERE, "bin"), *((name, os.path.join(ROOT, "target", "bin"), "libexec/gritstrut") for name in ("day", "records", "mend_files")),
-                                *((name, HERE, "libexec/gritstrut") for name in ("day.py", "draw.py"))):
+    for name, folder, place in (("gritstrut", HERE, "bin"), *((name, os.path.join(ROOT, "target", "bin"), "libexec/gritstrut") for name in ("day", "records", "mend_files", "plant_files")),
+                                ("draw.py", HERE, "libexec/gritstrut")):
         os.makedirs(os.path.join(room, place), exist_ok=True)
         shutil.copy(os.path.join(folder, name), os.path.join(room, place))
     return os.path.join(room, "bin", "gritstrut")

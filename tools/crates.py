@@ -1,12 +1,11 @@
 #!/usr/bin/env python3
-"""Draws docs/crates.svg, the picture of the crates, from crates.txt and the groups of docs/CRATES.md.
+"""Draws docs/crates.svg, the groups of crates, from crates.txt and the table of docs/CRATES.md.
 
     tools/crates.py            draws it
     tools/crates.py --check    draws nothing; says whether the picture and the table of docs/CRATES.md fit crates.txt
 
-A group stands below every group that it is built on, and a crate to the right of those of its group that it is built on.
-Dependencies that follow from others are left out. A line that passes a row of groups is led between them, and lines to
-one crate, or from one, are led together.
+An arrow leads from a group to one that is built on it; those that follow from others are left out. A group stands below
+all that it is built on. A line that passes a row of groups is led between them, so none goes through a title.
 """
 import os
 import random
@@ -14,11 +13,11 @@ import re
 import sys
 
 PAGE, PICTURE = "docs/CRATES.md", "docs/crates.svg"
-LETTER, PADDING, HEIGHT = 8.4, 11, 30        # of a crate's box: a letter's width, what is left and right of its name, its height
-BETWEEN, INSIDE, TITLE = 26, 14, 32          # between the crates of a group, from its edge to them, its title's height
-ASIDE, BELOW, MARGIN = 34, 46, 12            # between groups side by side, between rows, around the picture
+LETTER, LINE, COLUMNS = 7.9, 18, 34          # of the crates' names: a letter's width, a line's height, the most letters in a line
+INSIDE, TITLE = 14, 44                       # from a group's edge to its text, the height of its title
+ASIDE, BELOW, MARGIN = 40, 54, 12            # between groups side by side, between rows, around the picture
 LANE = 12                                    # the width that a line takes in a row that it passes
-TRIES, SWEEPS = 60, 24                        # orders to begin with, and how often each is mended
+TRIES, SWEEPS = 60, 24                       # orders to begin with, and how often each is mended
 
 
 def complain(text):
@@ -72,60 +71,45 @@ def level(name, below, known):
 
 
 class Item:
-    """What stands in a row: a group, or a lane by which lines pass it. `ports` are its crates' places from its middle."""
+    """What stands in a row: a group with the lines of its text, or a lane by which a line passes it."""
 
-    def __init__(self, row, width, ports, title=None):
-        self.row, self.width, self.ports, self.title, self.x, self.ends = row, width, ports, title, 0.0, []
-
-
-def box_width(name):
-    return len(name) * LETTER + 2 * PADDING
+    def __init__(self, row, width, title=None, text=()):
+        self.row, self.width, self.title, self.text, self.x, self.ends = row, width, title, text, 0.0, []
 
 
-def lay_out(groups, edges, deps):
-    """The items, and the lines between rows: pairs of (item, port), with whether the line ends there."""
+def wrapped(names):
+    """The names of crates in lines."""
+    lines = [""]
+    for name in names:
+        if lines[-1] and len(lines[-1]) + 2 + len(name) > COLUMNS:
+            lines.append("")
+        lines[-1] += "  " * bool(lines[-1]) + name
+    return lines
+
+
+def lay_out(groups, deps):
+    """The items, and the lines from row to row."""
     group_of = {name: g for g, _, names in groups for name in names}
     under = {g: [] for g, _, _ in groups}
     for name, of in deps.items():
         under[group_of[name]] += [group_of[d] for d in of if group_of[d] != group_of[name]]
-    rows, items = {}, {}
+    known, items, lines, lanes = {}, {}, [], []
     for g, title, names in groups:
-        inner, known = {n: [d for d in deps[n] if d in names] for n in names}, {}
-        alone = [n for n in names if not inner[n] and not any(n in of for of in inner.values())]
-        names.sort(key=lambda n: (n in alone, level(n, inner, known)))
-        width = sum(box_width(n) + BETWEEN for n in names) - BETWEEN + 2 * INSIDE
-        width = max(width, len(f"{g}: {title}") * 6.7 + 2 * INSIDE)
-        taken = sum(box_width(n) + BETWEEN for n in names) - BETWEEN
-        at, ports = -taken / 2, {}
-        for n in names:
-            ports[n] = at + box_width(n) / 2
-            at += box_width(n) + BETWEEN
-        items[g] = Item(level(g, under, rows), width, ports, f"{g}: {title}")
-    lines, lanes = {}, {}  # lines in the order in which they are found, each once
-    far = [(d, n) for n, of in edges.items() for d in of if items[group_of[n]].row - items[group_of[d]].row > 1]
-
-    def lane(key, row):
-        if (key, row) not in lanes:
-            lanes[key, row] = Item(row, LANE, {None: 0.0})
-        return lanes[key, row]
-
-    for name, of in edges.items():
+        text = wrapped(names)
+        width = max(max(map(len, text)) * LETTER, len(g) * 8.6, len(title) * 6.7) + 2 * INSIDE
+        items[g] = Item(level(g, under, known), width, (g, title), text)
+    for g, of in reduced(under).items():
         for d in of:
-            start, end = items[group_of[d]], items[group_of[name]]
-            if start is end:
-                continue
-            fan_in, fan_out = sum(t == name for _, t in far), sum(s == d for s, _ in far)
-            key = ("to", name) if fan_in >= fan_out else ("from", d)
-            at, port = start, d
-            for row in range(start.row + 1, end.row):
-                passed = lane(key, row)
-                lines[at, port, passed, None] = True
-                at, port = passed, None
-            lines[at, port, end, name] = True
-    for at, port, to, into in lines:
-        at.ends.append((port, to, into))
-        to.ends.append((into, at, port))
-    return [*items.values(), *lanes.values()], lines, group_of
+            at = items[d]
+            for row in range(at.row + 1, items[g].row):
+                lanes.append(Item(row, LANE))
+                lines.append((at, lanes[-1]))
+                at = lanes[-1]
+            lines.append((at, items[g]))
+    for at, to in lines:
+        at.ends.append(to)
+        to.ends.append(at)
+    return [*items.values(), *lanes], lines
 
 
 def pull(item, other):
@@ -135,10 +119,8 @@ def pull(item, other):
 
 def wanted(item):
     """Where its lines want an item, and how strongly."""
-    total = sum(pull(item, o) for _, o, _ in item.ends)
-    if not total:
-        return item.x, 0.1
-    return sum(pull(item, o) * (o.x + o.ports[q] - item.ports[p]) for p, o, q in item.ends) / total, total
+    total = sum(pull(item, o) for o in item.ends)
+    return (sum(pull(item, o) * o.x for o in item.ends) / total, total) if total else (item.x, 0.1)
 
 
 def settle(row, places):
@@ -158,7 +140,7 @@ def settle(row, places):
 
 def cost(lines):
     """Crossings first, then how far lines go aside."""
-    spans = [(a.row, a.x + a.ports[p], b.x + b.ports[q]) for a, p, b, q in lines]
+    spans = [(a.row, a.x, b.x) for a, b in lines]
     crossings = sum(r == s and (x - u) * (y - v) < 0 for i, (r, x, y) in enumerate(spans) for s, u, v in spans[:i])
     return crossings * 400 + sum(abs(x - y) for _, x, y in spans)
 
@@ -191,56 +173,45 @@ def curve(x, y, u, v, arrow):
     return f'<path d="M{x:.1f} {y:.1f} C{x:.1f} {y + half:.1f} {u:.1f} {v - half:.1f} {u:.1f} {v:.1f}"{head}/>'
 
 
+def ports(lines, side):
+    """Where each line meets its item from below (side 0) or from above: apart, in the order of the other ends."""
+    places = {}
+    for item in {line[side] for line in lines}:
+        own = sorted((line for line in lines if line[side] is item), key=lambda line: line[1 - side].x)
+        for k, line in enumerate(own):
+            places[line] = item.x + ((k + 1) / (len(own) + 1) - 0.5) * item.width if item.title else item.x
+    return places
+
+
 def draw(deps, groups):
-    edges = reduced(deps)
-    items, lines, group_of = lay_out(groups, edges, deps)
+    items, lines = lay_out(groups, deps)
     width = arrange(items, lines)
-    tall = TITLE + HEIGHT + INSIDE
-    top = {i: MARGIN + i.row * (tall + BELOW) for i in items}
-    height = max(top.values()) + tall + MARGIN
-    by_name = {i.title.split(":")[0]: i for i in items if i.title}
+    rows = 1 + max(i.row for i in items)
+    tall = [max(TITLE + LINE * len(i.text) + INSIDE / 2 for i in items if i.row == r) for r in range(rows)]
+    tops = [MARGIN + sum(tall[:r]) + BELOW * r for r in range(rows)]
+    height = tops[-1] + tall[-1] + MARGIN
     out = [
         f'<svg xmlns="http://www.w3.org/2000/svg" viewBox="0 0 {width:.0f} {height:.0f}" width="{width:.0f}" height="{height:.0f}" font-family="DejaVu Sans, Arial, sans-serif" font-size="12">',
         '<defs><marker id="head" viewBox="0 0 8 8" refX="7.5" refY="4" markerWidth="8" markerHeight="8" orient="auto"><path d="M0 0.8 L8 4 L0 7.2 z" fill="#444"/></marker></defs>',
-        f'<rect width="{width:.0f}" height="{height:.0f}" fill="#ffffff"/>',
-    ]
-    for i in items:
-        if i.title:
-            out.append(f'<rect x="{i.x - i.width / 2:.1f}" y="{top[i]}" width="{i.width:.1f}" height="{tall}" rx="6" fill="#eef3f8" stroke="#b9c9da"/>')
-    out.append('<g fill="none" stroke="#444" stroke-width="1.2">')
-    for at, port, to, into in sorted(lines, key=lambda l: (l[0].row, l[0].x + l[0].ports[l[1]], l[2].x + l[2].ports[l[3]])):
-        x, u = at.x + at.ports[port], to.x + to.ports[into]
-        y = top[at] + (tall if port is None else TITLE + HEIGHT)
-        v = top[to] + (0 if into is None else TITLE)
-        if into is not None:
-            out.append(curve(x, max(y, top[at] + tall), u, v, True))
-        else:
-            out.append(curve(x, max(y, top[at] + tall), u, v, False))
-            out.append(f'<path d="M{u:.1f} {v:.1f} V{v + tall:.1f}"/>')
-        if port is not None:
-            out.append(f'<path d="M{x:.1f} {y:.1f} V{top[at] + tall:.1f}"/>')
-    for name, of in edges.items():
-        item = by_name[group_of[name]]
-        y = top[item] + TITLE + HEIGHT / 2
-        for d in of:
-            if group_of[d] == group_of[name]:
-                x, u = item.x + item.ports[d] + box_width(d) / 2, item.x + item.ports[name] - box_width(name) / 2
-                over = any(x < item.x + p < u for p in item.ports.values())
-                if over:
-                    x, u, rim = item.x + item.ports[d], item.x + item.ports[name], top[item] + TITLE + HEIGHT
-                    out.append(f'<path d="M{x:.1f} {rim:.1f} C{x:.1f} {rim + 14:.1f} {u:.1f} {rim + 14:.1f} {u:.1f} {rim:.1f}" marker-end="url(#head)"/>')
-                else:
-                    out.append(f'<path d="M{x:.1f} {y:.1f} H{u:.1f}" marker-end="url(#head)"/>')
+        f'<rect width="{width:.0f}" height="{height:.0f}" fill="#ffffff"/>', '<g fill="none" stroke="#444" stroke-width="1.4">']
+    leaves, meets = ports(lines, 0), ports(lines, 1)
+    for line in sorted(lines, key=lambda line: (line[0].row, leaves[line], meets[line])):
+        at, to = line
+        own = TITLE + LINE * len(at.text) + INSIDE / 2 if at.title else tall[at.row]
+        x, y, u, v = leaves[line], tops[at.row] + own, meets[line], tops[to.row]
+        rim = tops[at.row] + tall[at.row]
+        half, arrow = (v - rim) / 2, ' marker-end="url(#head)"' if to.title else ""
+        rest = "" if to.title else f" V{v + tall[to.row]:.1f}"
+        out.append(f'<path d="M{x:.1f} {y:.1f} V{rim:.1f} C{x:.1f} {rim + half:.1f} {u:.1f} {v - half:.1f} {u:.1f} {v:.1f}{rest}"{arrow}/>')
     out.append("</g>")
     for i in items:
         if i.title:
-            name, _, title = i.title.partition(":")
-            out.append(f'<text x="{i.x - i.width / 2 + INSIDE:.1f}" y="{top[i] + 16}" fill="#333" stroke="#eef3f8" stroke-width="3" paint-order="stroke"><tspan font-weight="bold">{name}</tspan>:{title}</text>')
-        for name, port in i.ports.items():
-            if name:
-                half = box_width(name) / 2
-                out.append(f'<rect x="{i.x + port - half:.1f}" y="{top[i] + TITLE}" width="{2 * half:.1f}" height="{HEIGHT}" rx="3" fill="#ffffff" stroke="#31597d"/>')
-                out.append(f'<text x="{i.x + port:.1f}" y="{top[i] + TITLE + 19}" text-anchor="middle" font-family="DejaVu Sans Mono, Courier New, monospace" font-size="13">{name}</text>')
+            left, top = i.x - i.width / 2, tops[i.row]
+            out.append(f'<rect x="{left:.1f}" y="{top:.1f}" width="{i.width:.1f}" height="{TITLE + LINE * len(i.text) + INSIDE / 2:.1f}" rx="6" fill="#eef3f8" stroke="#31597d"/>')
+            out.append(f'<text x="{left + INSIDE:.1f}" y="{top + 18:.1f}" font-weight="bold" font-size="14">{i.title[0]}</text>')
+            out.append(f'<text x="{left + INSIDE:.1f}" y="{top + 34:.1f}" fill="#333">{i.title[1]}</text>')
+            for k, text in enumerate(i.text):
+                out.append(f'<text x="{left + INSIDE:.1f}" y="{top + TITLE + LINE * k + 13:.1f}" font-family="DejaVu Sans Mono, Courier New, monospace" font-size="12.5" xml:space="preserve">{text}</text>')
     out.append("</svg>")
     return "\n".join(out) + "\n"
 

@@ -1,0 +1,14 @@
+pub mod Words
+pub mod Each
+pub mod Taken
+pub mod Back
+pub mod Kept
+pub mod Lines
+pub mod Doubts
+pub mod Sheeted
+pub mod Given
+pub mod Volumes
+pub mod Whole
+pub mod Lost
+pub mod Still
+pub mod Enough

@@ -1,0 +1,4 @@
+pub mod MeterLine
+pub mod Places
+pub mod Rows
+pub mod AllLines

@@ -1,0 +1,3 @@
+-- What reading the lines of a plant file tells. Definitions only.
+pub mod Table
+pub mod inner

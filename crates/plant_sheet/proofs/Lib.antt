@@ -1,0 +1,5 @@
+pub mod Kept
+pub mod Tables
+pub mod Texts
+pub mod Minutes
+pub mod Whole
