@@ -70,14 +70,6 @@ pub fn write_u16(s: &mut [u8], at: usize, x: u16)
     write(s, at, 2, x as u64);
 }
 
-// Puts x in four bytes from a place on; the rest of the slice stays.
-pub fn write_u32(s: &mut [u8], at: usize, x: u32)
-    requires { ⌜ at + 4 ≤ length (now s) ⌝ }
-    ensures { λ _. ⌜ now (s .exit) ≡ placed at (bytes 4 x) (now (s .entry)) ⌝ }
-{
-    write(s, at, 4, x as u64);
-}
-
 // Puts x in eight bytes from a place on; the rest of the slice stays.
 pub fn write_u64(s: &mut [u8], at: usize, x: u64)
     requires { ⌜ at + 8 ≤ length (now s) ⌝ }

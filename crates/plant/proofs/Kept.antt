@@ -5,19 +5,15 @@ use mathlib.Core.List.{List, [], _∷_}
 use Prim.Native.Nat.{ℕ, zero, suc, _+_, _-_, _*_, _<_, _≤_}
 use native.Mathlib.Omega.{arith}
 use lib.Dec.{ltb, eqb}
-use lib.ListN.{length, take, drop, length-take, getD}
+use lib.ListN.{length, getD}
 use borrow.Author.Tests.{eq-eqb}
-use Rattle.numbers.specs.Numbers.{tab}
-use Rattle.endian.specs.Little.{little}
 use Rattle.endian.specs.Claims.{AreBytes}
-use Rattle.endian.proofs.Laws.{part-bytes}
-use Rattle.endian.proofs.Little.{little-below}
-use Rattle.endian.proofs.Turns.{widened}
 use Rattle.totaliser.specs.Volume.{largest}
-use Rattle.mend.specs.Mend.{Bytes, meterOf, minuteOf, readingOf, countOf, recordsOf, ofMeter, isKept, fateOf, fates, sound, dropped, isThere, mend}
+use Rattle.mend.specs.Mend.{Bytes, meterOf, minuteOf, readingOf, recordsOf, ofMeter, isKept, fateOf, fates, sound, dropped, isThere, mend}
 use Rattle.mend.specs.Claims.{endOf}
 use Rattle.mend.proofs.Fates.{sound-is}
 use Rattle.mend.proofs.Again.{file-records}
+use Rattle.mend.proofs.Bounds.{Minutes, minutes-of}
 use Rattle.logged.specs.declared.Seen.{Seen}
 use Rattle.logged.specs.Meters.{unseen, larger, since, next, seenFrom, seen}
 use Rattle.logged.specs.Claims.{EndsOf}
@@ -131,27 +127,7 @@ record-numbered [] i h s = absurd (omega (arith, h))
 record-numbered (r ∷ rs) zero h s = let l = s .0 in omega (arith, l)
 record-numbered (r ∷ rs) (suc i) h s = record-numbered rs i (omega (arith, h)) (s .2)
 
--- ---- minutes of bytes are below 2^32, and so is the time for which a meter stands still
-
-abbrev Minutes : List Bytes → Type 0
-Minutes [] = Unit
-Minutes (r ∷ rs) = (minuteOf r < 4294967296) × Minutes rs
-
-minutes-tab : (n : ℕ) (f : ℕ → Bytes) → ((k : ℕ) → minuteOf (f k) < 4294967296) → Minutes (tab n f)
-unfolding tab
-minutes-tab zero f h = tt
-minutes-tab (suc n) f h = (h zero, minutes-tab n (λ k. f (suc k)) (λ k. h (suc k)))
-
-four-bytes : (r : Bytes) → AreBytes r → minuteOf r < 4294967296
-four-bytes r h =
-    let p = take 4 (drop 4 r) in
-    let l = length-take 4 (drop 4 r) in
-    let b = little-below p (part-bytes 4 4 r h) in
-    widened (length p) 4 (little p) (omega (arith, l)) b
-
-minutes-of : (bs : Bytes) → AreBytes bs → Minutes (recordsOf bs)
-unfolding recordsOf
-minutes-of bs h = minutes-tab (countOf (length bs)) (λ k. take 16 (drop (16 * k) bs)) (λ k. four-bytes (take 16 (drop (16 * k) bs)) (part-bytes 16 (16 * k) bs h))
+-- ---- the time for which a meter stands still is below 2^32, as minutes of bytes are
 
 larger-below : (a b n : ℕ) → a < n → b < n → larger a b < n
 unfolding larger

@@ -5,7 +5,7 @@ ghost use Prim.Native.Nat.{ℕ, _+_, _*_, _≤_, _<_};
 ghost use lib.Dec.{leb};
 ghost use lib.ListN.{length};
 ghost use Rattle.numbers.specs.Numbers.{+0, at};
-ghost use Rattle.workspace.specs.Tables.{numberOf, placeOf, outcomeNumber, cleared, isDimension, isMatrix, isWidth, isConstraints, isEqualities, isInequalities, isTolerance};
+ghost use Rattle.workspace.specs.Tables.{numberOf, placeOf, outcomeNumber, cleared, isDimension, isMatrix, isConstraints, isTolerance};
 ghost use Rattle.workspace.specs.inner.Readings.{vec, mat, stack, nums, Block, Span, Loaded, Stacked, Cleared};
 
 // ---- answers
@@ -126,32 +126,11 @@ pub fn is_matrix(m: usize, n: usize) -> bool
     m <= 18 && n <= 66
 }
 
-// Columns of LDP, LSI and LSEI, or rows of E.
-pub fn is_width(n: usize) -> bool
-    ensures { λ r. ⌜ r ≡ isWidth n ⌝ }
-{
-    n <= 17
-}
-
 // Constraints of a step.
 pub fn is_constraints(m: usize) -> bool
     ensures { λ r. ⌜ r ≡ isConstraints m ⌝ }
 {
     m <= 16
-}
-
-// Equalities of LSEI.
-pub fn is_equalities(m: usize) -> bool
-    ensures { λ r. ⌜ r ≡ isEqualities m ⌝ }
-{
-    m <= 16
-}
-
-// Inequalities of LDP, LSI and LSEI.
-pub fn is_inequalities(m: usize) -> bool
-    ensures { λ r. ⌜ r ≡ isInequalities m ⌝ }
-{
-    m <= 66
 }
 
 // The lengths of the two workspaces.
