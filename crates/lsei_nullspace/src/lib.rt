@@ -7,6 +7,7 @@ ghost use lib.Ieee.{Float};
 ghost use lib.ListN.{length};
 ghost use Rattle.numbers.specs.Numbers.{at, nth, Σ, _⊖_, _⊗_};
 ghost use Rattle.workspace.specs.inner.Readings.{vec, stack, Block};
+ghost use Rattle.nnls.specs.inner.Dual.{fourOf};
 ghost use Rattle.lsei.specs.Lsei.{lsei};
 ghost use Rattle.lsei.specs.inner.Work.{endedSolution, sides, Spaced};
 ghost use Rattle.lsei_nullspace.specs.inner.Work.{solutionIn, LseiReady, Fixed, TurnedRow, TurnedRows, LaidE, LaidG, RowsOfE, RowsOfG, TailOfE, TailOfG, LseiReduced, slopeIn, Rejoined, Priced, Completed};
@@ -233,12 +234,40 @@ fn slope_at(w: &[f64], me: usize, mg: usize, j: usize) -> f64
     s - t
 }
 
+// Entries j to j + 3, side by side: each is summed in its own order.
+fn slope_four(w: &[f64], me: usize, mg: usize, j: usize) -> nnls::Four
+    requires { ⌜ (me ≤ 17) × (mg ≤ 66) × (j < 14) × (LSEI_ROOM ≤ length (now w)) ⌝ }
+    ensures { λ r. ⌜ r ≡ fourOf (λ i. slopeIn me mg i (now (w .entry))) j ⌝ }
+{
+    let s = nnls::sums_four(w, LSEI_E + j, householder::QR_SOLUTION, me);
+    let t = nnls::sums_four(w, LSEI_G + j, LSEI_MULTIPLIERS, mg);
+    nnls::Four {
+        a: s.a - t.a,
+        b: s.b - t.b,
+        c: s.c - t.c,
+        d: s.d - t.d,
+    }
+}
+
+// E'(E x - f) - G'lambda by fours: up to three entries are left.
+fn slope_fours(w: &mut [f64], n: usize, me: usize, mg: usize)
+    requires { ⌜ (n ≤ 17) × (me ≤ 17) × (mg ≤ 66) × (LSEI_ROOM ≤ length (now w)) ⌝ }
+    ensures { λ _. ⌜ Block QR_SIDE (n / 4 * 4) (λ j. slopeIn me mg j (now (w .entry))) (now (w .entry)) (now (w .exit)) ⌝ }
+{
+    let e = n / 4;
+    for q in 0..e {
+        let s = slope_four(w, me, mg, q * 4);
+        nnls::put_four(w, householder::QR_SIDE + q * 4, s);
+    }
+}
+
 // E'(E x - f) - G'lambda, as a right-hand side.
 fn slopes(w: &mut [f64], n: usize, me: usize, mg: usize)
     requires { ⌜ (n ≤ 17) × (me ≤ 17) × (mg ≤ 66) × (LSEI_ROOM ≤ length (now w)) ⌝ }
     ensures { λ _. ⌜ Block QR_SIDE n (λ j. slopeIn me mg j (now (w .entry))) (now (w .entry)) (now (w .exit)) ⌝ }
 {
-    for j in 0..n {
+    slope_fours(w, n, me, mg);
+    for j in n / 4 * 4..n {
         let v = slope_at(w, me, mg, j);
         w[householder::QR_SIDE + j] = v;
     }
