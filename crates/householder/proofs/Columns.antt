@@ -20,7 +20,10 @@ set-same w i v h = getD-set-same w i v nan h
 set-other : (w : List Float) (i x : ℕ) (v : Float) → (x ≡ i → ⊥) → at (set w i v) x ≡ at w x
 set-other w i x v h = getD-set-other w i x v nan h
 
--- ---- `swap`: the rows, one after the other
+-- ---- `swap`: nothing to do, or the rows, one after the other
+
+pub exchanged-same : (m k p : ℕ) (w : List Float) → k ≡ p → Exchanged m k p w w
+exchanged-same m k p w e = record { first = λ i h. rw e; second = λ i h. rw e; others = λ x f g. refl }
 
 pub exchanged-none : (k p : ℕ) (w : List Float) → Exchanged 0 k p w w
 exchanged-none k p w = record { first = λ i h. absurd (omega arith); second = λ i h. absurd (omega arith); others = λ x f g. refl }

@@ -15,7 +15,7 @@ use Rattle.workspace.specs.inner.Readings.{vec, Block}
 use Rattle.workspace.proofs.Readings.{lit-+0, at-vec, vec-is, vec-same}
 use Rattle.householder.specs.Qr.{along, image}
 use Rattle.householder.specs.inner.Search.{product}
-use Rattle.householder.specs.inner.Work.{Reflected, Turned}
+use Rattle.householder.specs.inner.Work.{Reflected, ReflectedFour, Turned}
 
 pub image-stays : (m k : ℕ) (u : List Float) (b : Float) (v : List Float) → eq (along m k u v) +0 ≡ true → image m k u b v ≡ v
 unfolding image
@@ -49,24 +49,30 @@ module _ (m k o : ℕ) (w : List Float) (km : k < m) where
       after = λ x h. refl;
     }
 
+    -- the entries from k on lifted, and those before as they were
+    pub moved-value : (w′ : List Float) → eq d (ofBits binary64 0) ≡ false → ((i : ℕ) → i < k → at w′ (o + i) ≡ at w (o + i))
+        → ((t : ℕ) → t < m - k → at w′ (o + k + t) ≡ at w (o + k + t) ⊕ (d ⊘ at w (324 + k)) ⊗ at w (k * 18 + k + t))
+        → vec o m w′ ≡ image m k (vec (k * 18) m w) (at w (324 + k)) (vec o m w)
+    moved-value w′ z front inside =
+        vec-is o m w′ (λ i. cond (ltb i k) (at (vec o m w) i) (at (vec o m w) i ⊕ (d ⊘ at w (324 + k)) ⊗ at (vec (k * 18) m w) i))
+        (λ i hi.
+        ⊎-elim
+        (λ (a : i < k). rw (lt-ltb i k a) (front i a ∙ sym (at-vec o m w i hi)))
+        (λ (a : k ≤ i).
+        rw (le-ltb i k a)
+        (ap (λ (x : ℕ). at w′ x) (omega arith)
+        ∙ inside (i - k) (omega arith)
+        ∙ ap₂ _⊕_
+        (ap (λ (x : ℕ). at w x) (omega arith) ∙ sym (at-vec o m w i hi))
+        (ap (λ (x : Float). (d ⊘ at w (324 + k)) ⊗ x) (ap (λ (x : ℕ). at w x) (omega arith) ∙ sym (at-vec (k * 18) m w i hi)))))
+        (lt-or-ge i k))
+        ∙ ap (λ (q : Float). tab m (λ i. cond (ltb i k) (at (vec o m w) i) (at (vec o m w) i ⊕ (q ⊘ at w (324 + k)) ⊗ at (vec (k * 18) m w) i))) d-is
+        ∙ sym (image-moves m k (vec (k * 18) m w) (at w (324 + k)) (vec o m w) (rw (← d-is, ← lit-+0) z))
+
     pub reflect-moves : (w′ : List Float) → eq d (ofBits binary64 0) ≡ false
         → Block (o + k) (m - k) (λ t. at w (o + k + t) ⊕ (d ⊘ at w (324 + k)) ⊗ at w (k * 18 + k + t)) w w′ → Reflected m k o w w′
     reflect-moves w′ z r = record {
-      value =
-          vec-is o m w′ (λ i. cond (ltb i k) (at (vec o m w) i) (at (vec o m w) i ⊕ (d ⊘ at w (324 + k)) ⊗ at (vec (k * 18) m w) i))
-          (λ i hi.
-          ⊎-elim
-          (λ (a : i < k). rw (lt-ltb i k a) (r .before (o + i) (omega arith) ∙ sym (at-vec o m w i hi)))
-          (λ (a : k ≤ i).
-          rw (le-ltb i k a)
-          (ap (λ (x : ℕ). at w′ x) (omega arith)
-          ∙ r .inside (i - k) (omega arith)
-          ∙ ap₂ _⊕_
-          (ap (λ (x : ℕ). at w x) (omega arith) ∙ sym (at-vec o m w i hi))
-          (ap (λ (x : Float). (d ⊘ at w (324 + k)) ⊗ x) (ap (λ (x : ℕ). at w x) (omega arith) ∙ sym (at-vec (k * 18) m w i hi)))))
-          (lt-or-ge i k))
-          ∙ ap (λ (q : Float). tab m (λ i. cond (ltb i k) (at (vec o m w) i) (at (vec o m w) i ⊕ (q ⊘ at w (324 + k)) ⊗ at (vec (k * 18) m w) i))) d-is
-          ∙ sym (image-moves m k (vec (k * 18) m w) (at w (324 + k)) (vec o m w) (rw (← d-is, ← lit-+0) z));
+      value = moved-value w′ z (λ i a. r .before (o + i) (omega arith)) (r .inside);
       before = λ x h. r .before x (omega arith);
       after = λ x h. r .after x (omega arith);
     }
@@ -95,7 +101,7 @@ module _ (m k j : ℕ) (w₀ w w′ : List Float) (m18 : m ≤ 18) (km : k < m) 
 pub turned-at : (m k j j′ : ℕ) (w₀ w : List Float) → j ≡ j′ → Turned m k j w₀ w → Turned m k j′ w₀ w
 turned-at m k j j′ w₀ w e = subst (λ (x : ℕ). Turned m k x w₀ w) e
 
--- ---- `turn_four`
+-- ---- `reflect_each`, `turn_four`
 
 -- a product of numbers that stand as they were
 pub product-kept : (n p q p′ q′ : ℕ) (w w′ : List Float) → p ≡ p′ → q ≡ q′ → ((t : ℕ) → t < n → at w′ (p′ + t) ≡ at w (p′ + t))
@@ -105,7 +111,7 @@ product-kept n p q p′ q′ w w′ ep eq a b =
     ap₂ (λ (x y : ℕ). Σ n (λ t. at w (x + t) ⊗ at w (y + t))) ep eq ∙ Σ-same n _ _ (λ t h. ap₂ _⊗_ (sym (a t h)) (sym (b t h)))
 
 -- the products of u with the three columns behind o, when those before each have been reflected
-module _ (m k o : ℕ) (w w₁ : List Float) (m18 : m ≤ 18) (km : k < m) (low : 426 ≤ o) (r₁ : Reflected m k o w w₁) where
+module _ (m k o : ℕ) (w w₁ : List Float) (m18 : m ≤ 18) (km : k < m) (low : 342 ≤ o) (r₁ : Reflected m k o w w₁) where
   pub second-kept : product (m - k) (k * 18 + k + 0) (o + k + 18) w ≡ product (m - k) (k * 18 + k) (o + 18 + k) w₁
   second-kept =
       product-kept (m - k) _ _ (k * 18 + k) (o + 18 + k) w w₁ (omega arith) (omega arith) (λ t h. r₁ .before (k * 18 + k + t) (omega arith))
@@ -125,14 +131,19 @@ module _ (m k o : ℕ) (w w₁ : List Float) (m18 : m ≤ 18) (km : k < m) (low 
           (λ t h. r₃ .before (k * 18 + k + t) (omega arith) ∙ r₂ .before (k * 18 + k + t) (omega arith) ∙ r₁ .before (k * 18 + k + t) (omega arith))
           (λ t h. r₃ .after (o + 54 + k + t) (omega arith) ∙ r₂ .after (o + 54 + k + t) (omega arith) ∙ r₁ .after (o + 54 + k + t) (omega arith))
 
-pub turned-four : (m k j : ℕ) (w₀ w w₁ w₂ w₃ w₄ : List Float) → m ≤ 18 → k < m → k < j → Reflected m k (426 + j * 18) w w₁ → Reflected m k (426 + j * 18 + 18) w₁ w₂
-    → Reflected m k (426 + j * 18 + 36) w₂ w₃ → Reflected m k (426 + j * 18 + 54) w₃ w₄ → Turned m k j w₀ w → Turned m k (j + 4) w₀ w₄
-turned-four m k j w₀ w w₁ w₂ w₃ w₄ m18 km kj r₁ r₂ r₃ r₄ h =
-    let at-1 : 426 + j * 18 + 18 ≡ 426 + (j + 1) * 18 = omega arith in
-    let at-2 : 426 + j * 18 + 36 ≡ 426 + (j + 1 + 1) * 18 = omega arith in
-    let at-3 : 426 + j * 18 + 54 ≡ 426 + (j + 1 + 1 + 1) * 18 = omega arith in
-    let t₁ = turned-more m k j w₀ w w₁ m18 km kj r₁ h in
-    let t₂ = turned-more m k (j + 1) w₀ w₁ w₂ m18 km (omega arith) (subst (λ (o : ℕ). Reflected m k o w₁ w₂) at-1 r₂) t₁ in
-    let t₃ = turned-more m k (j + 1 + 1) w₀ w₂ w₃ m18 km (omega arith) (subst (λ (o : ℕ). Reflected m k o w₂ w₃) at-2 r₃) t₂ in
-    let t₄ = turned-more m k (j + 1 + 1 + 1) w₀ w₃ w₄ m18 km (omega arith) (subst (λ (o : ℕ). Reflected m k o w₃ w₄) at-3 r₄) t₃ in
-    turned-at m k _ (j + 4) w₀ w₄ (omega arith) t₄
+pub turned-four : (m k j : ℕ) (w₀ w w′ : List Float) → m ≤ 18 → k < m → k < j → ReflectedFour m k (426 + j * 18) w w′ → Turned m k j w₀ w → Turned m k (j + 4) w₀ w′
+turned-four m k j w₀ w w′ m18 km kj r h =
+    let u : vec (k * 18) m w ≡ vec (k * 18) m w₀ = vec-same (k * 18) m w₀ w (λ i hi. h .before (k * 18 + i) (omega arith)) in
+    let b : at w (324 + k) ≡ at w₀ (324 + k) = h .before (324 + k) (omega arith) in
+    record {
+      columns = λ q kq qj.
+          ⊎-elim
+          (λ (y : q < j). vec-same (426 + q * 18) m w w′ (λ i hi. r .before (426 + q * 18 + i) (omega arith)) ∙ h .columns q kq y)
+          (λ (y : j ≤ q).
+          let e : 426 + j * 18 + (q - j) * 18 ≡ 426 + q * 18 = omega arith in
+          let v : vec (426 + q * 18) m w ≡ vec (426 + q * 18) m w₀ = vec-same (426 + q * 18) m w₀ w (λ i hi. h .after (426 + q * 18 + i) (omega arith)) in
+          (rw e at (r .values (q - j) (omega arith))) ∙ rw (u, b, v))
+          (lt-or-ge q j);
+      before = λ x a. r .before x (omega arith) ∙ h .before x a;
+      after = λ x a. r .after x (omega arith) ∙ h .after x (omega arith);
+    }

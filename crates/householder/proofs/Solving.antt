@@ -17,7 +17,7 @@ use Rattle.workspace.proofs.Writes.{block-vec}
 use Rattle.householder.specs.Qr.{image, forth, back, applyQt, applyQ, upward, solveR, downward, solveRt, solve}
 use Rattle.householder.specs.declared.Four.{Four}
 use Rattle.householder.specs.inner.Search.{product, four}
-use Rattle.householder.specs.inner.Work.{held, Reflected, AppliedQt, AppliedQ, SolvedR, SolvedRt, SolvedFour, Placed}
+use Rattle.householder.specs.inner.Work.{held, Reflected, ReflectedFour, AppliedQt, AppliedFour, AppliedQ, SolvedR, SolvedRt, SolvedFour, Placed}
 use Rattle.householder.proofs.Held.{held-same, reflect-held, forth-same}
 
 -- ---- Q': the first i reflectors, from the first to the last
@@ -26,22 +26,37 @@ pub applied-none : (m o : ℕ) (w : List Float) → AppliedQt m 0 o w w
 unfolding applyQt forth
 applied-none m o w = record { value = λ n iw h. refl; before = λ x h. refl; after = λ x h. refl }
 
-pub applied-more : (m i o : ℕ) (w₀ w w′ : List Float) → m ≤ 18 → i < m → 342 ≤ o → Reflected m i o w w′ → AppliedQt m i o w₀ w → AppliedQt m (i + 1) o w₀ w′
+-- one reflector more on the vector at o
+forth-more : (m i o : ℕ) (w₀ w w′ : List Float) → m ≤ 18 → i < m → ((x : ℕ) → x < 342 → at w x ≡ at w₀ x) → vec o m w′ ≡ image m i (vec (i * 18) m w) (at w (324 + i)) (vec o m w)
+    → ((n : ℕ) (iw : List ℕ) → i ≤ n → vec o m w ≡ applyQt m (held m n i w₀ iw) (vec o m w₀)) → (n : ℕ) (iw : List ℕ) → i + 1 ≤ n
+    → vec o m w′ ≡ applyQt m (held m n (i + 1) w₀ iw) (vec o m w₀)
 unfolding applyQt forth
-applied-more m i o w₀ w w′ m18 im l r h =
-    let u : vec (i * 18) m w ≡ vec (i * 18) m w₀ = vec-same (i * 18) m w₀ w (λ t ht. h .before (i * 18 + t) (omega arith)) in
-    let b : at w (324 + i) ≡ at w₀ (324 + i) = h .before (324 + i) (omega arith) in
-    record {
-      value = λ n iw c.
-          let f = held m n (i + 1) w₀ iw in
-          rw add-one
-          (r .value
-          ∙ rw (u, b, h .value n iw (omega arith))
-          (sym (reflect-held m n (suc i) i w₀ iw (forth m (held m n (suc i) w₀ iw) i (vec o m w₀)) im (omega arith)
-          ∙ ap (image m i (vec (i * 18) m w₀) (at w₀ (324 + i))) (forth-same m i (held m n (suc i) w₀ iw) (held m n i w₀ iw) (vec o m w₀) refl refl))));
-      before = λ x a. r .before x a ∙ h .before x a;
-      after = λ x a. r .after x a ∙ h .after x a;
-    }
+forth-more m i o w₀ w w′ m18 im low r h n iw c =
+    let u : vec (i * 18) m w ≡ vec (i * 18) m w₀ = vec-same (i * 18) m w₀ w (λ t ht. low (i * 18 + t) (omega arith)) in
+    let b : at w (324 + i) ≡ at w₀ (324 + i) = low (324 + i) (omega arith) in
+    rw add-one
+    (r
+    ∙ rw (u, b, h n iw (omega arith))
+    (sym (reflect-held m n (suc i) i w₀ iw (forth m (held m n (suc i) w₀ iw) i (vec o m w₀)) im (omega arith)
+    ∙ ap (image m i (vec (i * 18) m w₀) (at w₀ (324 + i))) (forth-same m i (held m n (suc i) w₀ iw) (held m n i w₀ iw) (vec o m w₀) refl refl))))
+
+pub applied-more : (m i o : ℕ) (w₀ w w′ : List Float) → m ≤ 18 → i < m → 342 ≤ o → Reflected m i o w w′ → AppliedQt m i o w₀ w → AppliedQt m (i + 1) o w₀ w′
+applied-more m i o w₀ w w′ m18 im l r h = record {
+  value = forth-more m i o w₀ w w′ m18 im (λ x a. h .before x (omega arith)) (r .value) (h .value);
+  before = λ x a. r .before x a ∙ h .before x a;
+  after = λ x a. r .after x a ∙ h .after x a;
+}
+
+pub applied-four-none : (m o : ℕ) (w : List Float) → AppliedFour m 0 o w w
+unfolding applyQt forth
+applied-four-none m o w = record { values = λ j g n iw h. refl; before = λ x h. refl; after = λ x h. refl }
+
+pub applied-four-more : (m i o : ℕ) (w₀ w w′ : List Float) → m ≤ 18 → i < m → 342 ≤ o → ReflectedFour m i o w w′ → AppliedFour m i o w₀ w → AppliedFour m (i + 1) o w₀ w′
+applied-four-more m i o w₀ w w′ m18 im l r h = record {
+  values = λ j g. forth-more m i (o + j * 18) w₀ w w′ m18 im (λ x a. h .before x (omega arith)) (r .values j g) (h .values j g);
+  before = λ x a. r .before x a ∙ h .before x a;
+  after = λ x a. r .after x a ∙ h .after x a;
+}
 
 -- ---- Q: i reflectors are still to do, from the last to the first
 

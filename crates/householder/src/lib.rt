@@ -1,4 +1,5 @@
 // Householder QR with column pivoting, in a lent part of the workspaces.
+mod fours;
 mod search;
 mod vectors;
 
@@ -13,12 +14,12 @@ ghost use Rattle.numbers.specs.Numbers.{at, nth, tab};
 ghost use Rattle.workspace.specs.inner.Readings.{vec, mat, nums, Block};
 ghost use Rattle.householder.specs.Qr.{pivot, tolerance, signed, advance, factor, solve};
 ghost use Rattle.householder.specs.inner.Search.{product, four};
-ghost use Rattle.householder.specs.inner.Work.{held, Unmade, Turned, Prepared, AppliedQt, AppliedQ, SolvedR, SolvedRt, SolvedFour, Placed};
+ghost use Rattle.householder.specs.inner.Work.{held, Unmade, Turned, Prepared, AppliedQt, AppliedFour, AppliedQ, SolvedR, SolvedRt, SolvedFour, Placed};
 ghost use Rattle.householder.specs.inner.Places.{QR_MATRIX, QR_SIDE, QR_SOLUTION};
+use crate::fours::reflect_four;
 use crate::search::pivot;
 use crate::vectors::move_down;
 use crate::vectors::reflect;
-use crate::vectors::reflect_by;
 use crate::vectors::swap;
 use crate::vectors::swap_at;
 
@@ -79,17 +80,12 @@ fn products_four(w: &[f64], p: usize, s: usize, q: usize, n: usize) -> Four
 
 // ---- one step
 
-// Columns j to j + 3 under reflector k; none of them changes the dot product of another.
+// Columns j to j + 3 under reflector k.
 fn turn_four(w: &mut [f64], m: usize, k: usize, j: usize)
     requires { ⌜ (m ≤ 18) × (k < m) × (k < j) × (QR_MATRIX + (j + 4) * 18 ≤ length (now w)) ⌝ }
     ensures { λ _. ⌜ ((w₀ : List Float) → Turned m k j w₀ (now (w .entry)) → Turned m k (j + 4) w₀ (now (w .exit))) ⌝ }
 {
-    let o = QR_MATRIX + j * 18;
-    let s = products_four(w, k * 18 + k, 0, o + k, m - k);
-    reflect_by(w, m, k, o, s.a);
-    reflect_by(w, m, k, o + 18, s.b);
-    reflect_by(w, m, k, o + 36, s.c);
-    reflect_by(w, m, k, o + 54, s.d);
+    reflect_four(w, m, k, QR_MATRIX + j * 18);
 }
 
 // The columns past k under reflector k, by fours: up to three columns are left.
@@ -225,6 +221,16 @@ pub fn apply_qt(w: &mut [f64], m: usize, k: usize, o: usize)
 {
     for i in 0..k {
         reflect(w, m, i, o);
+    }
+}
+
+// The same on four vectors from o on, 18 places apart.
+pub fn apply_qt_four(w: &mut [f64], m: usize, k: usize, o: usize)
+    requires { ⌜ (m ≤ 18) × (k ≤ m) × (QR_SIDE ≤ o) × (o + 54 + m ≤ length (now w)) ⌝ }
+    ensures { λ _. ⌜ AppliedFour m k o (now (w .entry)) (now (w .exit)) ⌝ }
+{
+    for i in 0..k {
+        reflect_four(w, m, i, o);
     }
 }
 

@@ -55,6 +55,9 @@ pub fn swap(w: &mut [f64], m: usize, k: usize, p: usize)
     requires { ⌜ (m ≤ 18) × (QR_MATRIX + k * 18 + m ≤ length (now w)) × (QR_MATRIX + p * 18 + m ≤ length (now w)) ⌝ }
     ensures { λ _. ⌜ Exchanged m k p (now (w .entry)) (now (w .exit)) ⌝ }
 {
+    if k == p {
+        return;
+    }
     for i in 0..m {
         let x = w[crate::QR_MATRIX + k * 18 + i];
         w[crate::QR_MATRIX + k * 18 + i] = w[crate::QR_MATRIX + p * 18 + i];

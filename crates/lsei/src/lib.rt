@@ -9,7 +9,8 @@ ghost use Rattle.numbers.specs.Numbers.{+0, one, at, nth, Σ, _⊕_, _⊖_, _�
 ghost use Rattle.workspace.specs.inner.Readings.{vec, mat, stack, Block};
 ghost use Rattle.workspace.specs.Tables.{outcomeOf};
 ghost use Rattle.lsei.specs.Lsei.{Solution, dualSide, dualResidual, primal, ldp, lsi};
-ghost use Rattle.lsei.specs.inner.Work.{endingAnswer, endedSolution, sides, distanceIn, squaresIn, FactoredFront, PermutedRow, Permuted, SolvedRows, Shifted, Reduced, Restored};
+ghost use Rattle.nnls.specs.inner.Dual.{fourOf};
+ghost use Rattle.lsei.specs.inner.Work.{endingAnswer, endedSolution, sides, distanceIn, squaresIn, FactoredFront, PermutedRow, Permuted, SolvedRows, Shifted, Reduced, Restored, residualIn};
 ghost use Rattle.householder.specs.inner.Places.{QR_MATRIX, QR_SIDE};
 ghost use Rattle.lsei.specs.inner.Places.{LDP_RESIDUAL, LDP_ROOM, LDP_SIDE, LDP_U, LDP_WORDS, LSI_E, LSI_F, LSI_G, LSI_LDP_X, LSI_ROOM, LSI_WORDS};
 use workspace::Outcome;
@@ -110,18 +111,45 @@ fn write_side(w: &mut [f64], n: usize)
 // Entry j of the dual's residual E u - f.
 fn residual_at(w: &[f64], j: usize, m: usize) -> f64
     requires { ⌜ (j < 18) × (m ≤ 66) × (LDP_ROOM ≤ length (now w)) ⌝ }
-    ensures { λ r. ⌜ r ≡ Σ m (λ i. at (now (w .entry)) (j + i * 18) ⊗ at (now (w .entry)) (LDP_U + i * 1)) ⊖ at (now (w .entry)) (LDP_SIDE + j) ⌝ }
+    ensures { λ r. ⌜ r ≡ residualIn m j (now (w .entry)) ⌝ }
 {
     let t = numbers::dot_strided(w, j, 18, w, LDP_U, 1, m);
     t - w[LDP_SIDE + j]
 }
 
+// Entries j to j + 3, side by side: each is summed in its own order.
+fn residual_four(w: &[f64], j: usize, m: usize) -> nnls::Four
+    requires { ⌜ (j < 15) × (m ≤ 66) × (LDP_ROOM ≤ length (now w)) ⌝ }
+    ensures { λ r. ⌜ r ≡ fourOf (λ i. residualIn m i (now (w .entry))) j ⌝ }
+{
+    let s = nnls::sums_four(w, j, LDP_U, m);
+    nnls::Four {
+        a: s.a - w[LDP_SIDE + j],
+        b: s.b - w[LDP_SIDE + (j + 1)],
+        c: s.c - w[LDP_SIDE + (j + 2)],
+        d: s.d - w[LDP_SIDE + (j + 3)],
+    }
+}
+
+// The first c entries of the dual's residual by fours: up to three are left.
+fn residual_fours(w: &mut [f64], c: usize, m: usize)
+    requires { ⌜ (c ≤ 18) × (m ≤ 66) × (LDP_ROOM ≤ length (now w)) ⌝ }
+    ensures { λ _. ⌜ Block LDP_RESIDUAL (c / 4 * 4) (λ j. residualIn m j (now (w .entry))) (now (w .entry)) (now (w .exit)) ⌝ }
+{
+    let e = c / 4;
+    for q in 0..e {
+        let s = residual_four(w, q * 4, m);
+        nnls::put_four(w, LDP_RESIDUAL + q * 4, s);
+    }
+}
+
 // The first c entries of the dual's residual.
 fn residual_all(w: &mut [f64], c: usize, m: usize)
     requires { ⌜ (c ≤ 18) × (m ≤ 66) × (LDP_ROOM ≤ length (now w)) ⌝ }
-    ensures { λ _. ⌜ Block LDP_RESIDUAL c (λ j. Σ m (λ i. at (now (w .entry)) (j + i * 18) ⊗ at (now (w .entry)) (LDP_U + i * 1)) ⊖ at (now (w .entry)) (LDP_SIDE + j)) (now (w .entry)) (now (w .exit)) ⌝ }
+    ensures { λ _. ⌜ Block LDP_RESIDUAL c (λ j. residualIn m j (now (w .entry))) (now (w .entry)) (now (w .exit)) ⌝ }
 {
-    for j in 0..c {
+    residual_fours(w, c, m);
+    for j in c / 4 * 4..c {
         let v = residual_at(w, j, m);
         w[LDP_RESIDUAL + j] = v;
     }

@@ -1,13 +1,16 @@
 // Least squares with equalities and inequalities, min ||E x - f|| with C x = d and G x >= h, by the null
 // space of the equalities, in one part of each workspace.
 ghost use mathlib.Core.Path.{_≡_};
-ghost use Prim.Native.Nat.{ℕ, _+_, _-_, _*_, _<_, _≤_};
+ghost use mathlib.Core.List.{List};
+ghost use Prim.Native.Nat.{ℕ, _+_, _-_, _*_, _/_, _<_, _≤_};
+ghost use lib.Ieee.{Float};
 ghost use lib.ListN.{length};
 ghost use Rattle.numbers.specs.Numbers.{at, nth, Σ, _⊖_, _⊗_};
 ghost use Rattle.workspace.specs.inner.Readings.{vec, stack, Block};
+ghost use Rattle.nnls.specs.inner.Dual.{fourOf};
 ghost use Rattle.lsei.specs.Lsei.{lsei};
 ghost use Rattle.lsei.specs.inner.Work.{endedSolution, sides, Spaced};
-ghost use Rattle.lsei_nullspace.specs.inner.Work.{solutionIn, LseiReady, Fixed, TurnedRow, RowOfE, RowOfG, TailOfE, TailOfG, LseiReduced, slopeIn, Rejoined, Priced, Completed};
+ghost use Rattle.lsei_nullspace.specs.inner.Work.{solutionIn, LseiReady, Fixed, TurnedRow, TurnedRows, LaidE, LaidG, RowsOfE, RowsOfG, TailOfE, TailOfG, LseiReduced, slopeIn, Rejoined, Priced, Completed};
 ghost use Rattle.householder.specs.inner.Places.{QR_MATRIX, QR_SIDE, QR_SOLUTION};
 ghost use Rattle.lsei_nullspace.specs.inner.Places.{LSEI_E, LSEI_F, LSEI_G, LSEI_ROOM, LSEI_WORDS, LSEI_X};
 
@@ -65,6 +68,16 @@ fn turn_row(w: &mut [f64], n: usize, mc: usize, o: usize)
     householder::apply_qt(w, n, mc, householder::QR_SIDE);
 }
 
+// Four rows from o on under Q', 18 places apart, over a right-hand side and a solution: what stands between two of
+// them comes along.
+fn turn_rows(w: &mut [f64], n: usize, mc: usize, o: usize)
+    requires { ⌜ (n ≤ 17) × (mc ≤ n) × (QR_MATRIX ≤ o) × (o + 54 + n ≤ length (now w)) ⌝ }
+    ensures { λ _. ⌜ TurnedRows n mc o (now (w .entry)) (now (w .exit)) ⌝ }
+{
+    workspace::copy_down(w, o, householder::QR_SIDE, 54 + n);
+    householder::apply_qt_four(w, n, mc, householder::QR_SIDE);
+}
+
 // c numbers from p on, to q on, which lies behind them, 18 apart.
 fn space(w: &mut [f64], p: usize, q: usize, c: usize)
     requires { ⌜ (p + c ≤ q) × (q + c * 18 ≤ length (now w)) ⌝ }
@@ -75,15 +88,45 @@ fn space(w: &mut [f64], p: usize, q: usize, c: usize)
     }
 }
 
-// Row i of LSI's E, and entry i of its f.
+// Row i of LSI's E, and entry i of its f, from the turned row at p.
+fn lay_e(w: &mut [f64], n: usize, mc: usize, i: usize, p: usize)
+    requires { ⌜ (n ≤ 17) × (mc ≤ n) × (i < 17) × (QR_SIDE ≤ p) × (p + n ≤ QR_MATRIX) × (LSEI_ROOM ≤ length (now w)) ⌝ }
+    ensures { λ _. ⌜ LaidE n mc i p (now (w .entry)) (now (w .exit)) ⌝ }
+{
+    space(w, p + mc, LSEI_LSI_E + i, n - mc);
+    let t = numbers::dot_within(w, p, LSEI_X, mc);
+    w[LSEI_LSI_F + i] = w[LSEI_F + i] - t;
+}
+
+// Row i of E turned and laid.
 fn turn_e_row(w: &mut [f64], n: usize, mc: usize, i: usize)
     requires { ⌜ (n ≤ 17) × (mc ≤ n) × (i < 17) × (LSEI_ROOM ≤ length (now w)) ⌝ }
-    ensures { λ _. ⌜ RowOfE n mc i (now (w .entry)) (now (w .exit)) ⌝ }
+    ensures { λ _. ⌜ ((w₀ : List Float) → RowsOfE n mc i w₀ (now (w .entry)) → RowsOfE n mc (i + 1) w₀ (now (w .exit))) ⌝ }
 {
     turn_row(w, n, mc, LSEI_E + i * 18);
-    space(w, householder::QR_SIDE + mc, LSEI_LSI_E + i, n - mc);
-    let t = numbers::dot_within(w, householder::QR_SIDE, LSEI_X, mc);
-    w[LSEI_LSI_F + i] = w[LSEI_F + i] - t;
+    lay_e(w, n, mc, i, householder::QR_SIDE);
+}
+
+// Rows i to i + 3.
+fn turn_e_four(w: &mut [f64], n: usize, mc: usize, i: usize)
+    requires { ⌜ (n ≤ 17) × (mc ≤ n) × (i + 4 ≤ 17) × (LSEI_ROOM ≤ length (now w)) ⌝ }
+    ensures { λ _. ⌜ ((w₀ : List Float) → RowsOfE n mc i w₀ (now (w .entry)) → RowsOfE n mc (i + 4) w₀ (now (w .exit))) ⌝ }
+{
+    turn_rows(w, n, mc, LSEI_E + i * 18);
+    for r in 0..4 {
+        lay_e(w, n, mc, i + r, householder::QR_SIDE + r * 18);
+    }
+}
+
+// The rows by fours: up to three are left.
+fn turn_e_fours(w: &mut [f64], n: usize, mc: usize, me: usize)
+    requires { ⌜ (n ≤ 17) × (mc ≤ n) × (me ≤ 17) × (LSEI_ROOM ≤ length (now w)) ⌝ }
+    ensures { λ _. ⌜ RowsOfE n mc (me / 4 * 4) (now (w .entry)) (now (w .exit)) ⌝ }
+{
+    let c = me / 4;
+    for q in 0..c {
+        turn_e_four(w, n, mc, q * 4);
+    }
 }
 
 // LSI's E and f.
@@ -91,20 +134,51 @@ fn turn_e(w: &mut [f64], n: usize, mc: usize, me: usize)
     requires { ⌜ (n ≤ 17) × (mc ≤ n) × (me ≤ 17) × (LSEI_ROOM ≤ length (now w)) ⌝ }
     ensures { λ _. ⌜ TailOfE n mc me (now (w .entry)) (now (w .exit)) ⌝ }
 {
-    for i in 0..me {
+    turn_e_fours(w, n, mc, me);
+    for i in me / 4 * 4..me {
         turn_e_row(w, n, mc, i);
     }
 }
 
-// Row i of LSI's inequalities, and its side.
+// Row i of LSI's inequalities, and its side, from the turned row at p.
+fn lay_g(w: &mut [f64], n: usize, mc: usize, i: usize, p: usize)
+    requires { ⌜ (n ≤ 17) × (mc ≤ n) × (i < 66) × (QR_SIDE ≤ p) × (p + n ≤ QR_MATRIX) × (LSEI_ROOM ≤ length (now w)) ⌝ }
+    ensures { λ _. ⌜ LaidG n mc i p (now (w .entry)) (now (w .exit)) ⌝ }
+{
+    workspace::copy_up(w, p + mc, LSEI_LSI_G + i * 18, n - mc);
+    let t = numbers::dot_within(w, p, LSEI_X, mc);
+    w[LSEI_LSI_G + i * 18 + (n - mc)] = w[LSEI_G + i * 18 + n] - t;
+}
+
+// Row i of G turned and laid.
 fn turn_g_row(w: &mut [f64], n: usize, mc: usize, i: usize)
     requires { ⌜ (n ≤ 17) × (mc ≤ n) × (i < 66) × (LSEI_ROOM ≤ length (now w)) ⌝ }
-    ensures { λ _. ⌜ RowOfG n mc i (now (w .entry)) (now (w .exit)) ⌝ }
+    ensures { λ _. ⌜ ((w₀ : List Float) → RowsOfG n mc i w₀ (now (w .entry)) → RowsOfG n mc (i + 1) w₀ (now (w .exit))) ⌝ }
 {
     turn_row(w, n, mc, LSEI_G + i * 18);
-    workspace::copy_up(w, householder::QR_SIDE + mc, LSEI_LSI_G + i * 18, n - mc);
-    let t = numbers::dot_within(w, householder::QR_SIDE, LSEI_X, mc);
-    w[LSEI_LSI_G + i * 18 + (n - mc)] = w[LSEI_G + i * 18 + n] - t;
+    lay_g(w, n, mc, i, householder::QR_SIDE);
+}
+
+// Rows i to i + 3.
+fn turn_g_four(w: &mut [f64], n: usize, mc: usize, i: usize)
+    requires { ⌜ (n ≤ 17) × (mc ≤ n) × (i + 4 ≤ 66) × (LSEI_ROOM ≤ length (now w)) ⌝ }
+    ensures { λ _. ⌜ ((w₀ : List Float) → RowsOfG n mc i w₀ (now (w .entry)) → RowsOfG n mc (i + 4) w₀ (now (w .exit))) ⌝ }
+{
+    turn_rows(w, n, mc, LSEI_G + i * 18);
+    for r in 0..4 {
+        lay_g(w, n, mc, i + r, householder::QR_SIDE + r * 18);
+    }
+}
+
+// The rows by fours: up to three are left.
+fn turn_g_fours(w: &mut [f64], n: usize, mc: usize, mg: usize)
+    requires { ⌜ (n ≤ 17) × (mc ≤ n) × (mg ≤ 66) × (LSEI_ROOM ≤ length (now w)) ⌝ }
+    ensures { λ _. ⌜ RowsOfG n mc (mg / 4 * 4) (now (w .entry)) (now (w .exit)) ⌝ }
+{
+    let c = mg / 4;
+    for q in 0..c {
+        turn_g_four(w, n, mc, q * 4);
+    }
 }
 
 // LSI's inequalities.
@@ -112,7 +186,8 @@ fn turn_g(w: &mut [f64], n: usize, mc: usize, mg: usize)
     requires { ⌜ (n ≤ 17) × (mc ≤ n) × (mg ≤ 66) × (LSEI_ROOM ≤ length (now w)) ⌝ }
     ensures { λ _. ⌜ TailOfG n mc mg (now (w .entry)) (now (w .exit)) ⌝ }
 {
-    for i in 0..mg {
+    turn_g_fours(w, n, mc, mg);
+    for i in mg / 4 * 4..mg {
         turn_g_row(w, n, mc, i);
     }
 }
@@ -159,12 +234,40 @@ fn slope_at(w: &[f64], me: usize, mg: usize, j: usize) -> f64
     s - t
 }
 
+// Entries j to j + 3, side by side: each is summed in its own order.
+fn slope_four(w: &[f64], me: usize, mg: usize, j: usize) -> nnls::Four
+    requires { ⌜ (me ≤ 17) × (mg ≤ 66) × (j < 14) × (LSEI_ROOM ≤ length (now w)) ⌝ }
+    ensures { λ r. ⌜ r ≡ fourOf (λ i. slopeIn me mg i (now (w .entry))) j ⌝ }
+{
+    let s = nnls::sums_four(w, LSEI_E + j, householder::QR_SOLUTION, me);
+    let t = nnls::sums_four(w, LSEI_G + j, LSEI_MULTIPLIERS, mg);
+    nnls::Four {
+        a: s.a - t.a,
+        b: s.b - t.b,
+        c: s.c - t.c,
+        d: s.d - t.d,
+    }
+}
+
+// E'(E x - f) - G'lambda by fours: up to three entries are left.
+fn slope_fours(w: &mut [f64], n: usize, me: usize, mg: usize)
+    requires { ⌜ (n ≤ 17) × (me ≤ 17) × (mg ≤ 66) × (LSEI_ROOM ≤ length (now w)) ⌝ }
+    ensures { λ _. ⌜ Block QR_SIDE (n / 4 * 4) (λ j. slopeIn me mg j (now (w .entry))) (now (w .entry)) (now (w .exit)) ⌝ }
+{
+    let e = n / 4;
+    for q in 0..e {
+        let s = slope_four(w, me, mg, q * 4);
+        nnls::put_four(w, householder::QR_SIDE + q * 4, s);
+    }
+}
+
 // E'(E x - f) - G'lambda, as a right-hand side.
 fn slopes(w: &mut [f64], n: usize, me: usize, mg: usize)
     requires { ⌜ (n ≤ 17) × (me ≤ 17) × (mg ≤ 66) × (LSEI_ROOM ≤ length (now w)) ⌝ }
     ensures { λ _. ⌜ Block QR_SIDE n (λ j. slopeIn me mg j (now (w .entry))) (now (w .entry)) (now (w .exit)) ⌝ }
 {
-    for j in 0..n {
+    slope_fours(w, n, me, mg);
+    for j in n / 4 * 4..n {
         let v = slope_at(w, me, mg, j);
         w[householder::QR_SIDE + j] = v;
     }

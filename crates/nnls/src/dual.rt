@@ -3,7 +3,7 @@ ghost use mathlib.Core.Path.{_≡_};
 ghost use Prim.Native.Nat.{_+_, _*_, _/_, _<_, _≤_};
 ghost use lib.ListN.{length};
 ghost use Rattle.workspace.specs.inner.Readings.{Block};
-ghost use Rattle.nnls.specs.inner.Dual.{residualAt, dualAt, fourOf, setFour};
+ghost use Rattle.nnls.specs.inner.Dual.{sumAt, residualAt, dualAt, fourOf, setFour};
 ghost use Rattle.nnls_passive.specs.inner.Places.{NNLS_DUAL, NNLS_RESIDUAL, NNLS_ROOM};
 
 // Four entries.
@@ -15,7 +15,7 @@ pub struct Four {
 }
 
 // Four entries from o on.
-fn put_four(w: &mut [f64], o: usize, s: Four)
+pub fn put_four(w: &mut [f64], o: usize, s: Four)
     requires { ⌜ (o ≤ 3000) × (NNLS_ROOM ≤ length (now w)) ⌝ }
     ensures { λ _. ⌜ now (w .exit) ≡ setFour o s (now (w .entry)) ⌝ }
 {
@@ -23,6 +23,25 @@ fn put_four(w: &mut [f64], o: usize, s: Four)
     w[o + 1] = s.b;
     w[o + 2] = s.c;
     w[o + 3] = s.d;
+}
+
+// The sums of the products of n numbers, 18 apart from p on, with the n from q on; and from p + 1, p + 2 and p + 3 on.
+pub fn sums_four(w: &[f64], p: usize, q: usize, n: usize) -> Four
+    requires { ⌜ (p + n * 18 ≤ length (now w)) × (q + n ≤ length (now w)) ⌝ }
+    ensures { λ r. ⌜ r ≡ fourOf (sumAt n q (now (w .entry))) p ⌝ }
+{
+    let mut a = -0.0;
+    let mut b = -0.0;
+    let mut c = -0.0;
+    let mut d = -0.0;
+    for j in 0..n {
+        let x = w[q + j];
+        a = a + w[p + j * 18] * x;
+        b = b + w[p + 1 + j * 18] * x;
+        c = c + w[p + 2 + j * 18] * x;
+        d = d + w[p + 3 + j * 18] * x;
+    }
+    Four { a, b, c, d }
 }
 
 // ---- the residual
@@ -41,22 +60,12 @@ fn residual_four(w: &[f64], i: usize, n: usize) -> Four
     requires { ⌜ (i < 15) × (n ≤ 66) × (NNLS_ROOM ≤ length (now w)) ⌝ }
     ensures { λ r. ⌜ r ≡ fourOf (residualAt n (now (w .entry))) i ⌝ }
 {
-    let mut a = -0.0;
-    let mut b = -0.0;
-    let mut c = -0.0;
-    let mut d = -0.0;
-    for j in 0..n {
-        let x = w[nnls_passive::NNLS_X + j];
-        a = a + w[i + j * 18] * x;
-        b = b + w[i + 1 + j * 18] * x;
-        c = c + w[i + 2 + j * 18] * x;
-        d = d + w[i + 3 + j * 18] * x;
-    }
+    let s = sums_four(w, i, nnls_passive::NNLS_X, n);
     Four {
-        a: w[nnls_passive::NNLS_SIDE + i] - a,
-        b: w[nnls_passive::NNLS_SIDE + (i + 1)] - b,
-        c: w[nnls_passive::NNLS_SIDE + (i + 2)] - c,
-        d: w[nnls_passive::NNLS_SIDE + (i + 3)] - d,
+        a: w[nnls_passive::NNLS_SIDE + i] - s.a,
+        b: w[nnls_passive::NNLS_SIDE + (i + 1)] - s.b,
+        c: w[nnls_passive::NNLS_SIDE + (i + 2)] - s.c,
+        d: w[nnls_passive::NNLS_SIDE + (i + 3)] - s.d,
     }
 }
 

@@ -17,6 +17,9 @@ use crate::dual::write_dual;
 use crate::dual::write_residual;
 use crate::memory::Course;
 use crate::memory::look_back;
+pub use dual::Four;
+pub use dual::put_four;
+pub use dual::sums_four;
 
 // ---- which column to try
 

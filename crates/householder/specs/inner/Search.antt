@@ -6,7 +6,7 @@ use mathlib.Core.Bool.{true, false, cond}
 use mathlib.Core.List.{List}
 use Prim.Native.Nat.{ℕ, _+_, _*_}
 use lib.IntN.{negsuc}
-use lib.Ieee.{Float, fin, lt, le}
+use lib.Ieee.{Float, binary64, fin, lt, le, eq, ofBits}
 use Rattle.numbers.specs.Numbers.{+0, -1, _⊗_, Σ, at}
 use Rattle.numbers.specs.Root.{sqrtOf}
 use Rattle.numbers.specs.Ordered.{gap}
@@ -25,6 +25,13 @@ product n p q w = Σ n (λ t. at w (p + t) ⊗ at w (q + t))
 -- and, for the same rows of the three columns behind q, with those s, 2 s and 3 s behind p
 abbrev pub four : (n p s q : ℕ) → List Float → Four
 four n p s q w = record { a = product n p q w; b = product n (p + s) (q + 18) w; c = product n (p + s * 2) (q + 36) w; d = product n (p + s * 3) (q + 54) w }
+
+-- none of four numbers is zero
+pub record NonzeroFour (s : Four) : Type 0 where
+  pub a : eq (s .a) (ofBits binary64 0) ≡ false
+  pub b : eq (s .b) (ofBits binary64 0) ≡ false
+  pub c : eq (s .c) (ofBits binary64 0) ≡ false
+  pub d : eq (s .d) (ofBits binary64 0) ≡ false
 
 -- four sums that decide their columns' norms, from the least sum f on
 pub record SureFour (f : Float) (s : Four) : Type 0 where

@@ -5,9 +5,10 @@ use mathlib.Core.List.{List}
 use Prim.Native.Nat.{ℕ, _+_, _*_, _<_, _≤_, min}
 use lib.Dec.{ltb, eqb}
 use lib.Ieee.{Float}
-use Rattle.numbers.specs.Numbers.{+0, _⊖_, _⊗_, at, scatter}
+use Rattle.numbers.specs.Numbers.{+0, _⊕_, _⊖_, _⊗_, at, scatter}
 use Rattle.workspace.specs.inner.Readings.{vec, mat, stack, nums}
 use Rattle.householder.specs.Qr.{Factors, image, signed, applyQt, applyQ, solveR, solveRt}
+use Rattle.householder.specs.declared.Four.{Four}
 use Rattle.householder.specs.inner.Places.{QR_B, QR_MATRIX, QR_SIDE, QR_SOLUTION}
 
 -- the factors of an m by n matrix, of rank k
@@ -29,6 +30,26 @@ pub record Reflected (m k o : ℕ) (w w′ : List Float) : Type 0 where
   pub value : vec o m w′ ≡ image m k (vec (k * 18) m w) (at w (QR_B + k)) (vec o m w)
   pub before : (x : ℕ) → x < o → at w′ x ≡ at w x
   pub after : (x : ℕ) → o + m ≤ x → at w′ x ≡ at w x
+
+-- and each of the four vectors from o on, 18 places apart
+pub record ReflectedFour (m k o : ℕ) (w w′ : List Float) : Type 0 where
+  pub values : (j : ℕ) → j < 4 → vec (o + j * 18) m w′ ≡ image m k (vec (k * 18) m w) (at w (QR_B + k)) (vec (o + j * 18) m w)
+  pub before : (x : ℕ) → x < o → at w′ x ≡ at w x
+  pub after : (x : ℕ) → o + 54 + m ≤ x → at w′ x ≡ at w x
+
+-- w′ is w with two numbers put into the places from o on
+pub record PutTwo (o : ℕ) (a b : Float) (w w′ : List Float) : Type 0 where
+  pub first : at w′ o ≡ a
+  pub second : at w′ (o + 1) ≡ b
+  pub others : (x : ℕ) → (x ≡ o → ⊥) → (x ≡ o + 1 → ⊥) → at w′ x ≡ at w x
+
+-- w′ is w with the n numbers from p on, times each of four numbers, added to the n from q on and from 18, 36 and 54 behind q on
+pub record Lifted (p q n : ℕ) (s : Four) (w w′ : List Float) : Type 0 where
+  pub first : (t : ℕ) → t < n → at w′ (q + t) ≡ at w (q + t) ⊕ s .a ⊗ at w (p + t)
+  pub second : (t : ℕ) → t < n → at w′ (q + 18 + t) ≡ at w (q + 18 + t) ⊕ s .b ⊗ at w (p + t)
+  pub third : (t : ℕ) → t < n → at w′ (q + 36 + t) ≡ at w (q + 36 + t) ⊕ s .c ⊗ at w (p + t)
+  pub fourth : (t : ℕ) → t < n → at w′ (q + 54 + t) ≡ at w (q + 54 + t) ⊕ s .d ⊗ at w (p + t)
+  pub others : (x : ℕ) → ((j t : ℕ) → j < 4 → t < n → x ≡ q + j * 18 + t → ⊥) → at w′ x ≡ at w x
 
 -- w′ is w with each column past k and before j under reflector k
 pub record Turned (m k j : ℕ) (w w′ : List Float) : Type 0 where
@@ -69,6 +90,12 @@ pub record AppliedQt (m k o : ℕ) (w w′ : List Float) : Type 0 where
   pub value : (n : ℕ) (iw : List ℕ) → k ≤ n → vec o m w′ ≡ applyQt m (held m n k w iw) (vec o m w)
   pub before : (x : ℕ) → x < o → at w′ x ≡ at w x
   pub after : (x : ℕ) → o + m ≤ x → at w′ x ≡ at w x
+
+-- and each of the four vectors from o on, 18 places apart
+pub record AppliedFour (m k o : ℕ) (w w′ : List Float) : Type 0 where
+  pub values : (j : ℕ) → j < 4 → (n : ℕ) (iw : List ℕ) → k ≤ n → vec (o + j * 18) m w′ ≡ applyQt m (held m n k w iw) (vec (o + j * 18) m w)
+  pub before : (x : ℕ) → x < o → at w′ x ≡ at w x
+  pub after : (x : ℕ) → o + 54 + m ≤ x → at w′ x ≡ at w x
 
 -- and under Q
 pub record AppliedQ (m k o : ℕ) (w w′ : List Float) : Type 0 where

@@ -14,7 +14,11 @@ use Rattle.lsei.specs.declared.Ending.{Ending}
 use Rattle.lsei.specs.declared.Ending.the-variants.{Done, Deficient, Dependent, Infeasible, Capped}
 use Rattle.lsei.specs.declared.Ended.{Ended}
 use Rattle.householder.specs.inner.Places.{QR_MATRIX, QR_SOLUTION}
-use Rattle.lsei.specs.inner.Places.{LDP_MULTIPLIERS, LDP_X, LSI_F, LSI_G, LSI_LDP_X, LSI_MULTIPLIERS, LSI_X}
+use Rattle.lsei.specs.inner.Places.{LDP_MULTIPLIERS, LDP_SIDE, LDP_U, LDP_X, LSI_F, LSI_G, LSI_LDP_X, LSI_MULTIPLIERS, LSI_X}
+
+-- entry j of the dual's residual E u - f, of m rows
+abbrev pub residualIn : (m j : ℕ) → List Float → Float
+residualIn m j w = Σ m (λ i. at w (j + i * 18) ⊗ at w (LDP_U + i * 1)) ⊖ at w (LDP_SIDE + j)
 
 -- an ending, with the solution that it left
 abbrev pub endingAnswer : Ending → Solution → Answer Solution

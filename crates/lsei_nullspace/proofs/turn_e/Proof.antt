@@ -1,23 +1,32 @@
--- `turn_e`: after i turns i rows are turned.
+-- `turn_e`: the fours, and then row by row.
 use mathlib.Core.Path.{_≡_, refl, _∙_}
-use Prim.Native.Nat.{_≤_, _-_}
+use mathlib.Core.List.{List}
+use Prim.Native.Nat.{ℕ, _*_, _/_, _≤_, _-_}
 use native.Mathlib.Omega.{arith}
 use lib.ListN.{length}
-use Rattle.lsei_nullspace.proofs.Turning.{RowsOfE, e-none, e-more, e-all}
+use lib.Ieee.{Float}
+use Rattle.lsei_nullspace.specs.inner.Work.{RowsOfE}
+use Rattle.lsei_nullspace.proofs.Turning.{e-at, e-all}
 use Rattle.lsei_nullspace.proofs.turn_e.Statement.{statement}
 use Rattle.lsei_nullspace.proofs.turn_e.Tie as tie
 
 abbrev Inv-loop : tie.InvT-loop
-Inv-loop w₀ n mc me i₀ w i = (i ≤ me) × (length w ≡ length w₀) × RowsOfE n mc i w₀ w
+Inv-loop w₀ n mc me i₀ w i = (i ≤ me) × (length w ≡ length w₀) × ((v : List Float) → RowsOfE n mc i₀ v w₀ → RowsOfE n mc i v w)
 
 abbrev μ-loop : tie.MeasureT-loop
 μ-loop w₀ n mc me i₀ w i = me - i
 
+turn-e-fours-requires : tie.Need-turn-e-fours-requires Inv-loop μ-loop
+turn-e-fours-requires c κs = c .before .before .pre
+
+mul-i : tie.Need-mul-i Inv-loop μ-loop
+mul-i c = omega arith
+
 loop-holds : tie.Need-loop-holds Inv-loop μ-loop
-loop-holds c = (omega arith, refl, e-none _ _ _)
+loop-holds c = (omega arith, refl, λ v h. h)
 
 turn-e-row-requires : tie.Need-turn-e-row-requires Inv-loop μ-loop
-turn-e-row-requires c κs = omega arith
+turn-e-row-requires c κs = omega (arith, c .before .before .loop .inv .1, c .before .before .before .before .before .turn-e-fours .kept .0, c .before .before .before .before .before .before .before .before .pre)
 
 add-i : tie.Need-add-i Inv-loop μ-loop
 add-i c = omega arith
@@ -26,22 +35,19 @@ loop-less : tie.Need-loop-less Inv-loop μ-loop
 loop-less c = omega arith
 
 loop-again : tie.Need-loop-again Inv-loop μ-loop
-loop-again c = let s = c .before .before .before .before .before .before .before in
-    let l = c .before .before .before .before .before .loop in
-    let k = c .before .before .turn-e-row in (
-      omega arith,
-      k .kept .0 ∙ l .inv .1,
-      e-more (s .args .n) (s .args .mc) (l .i) (s .args .w .now) (l .w) (k .last .0) (s .pre .0) (s .pre .1) (omega arith) (k .ensures) (l .inv .2),
-    )
+loop-again c = let l = c .before .before .before .before .before .loop in
+    let k = c .before .before .turn-e-row in
+    (omega arith, k .kept .0 ∙ l .inv .1, λ v h. k .ensures v (l .inv .2 v h))
 
 same-length : tie.Need-same-length Inv-loop μ-loop
-same-length c = c .before .loop .inv .1
+same-length c = c .before .loop .inv .1 ∙ c .before .before .before .before .turn-e-fours .kept .0
 
 returns : tie.Need-returns Inv-loop μ-loop
-returns c = let s = c .before .before .before in
+returns c = let s = c .before .before .before .before .before .before .before in
+    let a = s .args in
     let l = c .before .loop in
-    let e : l .i ≡ s .args .me = omega arith in
-    e-all (s .args .n) (s .args .mc) (s .args .me) (s .args .w .now) (l .w) (s .pre .1) (rw e at (l .inv .2))
+    let z : l .i ≡ a .me = omega arith in
+    e-all (a .n) (a .mc) (a .me) (a .w .now) (l .w) (s .pre .1) (e-at (a .n) (a .mc) _ _ (a .w .now) (l .w) z (l .inv .2 (a .w .now) (c .before .before .before .before .turn-e-fours .ensures)))
 
 pub turn-e-spec : {M : Type 1} → statement M
 turn-e-spec =
@@ -49,6 +55,8 @@ turn-e-spec =
     (tie.spec
     Inv-loop
     μ-loop
+    turn-e-fours-requires
+    mul-i
     loop-holds
     turn-e-row-requires
     add-i

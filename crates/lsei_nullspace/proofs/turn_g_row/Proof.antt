@@ -1,8 +1,7 @@
--- `turn_g_row`: the row under Q', its tail, and its side.
+-- `turn_g_row`: the row under Q', laid.
 use mathlib.Core.Path.{_∙_}
 use native.Mathlib.Omega.{arith}
-use lib.ListN.{length-set}
-use Rattle.lsei_nullspace.proofs.Turning.{row-of-g}
+use Rattle.lsei_nullspace.proofs.Turning.{g-row}
 use Rattle.lsei_nullspace.proofs.turn_g_row.Statement.{statement}
 use Rattle.lsei_nullspace.proofs.turn_g_row.Tie as tie
 
@@ -15,68 +14,18 @@ add-turn-row c = omega arith
 turn-row-requires : tie.Need-turn-row-requires
 turn-row-requires c κs = omega arith
 
-add-copy-up : tie.Need-add-copy-up
-add-copy-up c = omega arith
-
-mul-copy-up : tie.Need-mul-copy-up
-mul-copy-up c = omega arith
-
-add-copy-up-2 : tie.Need-add-copy-up-2
-add-copy-up-2 c = omega arith
-
-sub-copy-up : tie.Need-sub-copy-up
-sub-copy-up c = omega arith
-
-copy-up-requires : tie.Need-copy-up-requires
-copy-up-requires c κs = omega (arith, c .before .before .before .turn-row .kept .0, c .before .before .before .before .before .before .pre)
-
-dot-within-requires : tie.Need-dot-within-requires
-dot-within-requires c κs = omega (arith, c .before .before .before .copy-up .kept .0, c .before .before .before .before .before .before .before .turn-row .kept .0, c .before .before .before .before .before .before .before .before .before .before .pre)
-
-mul-w : tie.Need-mul-w
-mul-w c = omega arith
-
-add-w : tie.Need-add-w
-add-w c = omega arith
-
-add-w-2 : tie.Need-add-w-2
-add-w-2 c = omega arith
-
-mul-w-2 : tie.Need-mul-w-2
-mul-w-2 c = omega arith
-
-slice-read-w : tie.Need-slice-read-w
-slice-read-w c = omega (arith, c .before .before .before .before .before .copy-up .kept .0, c .before .before .before .before .before .before .before .before .before .turn-row .kept .0, c .before .before .before .before .before .before .before .before .before .before .before .before .pre)
-
-mul-w-3 : tie.Need-mul-w-3
-mul-w-3 c = omega arith
-
-add-w-3 : tie.Need-add-w-3
-add-w-3 c = omega arith
-
-sub-w : tie.Need-sub-w
-sub-w c = omega arith
-
-add-w-4 : tie.Need-add-w-4
-add-w-4 c = omega arith
-
-mul-w-4 : tie.Need-mul-w-4
-mul-w-4 c = omega arith
-
-slice-write-w : tie.Need-slice-write-w
-slice-write-w c = omega (arith, c .before .before .before .before .before .copy-up .kept .0, c .before .before .before .before .before .before .before .before .before .turn-row .kept .0, c .before .before .before .before .before .before .before .before .before .before .before .before .pre)
+lay-g-requires : tie.Need-lay-g-requires
+lay-g-requires c κs = omega (arith, c .before .before .before .turn-row .kept .0, c .before .before .before .before .before .before .pre)
 
 same-length : tie.Need-same-length
-same-length c = simp length-set (c .before .before .before .before .before .copy-up .kept .0 ∙ c .before .before .before .before .before .before .before .before .before .turn-row .kept .0)
+same-length c = c .before .before .lay-g .kept .0 ∙ c .before .before .before .before .before .before .turn-row .kept .0
 
 returns : tie.Need-returns
-returns c = let s = c .before .before .before .before .before .before .before .before .before .before .before .before in
+returns c = let s = c .before .before .before .before .before .before .before .before .before in
     let a = s .args in
-    let T = c .before .before .before .before .before .before .before .before .before .turn-row in
-    let C = c .before .before .before .before .before .copy-up in
-    let D = c .before .dot-within in
-    row-of-g (a .n) (a .mc) (a .i) (a .w .now) (T .last .0) (C .last .0) (D .result) (s .pre .0) (s .pre .1) (s .pre .2) (T .ensures) (C .ensures) (D .ensures)
-    (omega (arith, C .kept .0, T .kept .0, s .pre))
+    let T = c .before .before .before .before .before .before .turn-row in
+    let L = c .before .before .lay-g in
+    λ w₀ h. g-row (a .n) (a .mc) (a .i) w₀ (a .w .now) (T .last .0) (L .last .0) (s .pre .0) (s .pre .1) (s .pre .2) (T .ensures) (L .ensures) h
 
 pub turn-g-row-spec : {M : Type 1} → statement M
 turn-g-row-spec =
@@ -85,22 +34,6 @@ turn-g-row-spec =
     mul-turn-row
     add-turn-row
     turn-row-requires
-    add-copy-up
-    mul-copy-up
-    add-copy-up-2
-    sub-copy-up
-    copy-up-requires
-    dot-within-requires
-    mul-w
-    add-w
-    add-w-2
-    mul-w-2
-    slice-read-w
-    mul-w-3
-    add-w-3
-    sub-w
-    add-w-4
-    mul-w-4
-    slice-write-w
+    lay-g-requires
     same-length
     returns)

@@ -45,33 +45,51 @@ pub record TurnedRow (n mc o : ℕ) (w w′ : List Float) : Type 0 where
 abbrev pub turnedIn : (n mc o : ℕ) → List ℕ → List Float → List Float
 turnedIn n mc o iw w = applyQt n (held n mc mc w iw) (vec o n w)
 
--- row i of E Q: its tail is row i of LSI's E, and f_i less the product of its head with y is entry i of LSI's f
-pub record RowOfE (n mc i : ℕ) (w w′ : List Float) : Type 0 where
-  pub tail : (iw : List ℕ) (j : ℕ) → j < n - mc → at w′ (LSEI_LSI_E + j * 18 + i) ≡ at (turnedIn n mc (LSEI_E + i * 18) iw w) (mc + j)
-  pub side : (iw : List ℕ) → at w′ (LSEI_LSI_F + i) ≡ at w (LSEI_F + i) ⊖ dot mc (turnedIn n mc (LSEI_E + i * 18) iw w) (vec LSEI_X mc w)
+-- and the four rows from o on, 18 places apart from there on
+pub record TurnedRows (n mc o : ℕ) (w w′ : List Float) : Type 0 where
+  pub rows : (j : ℕ) → j < 4 → (iw : List ℕ) → vec (QR_SIDE + j * 18) n w′ ≡ turnedIn n mc (o + j * 18) iw w
   pub low : (x : ℕ) → x < QR_SIDE → at w′ x ≡ at w x
-  pub others : (x : ℕ) → QR_SOLUTION ≤ x → ((j : ℕ) → j < n - mc → x ≡ LSEI_LSI_E + i + j * 18 → ⊥) → (x ≡ LSEI_LSI_F + i → ⊥) → at w′ x ≡ at w x
+  pub after : (x : ℕ) → QR_MATRIX ≤ x → at w′ x ≡ at w x
 
--- row i of G Q: its tail is row i of LSI's G, and h_i less the product of its head with y is its side
-pub record RowOfG (n mc i : ℕ) (w w′ : List Float) : Type 0 where
-  pub tail : (iw : List ℕ) (j : ℕ) → j < n - mc → at w′ (LSEI_LSI_G + i * 18 + j) ≡ at (turnedIn n mc (LSEI_G + i * 18) iw w) (mc + j)
-  pub side : (iw : List ℕ) → at w′ (LSEI_LSI_G + i * 18 + (n - mc)) ≡ at w (LSEI_G + i * 18 + n) ⊖ dot mc (turnedIn n mc (LSEI_G + i * 18) iw w) (vec LSEI_X mc w)
+-- the turned row at p laid as row i of LSI's E, and f_i less the product of its head with y as entry i of LSI's f
+pub record LaidE (n mc i p : ℕ) (w w′ : List Float) : Type 0 where
+  pub tail : (j : ℕ) → j < n - mc → at w′ (LSEI_LSI_E + j * 18 + i) ≡ at w (p + (mc + j))
+  pub side : at w′ (LSEI_LSI_F + i) ≡ at w (LSEI_F + i) ⊖ Σ mc (λ k. at w (p + k) ⊗ at w (LSEI_X + k))
+  pub others : (x : ℕ) → ((j : ℕ) → j < n - mc → x ≡ LSEI_LSI_E + i + j * 18 → ⊥) → (x ≡ LSEI_LSI_F + i → ⊥) → at w′ x ≡ at w x
+
+-- and as row i of LSI's G, and h_i less the product of its head with y as its side
+pub record LaidG (n mc i p : ℕ) (w w′ : List Float) : Type 0 where
+  pub tail : (j : ℕ) → j < n - mc → at w′ (LSEI_LSI_G + i * 18 + j) ≡ at w (p + (mc + j))
+  pub side : at w′ (LSEI_LSI_G + i * 18 + (n - mc)) ≡ at w (LSEI_G + i * 18 + n) ⊖ Σ mc (λ k. at w (p + k) ⊗ at w (LSEI_X + k))
+  pub before : (x : ℕ) → x < LSEI_LSI_G + i * 18 → at w′ x ≡ at w x
+
+-- the first t rows of E turned and laid
+pub record RowsOfE (n mc t : ℕ) (w w′ : List Float) : Type 0 where
+  pub tail : (iw : List ℕ) (i j : ℕ) → i < t → j < n - mc → at w′ (LSEI_LSI_E + j * 18 + i) ≡ at (turnedIn n mc (LSEI_E + i * 18) iw w) (mc + j)
+  pub side : (iw : List ℕ) (i : ℕ) → i < t → at w′ (LSEI_LSI_F + i) ≡ at w (LSEI_F + i) ⊖ dot mc (turnedIn n mc (LSEI_E + i * 18) iw w) (vec LSEI_X mc w)
   pub low : (x : ℕ) → x < QR_SIDE → at w′ x ≡ at w x
-  pub middle : (x : ℕ) → QR_SOLUTION ≤ x → x < LSEI_LSI_G + i * 18 → at w′ x ≡ at w x
+  pub middle : (x : ℕ) → QR_MATRIX ≤ x → x < LSEI_LSI_E → at w′ x ≡ at w x
+
+-- and of G
+pub record RowsOfG (n mc t : ℕ) (w w′ : List Float) : Type 0 where
+  pub tail : (iw : List ℕ) (i j : ℕ) → i < t → j < n - mc → at w′ (LSEI_LSI_G + i * 18 + j) ≡ at (turnedIn n mc (LSEI_G + i * 18) iw w) (mc + j)
+  pub side : (iw : List ℕ) (i : ℕ) → i < t → at w′ (LSEI_LSI_G + i * 18 + (n - mc)) ≡ at w (LSEI_G + i * 18 + n) ⊖ dot mc (turnedIn n mc (LSEI_G + i * 18) iw w) (vec LSEI_X mc w)
+  pub low : (x : ℕ) → x < QR_SIDE → at w′ x ≡ at w x
+  pub middle : (x : ℕ) → QR_MATRIX ≤ x → x < LSEI_LSI_G → at w′ x ≡ at w x
 
 -- all rows of E
 pub record TailOfE (n mc me : ℕ) (w w′ : List Float) : Type 0 where
   pub matrix : (iw : List ℕ) → mat LSEI_LSI_E me (n - mc) w′ ≡ tailOf n mc me (turned n me (held n mc mc w iw) (stack LSEI_E me n w))
   pub shift : (iw : List ℕ) → vec LSEI_LSI_F me w′ ≡ shifted n mc me (turned n me (held n mc mc w iw) (stack LSEI_E me n w)) (vec LSEI_X mc w) (vec LSEI_F me w)
   pub low : (x : ℕ) → x < QR_SIDE → at w′ x ≡ at w x
-  pub middle : (x : ℕ) → QR_SOLUTION ≤ x → x < LSEI_LSI_E → at w′ x ≡ at w x
+  pub middle : (x : ℕ) → QR_MATRIX ≤ x → x < LSEI_LSI_E → at w′ x ≡ at w x
 
 -- all rows of G
 pub record TailOfG (n mc mg : ℕ) (w w′ : List Float) : Type 0 where
   pub rows : (iw : List ℕ) → stack LSEI_LSI_G mg (n - mc) w′ ≡ tailOf n mc mg (turned n mg (held n mc mc w iw) (stack LSEI_G mg n w))
   pub shift : (iw : List ℕ) → sides LSEI_LSI_G mg (n - mc) w′ ≡ shifted n mc mg (turned n mg (held n mc mc w iw) (stack LSEI_G mg n w)) (vec LSEI_X mc w) (sides LSEI_G mg n w)
   pub low : (x : ℕ) → x < QR_SIDE → at w′ x ≡ at w x
-  pub middle : (x : ℕ) → QR_SOLUTION ≤ x → x < LSEI_LSI_G → at w′ x ≡ at w x
+  pub middle : (x : ℕ) → QR_MATRIX ≤ x → x < LSEI_LSI_G → at w′ x ≡ at w x
 
 -- y, and LSI's problem in y_2; the factors of C' and the problem stay
 pub record LseiReduced (n mc me mg : ℕ) (iw : List ℕ) (w w′ : List Float) : Type 0 where

@@ -14,6 +14,10 @@ residualAt n w i = at w (NNLS_SIDE + i) ⊖ Σ n (λ j. at w (i + j * 18) ⊗ at
 unfoldable pub dualAt : (m : ℕ) (w : List Float) (j : ℕ) → Float
 dualAt m w j = Σ m (λ i. at w (j * 18 + i) ⊗ at w (NNLS_RESIDUAL + i))
 
+-- the sum of the products of n numbers, 18 apart from i on, with the n from q on
+unfoldable pub sumAt : (n q : ℕ) (w : List Float) (i : ℕ) → Float
+sumAt n q w i = Σ n (λ j. at w (i + j * 18) ⊗ at w (q + j))
+
 -- four entries of a rule, from i on
 abbrev pub fourOf : (ℕ → Float) → ℕ → Four
 fourOf f i = record { a = f i; b = f (i + 1); c = f (i + 2); d = f (i + 3) }

@@ -4,7 +4,7 @@ use Prim.Native.Nat.{ℕ, _+_, _*_, _-_, _≤_, _<_}
 use native.Mathlib.Omega.{arith}
 use lib.ListN.{length, length-set}
 use Rattle.householder.specs.inner.Work.{Exchanged}
-use Rattle.householder.proofs.Columns.{exchanged-none, exchanged-more}
+use Rattle.householder.proofs.Columns.{exchanged-same, exchanged-none, exchanged-more}
 use Rattle.householder.proofs.vectors.swap.Statement.{statement}
 use Rattle.householder.proofs.vectors.swap.Tie as tie
 
@@ -13,6 +13,9 @@ Inv-loop w₀ m k p i₀ w i = (i ≤ m) × (length w ≡ length w₀) × Exchan
 
 abbrev μ-loop : tie.MeasureT-loop
 μ-loop w₀ m k p i₀ w i = m - i
+
+returns : tie.Need-returns Inv-loop μ-loop
+returns c = let a = c .before .args in exchanged-same (a .m) (a .k) (a .p) (a .w .now) (omega arith)
 
 loop-holds : tie.Need-loop-holds Inv-loop μ-loop
 loop-holds c = (omega arith, refl, exchanged-none _ _ _)
@@ -84,15 +87,15 @@ loop-less : tie.Need-loop-less Inv-loop μ-loop
 loop-less c = omega arith
 
 loop-again : tie.Need-loop-again Inv-loop μ-loop
-loop-again c = let a = c .before .before .before .before .args in
+loop-again c = let a = c .before .before .before .before .before .args in
     let l = c .before .before .before .loop in
     (omega arith, simp length-set (l .inv .1), exchanged-more (l .i) (a .k) (a .p) (a .w .now) (l .w) (omega arith) (omega arith) (omega arith) (l .inv .2))
 
 same-length : tie.Need-same-length Inv-loop μ-loop
 same-length c = c .before .loop .inv .1
 
-returns : tie.Need-returns Inv-loop μ-loop
-returns c = let e : c .before .loop .i ≡ c .before .before .args .m = omega arith in rw (← e) (c .before .loop .inv .2)
+returns-2 : tie.Need-returns-2 Inv-loop μ-loop
+returns-2 c = let e : c .before .loop .i ≡ c .before .before .before .args .m = omega arith in rw (← e) (c .before .loop .inv .2)
 
 pub swap-spec : {M : Type 1} → statement M
 swap-spec =
@@ -100,6 +103,7 @@ swap-spec =
     (tie.spec
     Inv-loop
     μ-loop
+    returns
     loop-holds
     mul-x
     add-x
@@ -125,4 +129,4 @@ swap-spec =
     loop-less
     loop-again
     same-length
-    returns)
+    returns-2)

@@ -1,197 +1,79 @@
--- `residual_four`: after j turns each sum has j terms.
-use mathlib.Core.Path.{_≡_}
-use Prim.Native.Nat.{_+_, _*_, _-_, _≤_}
+-- `residual_four`, by the sums.
 use native.Mathlib.Omega.{arith}
-use Rattle.numbers.specs.Numbers.{Σ, _⊗_, at}
-use Rattle.numbers.proofs.Sums.{Σ-none, Σ-more}
-use Rattle.nnls.specs.inner.Dual.{residualAt}
+use Rattle.nnls.specs.inner.Dual.{sumAt, residualAt}
 use Rattle.nnls.proofs.dual.residual_four.Statement.{statement}
 use Rattle.nnls.proofs.dual.residual_four.Tie as tie
 
-abbrev Inv-loop : tie.InvT-loop
-Inv-loop w i n a₀ b₀ c₀ d₀ j₀ a b c d j =
-    (j ≤ n) × (a ≡ Σ j (λ t. at w (i + t * 18) ⊗ at w (1206 + t))) × (b ≡ Σ j (λ t. at w (i + 1 + t * 18) ⊗ at w (1206 + t))) × (c ≡ Σ j (λ t. at w (i + 2 + t * 18) ⊗ at w (1206 + t))) × (d ≡ Σ j (λ t. at w (i + 3 + t * 18) ⊗ at w (1206 + t)))
+sums-four-requires : tie.Need-sums-four-requires
+sums-four-requires c κs = omega arith
 
-abbrev μ-loop : tie.MeasureT-loop
-μ-loop w i n a₀ b₀ c₀ d₀ j₀ a b c d j = n - j
+add-t5 : tie.Need-add-t5
+add-t5 c = omega arith
 
-loop-holds : tie.Need-loop-holds Inv-loop μ-loop
-loop-holds c = (omega arith, Σ-none _, Σ-none _, Σ-none _, Σ-none _)
+mul-t6 : tie.Need-mul-t6
+mul-t6 c = omega arith
 
-add-x : tie.Need-add-x Inv-loop μ-loop
-add-x c = omega arith
+shared-slice-read-t8 : tie.Need-shared-slice-read-t8
+shared-slice-read-t8 c = omega arith
 
-mul-x : tie.Need-mul-x Inv-loop μ-loop
-mul-x c = omega arith
+add-t10 : tie.Need-add-t10
+add-t10 c = omega arith
 
-shared-slice-read-x : tie.Need-shared-slice-read-x Inv-loop μ-loop
-shared-slice-read-x c = omega arith
+add-t11 : tie.Need-add-t11
+add-t11 c = omega arith
 
-mul-a : tie.Need-mul-a Inv-loop μ-loop
-mul-a c = omega arith
+mul-t12 : tie.Need-mul-t12
+mul-t12 c = omega arith
 
-add-a : tie.Need-add-a Inv-loop μ-loop
-add-a c = omega arith
+shared-slice-read-t14 : tie.Need-shared-slice-read-t14
+shared-slice-read-t14 c = omega arith
 
-mul-a-2 : tie.Need-mul-a-2 Inv-loop μ-loop
-mul-a-2 c = omega arith
+add-t16 : tie.Need-add-t16
+add-t16 c = omega arith
 
-shared-slice-read-a : tie.Need-shared-slice-read-a Inv-loop μ-loop
-shared-slice-read-a c = omega arith
+add-t17 : tie.Need-add-t17
+add-t17 c = omega arith
 
-add-b : tie.Need-add-b Inv-loop μ-loop
-add-b c = omega arith
+mul-t18 : tie.Need-mul-t18
+mul-t18 c = omega arith
 
-mul-b : tie.Need-mul-b Inv-loop μ-loop
-mul-b c = omega arith
+shared-slice-read-t20 : tie.Need-shared-slice-read-t20
+shared-slice-read-t20 c = omega arith
 
-add-b-2 : tie.Need-add-b-2 Inv-loop μ-loop
-add-b-2 c = omega arith
-
-mul-b-2 : tie.Need-mul-b-2 Inv-loop μ-loop
-mul-b-2 c = omega arith
-
-shared-slice-read-b : tie.Need-shared-slice-read-b Inv-loop μ-loop
-shared-slice-read-b c = omega arith
-
-add-c : tie.Need-add-c Inv-loop μ-loop
-add-c c = omega arith
-
-mul-c : tie.Need-mul-c Inv-loop μ-loop
-mul-c c = omega arith
-
-add-c-2 : tie.Need-add-c-2 Inv-loop μ-loop
-add-c-2 c = omega arith
-
-mul-c-2 : tie.Need-mul-c-2 Inv-loop μ-loop
-mul-c-2 c = omega arith
-
-shared-slice-read-c : tie.Need-shared-slice-read-c Inv-loop μ-loop
-shared-slice-read-c c = omega arith
-
-add-d : tie.Need-add-d Inv-loop μ-loop
-add-d c = omega arith
-
-mul-d : tie.Need-mul-d Inv-loop μ-loop
-mul-d c = omega arith
-
-add-d-2 : tie.Need-add-d-2 Inv-loop μ-loop
-add-d-2 c = omega arith
-
-mul-d-2 : tie.Need-mul-d-2 Inv-loop μ-loop
-mul-d-2 c = omega arith
-
-shared-slice-read-d : tie.Need-shared-slice-read-d Inv-loop μ-loop
-shared-slice-read-d c = omega arith
-
-add-j : tie.Need-add-j Inv-loop μ-loop
-add-j c = omega arith
-
-loop-less : tie.Need-loop-less Inv-loop μ-loop
-loop-less c = omega arith
-
-loop-again : tie.Need-loop-again Inv-loop μ-loop
-loop-again c =
-    let i = c .before .before .before .before .before .before .loop .inv in
-    (omega arith, Σ-more _ _ _ (i .1), Σ-more _ _ _ (i .2), Σ-more _ _ _ (i .3), Σ-more _ _ _ (i .4))
-
-add-t22 : tie.Need-add-t22 Inv-loop μ-loop
+add-t22 : tie.Need-add-t22
 add-t22 c = omega arith
 
-mul-t23 : tie.Need-mul-t23 Inv-loop μ-loop
-mul-t23 c = omega arith
+add-t23 : tie.Need-add-t23
+add-t23 c = omega arith
 
-shared-slice-read-t25 : tie.Need-shared-slice-read-t25 Inv-loop μ-loop
-shared-slice-read-t25 c = omega arith
+mul-t24 : tie.Need-mul-t24
+mul-t24 c = omega arith
 
-add-t27 : tie.Need-add-t27 Inv-loop μ-loop
-add-t27 c = omega arith
+shared-slice-read-t26 : tie.Need-shared-slice-read-t26
+shared-slice-read-t26 c = omega arith
 
-add-t28 : tie.Need-add-t28 Inv-loop μ-loop
-add-t28 c = omega arith
-
-mul-t29 : tie.Need-mul-t29 Inv-loop μ-loop
-mul-t29 c = omega arith
-
-shared-slice-read-t31 : tie.Need-shared-slice-read-t31 Inv-loop μ-loop
-shared-slice-read-t31 c = omega arith
-
-add-t33 : tie.Need-add-t33 Inv-loop μ-loop
-add-t33 c = omega arith
-
-add-t34 : tie.Need-add-t34 Inv-loop μ-loop
-add-t34 c = omega arith
-
-mul-t35 : tie.Need-mul-t35 Inv-loop μ-loop
-mul-t35 c = omega arith
-
-shared-slice-read-t37 : tie.Need-shared-slice-read-t37 Inv-loop μ-loop
-shared-slice-read-t37 c = omega arith
-
-add-t39 : tie.Need-add-t39 Inv-loop μ-loop
-add-t39 c = omega arith
-
-add-t40 : tie.Need-add-t40 Inv-loop μ-loop
-add-t40 c = omega arith
-
-mul-t41 : tie.Need-mul-t41 Inv-loop μ-loop
-mul-t41 c = omega arith
-
-shared-slice-read-t43 : tie.Need-shared-slice-read-t43 Inv-loop μ-loop
-shared-slice-read-t43 c = omega arith
-
-returns : tie.Need-returns Inv-loop μ-loop
-unfolding residualAt
-returns c =
-    let i = c .before .before .before .before .before .loop .inv in
-    let e : c .before .before .before .before .before .loop .j ≡ c .before .before .before .before .before .before .args .n = omega arith in
-    rw (← e, i .1, i .2, i .3, i .4)
+returns : tie.Need-returns
+unfolding sumAt residualAt
+returns c = rw (c .before .before .before .before .before .before .before .before .sums-four .ensures)
 
 pub residual-four-spec : {M : Type 1} → statement M
 residual-four-spec =
     tie.close
     (tie.spec
-    Inv-loop
-    μ-loop
-    loop-holds
-    add-x
-    mul-x
-    shared-slice-read-x
-    mul-a
-    add-a
-    mul-a-2
-    shared-slice-read-a
-    add-b
-    mul-b
-    add-b-2
-    mul-b-2
-    shared-slice-read-b
-    add-c
-    mul-c
-    add-c-2
-    mul-c-2
-    shared-slice-read-c
-    add-d
-    mul-d
-    add-d-2
-    mul-d-2
-    shared-slice-read-d
-    add-j
-    loop-less
-    loop-again
+    sums-four-requires
+    add-t5
+    mul-t6
+    shared-slice-read-t8
+    add-t10
+    add-t11
+    mul-t12
+    shared-slice-read-t14
+    add-t16
+    add-t17
+    mul-t18
+    shared-slice-read-t20
     add-t22
-    mul-t23
-    shared-slice-read-t25
-    add-t27
-    add-t28
-    mul-t29
-    shared-slice-read-t31
-    add-t33
-    add-t34
-    mul-t35
-    shared-slice-read-t37
-    add-t39
-    add-t40
-    mul-t41
-    shared-slice-read-t43
+    add-t23
+    mul-t24
+    shared-slice-read-t26
     returns)
