@@ -9,38 +9,37 @@ ghost use mathlib.Core.Path.{_≡_};
 ghost use lib.ListN.{length};
 ghost use Rattle.input.specs.Reading.{Read};
 
-// One more byte than records may have.
-const KEPT: usize = 524289;
+// How many bytes of each file are read: one more than it may have.
+const KEPT_READ: usize = 524289;
 
-// One more than a plant file may have.
-const PLANT: usize = 65537;
+const PLANT_READ: usize = 65537;
 
 // Zeros, for the kept records.
-fn kept_room() -> [u8; KEPT]
+fn kept_room() -> [u8; KEPT_READ]
     ensures { λ r. ⌜ 524289 ≡ length r ⌝ }
 {
-    [0; KEPT]
+    [0; KEPT_READ]
 }
 
 // Zeros, for the plant file.
-fn plant_room() -> [u8; PLANT]
+fn plant_room() -> [u8; PLANT_READ]
     ensures { λ r. ⌜ 65537 ≡ length r ⌝ }
 {
-    [0; PLANT]
+    [0; PLANT_READ]
 }
 
 // Zeros, for the records that the mending keeps.
-fn mend_room() -> [u8; plant_sheet::RECORDS]
+fn mend_room() -> [u8; plant_sheet::BYTES]
     ensures { λ r. ⌜ 524288 ≡ length r ⌝ }
 {
-    [0; plant_sheet::RECORDS]
+    [0; plant_sheet::BYTES]
 }
 
 // Zeros, for what it tells of each.
-fn reasons_room() -> [u8; plant_sheet::COUNT]
+fn reasons_room() -> [u8; plant_sheet::RECORDS]
     ensures { λ r. ⌜ 32768 ≡ length r ⌝ }
 {
-    [0; plant_sheet::COUNT]
+    [0; plant_sheet::RECORDS]
 }
 
 // Zeros, for the sheet.
