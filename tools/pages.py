@@ -32,13 +32,13 @@ DRAWING = "--->"
 
 
 def read(*names):
-    with open(os.path.join(ROOT, *names), encoding="utf-8") as source:
+    with open(os.path.join(*names), encoding="utf-8") as source:
         return source.read()
 
 
-def blocks(page):
+def blocks(root, page):
     """The blocks of a page: line, language where it is fenced, text."""
-    found, lines, at = [], read(page).split("\n"), 0
+    found, lines, at = [], read(root, page).split("\n"), 0
     while at < len(lines):
         start = at
         if lines[at].startswith("```"):
@@ -76,7 +76,7 @@ def shows(shown, text):
 def compare_shown():
     wrong = 0
     for page, name in SHOWN:
-        if not any(shows(text, read("examples", name)) for _, _, text in blocks(page)):
+        if not any(shows(text, read(ROOT, "examples", name)) for _, _, text in blocks(ROOT, page)):
             wrong += 1
             print(f"{page} does not show examples/{name} as it is")
     print(f"{len(SHOWN)} texts of examples/, {wrong} shown otherwise")
@@ -118,11 +118,12 @@ class Clone:
         return done.stdout if good else None
 
     def commands(self, where, text):
+        """What each command of a block printed."""
         printed = []
         for line in text.split("\n"):
             said = re.search(r"# status (\d)", line)
             printed.append(self.run(where, re.sub(r"\s+# .*", "", line), line, int(said[1]) if said else 0))
-        return None if None in printed else "".join(printed)
+        return printed
 
     def program(self, where, language, text):
         """Builds a program of a page as its remark says, and runs it."""
@@ -138,26 +139,24 @@ class Clone:
             needed = re.search(r"// \[dependencies\] (.*)", text)[1].replace("/usr/local", self.prefix)
             with open(os.path.join(folder, "Cargo.toml"), "w", encoding="utf-8") as manifest:
                 manifest.write(f'[package]\nname = "settle"\nversion = "0.1.0"\nedition = "2021"\n\n[dependencies]\n{needed}\n')
-        return self.run(where, f"the program in {language}", words, folder=folder)
+        return [self.run(where, f"the program in {language}", words, folder=folder)]
 
 
 def compare_run(clone):
     """Runs all that the pages give; the number of texts that nothing accounts for."""
     texts = unknown = 0
-    files = [read("examples", name) for name in sorted(os.listdir(os.path.join(ROOT, "examples"))) if name.endswith((".txt", ".sheet", ".report"))]
+    files = [read(clone.place, "examples", name) for name in os.listdir(os.path.join(clone.place, "examples")) if name.endswith((".txt", ".sheet", ".report"))]
     for page in PAGES:
-        printed, lost = [], 0
-        for line, language, text in blocks(page):
+        printed = []
+        for line, language, text in blocks(clone.place, page):
             where = f"{page}:{line}"
             if language or COMMAND.match(text + "\n"):
-                told = clone.program(where, language, text) if language else clone.commands(where, text)
-                printed.append(told or "")
-                lost += told is None
+                printed += clone.program(where, language, text) if language else clone.commands(where, text)
             elif DRAWING not in text:
                 texts += 1
-                if not any(shows(text, known) for known in files + printed):
-                    unknown += not lost
-                    print(f"{where}: " + ("not compared, since a command above it was not run" if lost else "no file of examples/, and nothing above it prints it"))
+                if not any(shows(text, known) for known in files + printed if known is not None):
+                    unknown += 1
+                    print(f"{where}: no file of examples/, and nothing that ran above it printed it")
     print(f"{clone.passed} commands and programs ended as the pages say, {clone.failed} otherwise, {clone.skipped} were not run; {texts} texts, {unknown} shown otherwise")
     return unknown + clone.failed
 
