@@ -99,12 +99,23 @@ class Clone:
                 if os.path.isdir(os.path.join(ROOT, "target", part)):
                     subprocess.run(["cp", "-a", "--reflink=auto", os.path.join(ROOT, "target", part), os.path.join(self.place, "target")], check=True)
 
+    def kept_from(self, words, folder):
+        """Why a command is not run here."""
+        if words.strip() == GATE and not self.prove:
+            return "the gate; --prove runs it"
+        for name in NEEDS:
+            if re.search(rf"(?:^|[\s(;&|]){name}\s", words) and not shutil.which(name):
+                return f"{name} is not there"
+        if os.uname().machine != "x86_64" and (folder or re.search(r"(?:^|&& )cc\s|^target/", words)):
+            return "the library is for x86-64"
+        return None
+
     def run(self, where, shown, words, status=0, folder=None):
         """What a command printed, or nothing where it was not run."""
-        missing = [name for name in NEEDS if re.search(rf"(?:^|[\s(;&|]){name}\s", words) and not shutil.which(name)]
-        if missing or words.strip() == GATE and not self.prove:
+        why = self.kept_from(words, folder)
+        if why:
             self.skipped += 1
-            print(f"skipped         {where}  {shown}: " + (f"{missing[0]} is not there" if missing else "the gate; --prove runs it"), flush=True)
+            print(f"skipped         {where}  {shown}: {why}", flush=True)
             return None
         extra = {"PKG_CONFIG_PATH": f"{self.prefix}/lib/pkgconfig", "LD_LIBRARY_PATH": f"{self.prefix}/lib", "PYTHONPATH": f"{self.prefix}/share/gritstrut/python"}
         began = time.monotonic()
