@@ -1,6 +1,6 @@
 /* Two valves of equal percentage feed a nitrogen header: which openings and which pressure in the
  * header meet a demand of 520 m3/h, leave each compressor its least flow, and lie nearest to their
- * set points? README.md says how to build it.
+ * set points? docs/SEARCH.md says how to build it.
  *
  *     valves            slopes are told
  *     valves forward    they are worked out from forward differences
