@@ -1,14 +1,18 @@
 #!/usr/bin/env python3
-"""Settled and certified volumes by the compiled library, held against a second reading of the rules and against exact fractions.
+"""Settled and certified volumes by the compiled library, held against a second reading of the rules and against exact answers.
 
-    oracle/settle/settle.py days LIBRARY [N] [SEED]     N drawn days (10000): each call of gritstrut_settle and gritstrut_certify with all
-                                                        that it leaves, bit for bit; and the distance to the exact least squares against
-                                                        the bound; how many are certain by LSEI alone, and so
+    oracle/settle/settle.py days LIBRARY [N] [SEEDS]    N drawn days (10000) of each seed (1, or 21-30): each call of gritstrut_settle and
+                                                        gritstrut_certify with all that it leaves, bit for bit; the bound of every day
+                                                        that is done against exact answers; how many are certain by LSEI alone, and so.
+                                                        After each seed the tables of all days so far
+    oracle/settle/settle.py exact LIBRARY [N] [SEED]    the exact answers themselves, on N days (300): those of best.py from several
+                                                        guesses are those of oracle/day/exact.py; on how many days a planted fault is told
     oracle/settle/settle.py slips LIBRARY [N] [SEED]    wrong readings: on how many of the days each is told
     oracle/settle/settle.py far LIBRARY                 a floor that lies farther and farther away: the error of LSEI and of settled volumes
 
 LIBRARY is libgritstrut.a. The rules are docs/RULES.md, "Settled volumes"; the bound and what is kept are those of oracle/certain, LSEI is the
-library's own, which is held to the Rust apart, and the exact least squares are oracle/day's. It takes nothing but Python and a C compiler.
+library's own, which is held to the Rust apart, and the exact answers are best.py's, each with its proof. It takes nothing but Python and a C
+compiler.
 Status 0: no difference, no bound below what it bounds, and every kind drawn.
 """
 import collections
@@ -23,6 +27,7 @@ from fractions import Fraction
 
 HERE = os.path.dirname(os.path.abspath(__file__))
 sys.path[:0] = [os.path.join(HERE, "..", "certain"), os.path.join(HERE, "..", "day")]
+import best  # noqa: E402
 import exact  # noqa: E402
 from certain import Day, Rules, bits_of, float_of, same  # noqa: E402
 
@@ -369,6 +374,7 @@ def compare(made, reading, seen, name, d, t):
         seen.differs(name, told[0], told[1], told[6], "owed", number, place, left)
         return None, None, worked
     if number:
+        seen.counts[number] += 1
         if not told[5] and (told[2] or told[3]) or told[4] != -7.0:
             seen.differs(name, "written after", number)
         return None, None, worked
@@ -381,68 +387,282 @@ def compare(made, reading, seen, name, d, t):
 
 
 def certify_any(made, reading, seen, r, name, d):
+    """Volumes and multipliers that are no answer, as a call of settle would tell them; None where their bound is not finite."""
     if d.volumes != d.n or d.multipliers != d.m + d.p or max(d.n, d.m, d.p) > 48:
-        return
+        return None
     x, mu = [r.choice(d.values or [0.0]) + r.gauss(0, 1) for _ in range(d.n)], [r.choice((0.0, r.uniform(-1, 3), 1e-9, INF, NAN)) for _ in range(d.m + d.p)]
     number, place, owed = reading.certify(d, x, mu)
     told = made.certify(d, x, mu)
     if (told[0], told[1]) != (number, 77 if place is None else place) or not same(told[2], -7.0 if owed is None else owed):
         seen.differs(name, "certified", told, "owed", number, place, owed)
+    return None if owed is None or not math.isfinite(owed) else (0, None, x, mu, owed)
 
 
-def distance(d, told):
-    """How far the exact best lie, what they fit worse by, both in squares of spreads; None where there are none, or a number is not finite."""
-    if not all(math.isfinite(v) for numbers in d.lists() for v in numbers) or not all(map(math.isfinite, told[2])):
-        return None
-    best = exact.least(d.values, d.spreads, rows_of(d.balances, d.n), rows_of(d.limits, d.n), d.least)
-    if best is None:
-        return None
-    x, s, v = [Fraction(u) for u in told[2]], [Fraction(u) for u in d.spreads], [Fraction(u) for u in d.values]
-    star = best[0]
-    apart = lambda a, b: sum((((p - q) / w) ** 2 for p, q, w in zip(a, b, s)), Fraction(0))
-    return apart(x, star), apart(star, v) - apart(x, v)
+# ---- exact answers
+
+class Whole:
+    """A day that is done with a finite bound, and its settled volumes, in whole numbers: values, spreads, leasts and volumes times one power of
+    two, coefficients times another."""
+
+    def __init__(self, d, told):
+        self.m, self.y, self.z, self.bound = d.m, told[3][:d.m], told[3][d.m:], Fraction(told[4])
+        amounts, factors = best.scaled(d.values + d.spreads + d.least + told[2]), best.scaled(d.balances + d.limits)
+        self.values, self.spreads, self.x = ([best.whole(v, amounts) for v in numbers] for numbers in (d.values, d.spreads, told[2]))
+        self.rows = [[best.whole(v, factors) for v in row] for row in all_rows(d)]
+        self.sides = [0] * d.m + [best.whole(b, amounts) << factors for b in d.least]
+
+    def day(self):
+        """Which volumes are the day's best, and a guess of the limits that hold: those with a multiplier."""
+        return (best.Problem(self.values, self.spreads, self.rows, self.sides, self.m), [self.m + k for k, v in enumerate(self.z) if v > 0])
+
+    def as_well(self):
+        """Which of the volumes that close and keep as well as x are nearest to 2 v - x, and a guess of what holds. Of all of them these come
+        nearest to breaking the bound: with x and x' counted from v, |x - x'|² - 2 |x'|² is 2 |x|² - |x' + x|²."""
+        comes = [best.dot(row, self.x) for row in self.rows]
+        equal = [row for row, come in zip(self.rows[:self.m], comes) if come == 0]
+        rows, sides, guess = list(equal), [0] * len(equal), []
+        for row, come, y in zip(self.rows[:self.m], comes, self.y):
+            if come:
+                guess += [len(rows) + (y < 0)] if y else []
+                rows += [row, [-v for v in row]]
+                sides += [-abs(come)] * 2
+        guess += [len(rows) + k for k, v in enumerate(self.z) if v > 0]
+        rows += self.rows[self.m:]
+        sides += map(min, self.sides[self.m:], comes[self.m:])
+        return best.Problem([2 * v - x for v, x in zip(self.values, self.x)], self.spreads, rows, sides, len(equal)), guess
+
+    def beside(self, problem, found):
+        """How far the x' that were found lie from x, in squares of spreads, and what they fit worse by."""
+        whole = math.lcm(*self.spreads)
+        parts, D = [whole // s for s in self.spreads], found.D
+        mine = [(x - v) * part * D for x, v, part in zip(self.x, self.values, parts)]
+        other = [((t - v) * D + s * u) * part for t, v, s, u, part in zip(problem.values, self.values, self.spreads, found.U, parts)]
+        apart, worse = sum((a - b) ** 2 for a, b in zip(mine, other)), sum(b * b - a * a for a, b in zip(mine, other))
+        return Fraction(apart, (whole * D) ** 2), Fraction(worse, (whole * D) ** 2)
 
 
-def compare_days(archive, count, seed):
-    made, seen, r, start = Library(archive), Seen(), random.Random(seed), time.time()
-    reading = Reading(made)
-    shares = collections.defaultdict(collections.Counter)
-    for k in range(count):
-        name, d = day_of(r)
-        t = tolerance(r)
-        told, first, worked = compare(made, reading, seen, name, d, t)
-        certify_any(made, reading, seen, r, name, d)
-        tally = shares[name]
-        tally["days"] += 1
-        if told is None:
-            tally["refused"] += 1
-            continue
-        tally["by LSEI"] += first[3] <= NEAR
-        tally["settled"] += told[4] <= NEAR
-        tally["again"] += worked
-        tally["other"] += any(not same(u, v) for u, v in zip(told[2], first[0]))
-        if d.n <= 10 and d.p <= 26 and k % 2 == 0:
-            far = distance(d, told)
-            if far is not None:
-                tally["exact"] += 1
-                if math.isfinite(told[4]) and far[0] > Fraction(told[4]) ** 2 + 2 * far[1]:
-                    seen.differs(name, "a bound of", told[4], "and the best", math.sqrt(far[0]), "off, granted", float(far[1]))
-    report(shares, seen, count, seed, time.time() - start)
-    print(f"days on which the smaller bound alone would have taken volumes that are not kept for kept ones: {reading.lured}")
+def all_rows(d):
+    return [flat[k * d.n:(k + 1) * d.n] for flat, count in ((d.balances, d.m), (d.limits, d.p)) for k in range(count)]
+
+
+def root(q):
+    """The root of a fraction that is not below zero, rounded to a float."""
+    over, under = math.isqrt(q.numerator * q.denominator << 800), q.denominator << 400
+    return over / under if over < under << 1000 else INF
+
+
+class Bounds:
+    """Finite bounds B of volumes x against exact answers x'. With D how far x' lie from x and W what they fit worse by, D - 2 W is what B² is
+    needed for. It is looked at where x' are the day's best (`best-of-day-near`; no other volumes grant less), and where it is largest of all x'
+    that close and keep as well as x, which there are even where the limits contradict and a day has no best (`none-farther`: of those that fit
+    as well W is not above zero)."""
+
+    def __init__(self, title):
+        self.title, self.tallies, self.logs = title, collections.defaultdict(collections.Counter), collections.defaultdict(list)
+
+    def hold(self, seen, name, d, told):
+        w, needed = Whole(d, told), []
+        for what, (problem, guess) in (("best", w.day()), ("as well", w.as_well())):
+            found = best.best(problem, guess)
+            is_best = isinstance(found, best.Best)
+            self.tallies[name][what, "contradict" if not is_best else "by steps" if found.turns else "at once"] += 1
+            if not found.proves(problem) or what == "as well" and not is_best:
+                seen.differs(self.title, name, what, "an exact answer that is not proved")
+            elif is_best:
+                needed.append(self.compare(seen, name, what, w, *w.beside(problem, found)))
+        if needed != sorted(needed):
+            seen.differs(self.title, name, "the day's best need more than all that keep as well")
+
+    def compare(self, seen, name, what, w, apart, worse):
+        needed, square = apart - 2 * worse, w.bound ** 2
+        if needed > square:
+            seen.differs(self.title, name, what, "a bound of", float(w.bound), "where", root(needed), "is needed, and the distance is", root(apart))
+        for kind, q in (("distance", apart), ("needed", needed)):
+            self.tallies[name][what, kind, "none"] += q <= 0
+            self.tallies[name][what, kind, "below"] += q > square
+            if q > 0 and square:
+                self.logs[what, kind].append((log10(square) - log10(q)) / 2)
+        return needed
+
+    def report(self):
+        columns = [(what, how) for what in ("best", "as well") for how in ("at once", "by steps", "contradict")]
+        print(f"{self.title:<22}" + "".join(f"{what + ',':>12}" for what, _ in columns) + "\n" + " " * 22 + "".join(f"{how:>12}" for _, how in columns))
+        total = collections.Counter()
+        for name, _, _ in KINDS:
+            total.update(self.tallies[name])
+            print(f"{name:<22}" + "".join(f"{self.tallies[name][c]:>12}" for c in columns))
+        print(f"{'all':<22}" + "".join(f"{total[c]:>12}" for c in columns))
+        for (what, kind), logs in self.logs.items():
+            logs.sort()
+            least, middle, most = map(power, (logs[0], logs[len(logs) // 2], logs[-1]))
+            print(f"{what}: bound over {kind}: least {least}, middle {middle}, most {most}, of {len(logs)} days; the bound is below on "
+                  f"{total[what, kind, 'below']}, nothing is off on {total[what, kind, 'none']}")
+
+
+def log10(q):
+    """Of a fraction of any size."""
+    return math.log10(q.numerator) - math.log10(q.denominator)
+
+
+def power(log):
+    """The number that has this logarithm, in words."""
+    return f"{10 ** log:.9f}" if abs(log) < 1 else f"{10 ** (log % 1):.1f}e{math.floor(log):+d}"
+
+
+def compare_days(archive, count, seeds):
+    made, seen, start = Library(archive), Seen(), time.time()
+    reading, shares, settled, certified = Reading(made), collections.defaultdict(collections.Counter), Bounds("settled"), Bounds("certified, no answer")
+    for seed in seeds:
+        r = random.Random(seed)
+        for _ in range(count):
+            name, d = day_of(r)
+            compare_day(made, reading, settled, certified, seen, shares[name], r, name, d)
+        report(shares, seen, f"{count} days of each seed from {seeds[0]} to {seed}", time.time() - start)
+        settled.report()
+        certified.report()
+        print(f"days on which the smaller bound alone would have taken volumes that are not kept for kept ones: {reading.lured}", flush=True)
     return seen.wrong == 0 and all(shares[name]["days"] for name, _, _ in KINDS)
 
 
-def report(shares, seen, count, seed, seconds):
-    columns = ("days", "refused", "by LSEI", "settled", "again", "other", "exact")
-    print(f"{'kind':<22}" + "".join(f"{c:>10}" for c in columns))
+def compare_day(made, reading, settled, certified, seen, tally, r, name, d):
+    told, first, worked = compare(made, reading, seen, name, d, tolerance(r))
+    lent = certify_any(made, reading, seen, r, name, d)
+    if lent:
+        certified.hold(seen, name, d, lent)
+    tally["days"] += 1
+    if told is None:
+        tally["refused"] += 1
+        return
+    tally["by LSEI"] += first[3] <= NEAR
+    tally["settled"] += told[4] <= NEAR
+    tally["again"] += worked
+    tally["other"] += any(not same(u, v) for u, v in zip(told[2], first[0]))
+    if math.isfinite(told[4]):
+        tally["bounded"] += 1
+        settled.hold(seen, name, d, told)
+    else:
+        tally["unbounded"] += 1
+        tally["all finite"] += all(math.isfinite(v) for numbers in (*d.lists(), told[2], told[3]) for v in numbers)
+
+
+def report(shares, seen, which, seconds):
+    columns = ("days", "refused", "by LSEI", "settled", "again", "other", "bounded", "unbounded", "all finite")
+    print(f"{'kind':<22}" + "".join(f"{c:>11}" for c in columns))
     total = collections.Counter()
     for name, _, _ in KINDS:
         total.update(shares[name])
-        print(f"{name:<22}" + "".join(f"{shares[name][c]:>10}" for c in columns))
-    print(f"{'all':<22}" + "".join(f"{total[c]:>10}" for c in columns))
+        print(f"{name:<22}" + "".join(f"{shares[name][c]:>11}" for c in columns))
+    print(f"{'all':<22}" + "".join(f"{total[c]:>11}" for c in columns))
+    print("refused by", ", ".join(f"{number}: {days}" for number, days in sorted(seen.counts.items())))
     done = total["days"] - total["refused"] or 1
     print(f"certain to 2^-10 of {done} days that are done: by LSEI alone {100 * total['by LSEI'] / done:.2f} %, settled {100 * total['settled'] / done:.2f} %")
-    print(f"{count} days, seed {seed}, {seconds:.0f} s: {seen.wrong} differences")
+    print(f"{which}, {seconds:.0f} s: {seen.wrong} differences")
+
+
+# ---- the exact answers tried
+
+def in_fractions(d, x):
+    """By exact.py: the day's best, None where there are none; and of the volumes that close and keep as well as x those nearest to 2 v - x."""
+    rows, v, x = all_rows(d), [Fraction(u) for u in d.values], [Fraction(u) for u in x]
+    balances, limits, comes = rows[:d.m], rows[d.m:], [exact.dot([Fraction(c) for c in row], x) for row in rows]
+    open_by = [-abs(come) for come in comes[:d.m]]
+    yield exact.least(d.values, d.spreads, balances, limits, d.least)
+    yield exact.least([2 * u - w for u, w in zip(v, x)], d.spreads, [], balances + [[-c for c in row] for row in balances] + limits,
+                      open_by * 2 + [min(Fraction(b), come) for b, come in zip(d.least, comes[d.m:])])
+
+
+def as_owed(d, x, w, problem, found, owed):
+    """The answer is proved, its volumes are those of exact.py, and so are how far they lie from x and what they fit worse by."""
+    if not found.proves(problem) or isinstance(found, best.Contradiction):
+        return found.proves(problem) and owed is None
+    apart = lambda a, b: sum((((Fraction(p) - Fraction(q)) / Fraction(s)) ** 2 for p, q, s in zip(a, b, d.spreads)), Fraction(0))
+    told = [Fraction(v) + Fraction(s) * (Fraction(t - u, one) + Fraction(c, found.D)) for v, s, t, u, one, c in
+            zip(d.values, d.spreads, problem.values, w.values, w.spreads, found.U)]
+    return owed is not None and told == owed[0] and w.beside(problem, found) == (apart(x, told), apart(told, d.values) - apart(x, d.values))
+
+
+def without(problem, k):
+    """The exact answer of the problem without row k, as an answer of the whole problem."""
+    keep = [i for i in range(len(problem.rows)) if i != k]
+    found = best.best(best.Problem(problem.values, problem.spreads, [problem.rows[i] for i in keep], [problem.sides[i] for i in keep],
+                                   problem.equal - (k < problem.equal)))
+    (found.M if isinstance(found, best.Best) else found.weights).insert(k, 0)
+    return found
+
+
+def holding_too(problem, k):
+    """The exact answer with limit k held as an equality, as an answer of the whole problem."""
+    found = best.best(best.Problem(problem.values, problem.spreads, [problem.rows[k]] + problem.rows, [problem.sides[k]] + problem.sides, problem.equal + 1))
+    if isinstance(found, best.Best):
+        found.M[k + 1] += found.M[0]
+        del found.M[0]
+    return found
+
+
+def unlike(a, b):
+    return isinstance(b, best.Best) and any(u * b.D != v * a.D for u, v in zip(a.U, b.U))
+
+
+def planted(w, problem, found):
+    """Faults, each with whether it is told. Of an exact answer every fault has to be told that leads to other volumes; of a bound, or of volumes
+    against it, some: a bound can be far above what is needed."""
+    if isinstance(found, best.Contradiction):
+        k = next(i for i, v in enumerate(found.weights) if v)
+        yield "a weight of a contradiction turns its sign", not best.Contradiction([-v if i == k else v for i, v in enumerate(found.weights)], 0).proves(problem)
+        return
+    held = [k for k, v in enumerate(found.M) if v]
+    for name, fault, rows in (("a balance is left out", without, [k for k in held if k < problem.equal]),
+                              ("a limit is left out", without, [k for k in held if k >= problem.equal]),
+                              ("a limit is held that does not hold", holding_too, [k for k in range(problem.equal, len(problem.rows)) if k not in held])):
+        other = fault(problem, rows[0]) if rows else None
+        if other and unlike(found, other):
+            yield name, not other.proves(problem)
+    if w.bound:
+        yield from planted_bounds(w, "the day's best", problem, found)
+        problem, guess = w.as_well()
+        yield from planted_bounds(w, "all that keep as well", problem, best.best(problem, guess))
+
+
+def planted_bounds(w, what, problem, found):
+    apart, worse = w.beside(problem, found)
+    for times in (1, 10, 40):
+        yield f"{what}: the bound is halved, times {times}", apart - 2 * worse > (w.bound / 2 ** times) ** 2
+    if w.x:
+        kept = w.x[0]
+        w.x[0] += max(math.ceil(2 * w.bound * w.spreads[0]), 1) * (1 if kept >= w.values[0] else -1)
+        apart, worse = w.beside(problem, found)
+        w.x[0] = kept
+        yield f"{what}: a value is two bounds off", apart - 2 * worse > w.bound ** 2
+
+
+def answered_days(made, r, count):
+    """Drawn days of finite numbers that no test refuses, each with what is settled. Where LSEI refuses, as limits that contradict make it, the
+    values stand for the volumes, without multipliers and with a bound of zero."""
+    while count:
+        d = day_of(r)[1]
+        answer = made.settle(d, tolerance(r))
+        if answer[0] in (5, 6, 7, 11):
+            answer = 0, None, d.values, [0.0] * d.multipliers, 0.0
+        if answer[0] == 0 and all(math.isfinite(v) for numbers in (*d.lists(), [answer[4]]) for v in numbers):
+            count -= 1
+            yield d, answer
+
+
+def try_exact(archive, count, seed):
+    made, r, others, none, faults = Library(archive), random.Random(seed), 0, 0, collections.defaultdict(list)
+    for d, answer in answered_days(made, r, count):
+        w, owed = Whole(d, answer), list(in_fractions(d, answer[2]))
+        none += owed[0] is None
+        for (problem, guess), right in zip((w.day(), w.as_well()), owed):
+            for rows in (guess, [], [k for k in range(problem.equal, len(problem.rows)) if r.random() < 0.3]):
+                others += not as_owed(d, answer[2], w, problem, best.best(problem, rows), right)
+        problem, guess = w.day()
+        for fault, is_told in planted(w, problem, best.best(problem, guess)):
+            faults[fault].append(is_told)
+    print(f"{count} days, {none} of them of limits that contradict, two problems each, from three guesses: {others} answers that are not those of exact.py")
+    for fault, told in faults.items():
+        print(f"{fault:<54} told on {sum(told):>6} of {len(told)}")
+    return others == 0 and all(any(told) if "bound" in fault else all(told) for fault, told in faults.items())
 
 
 def try_slips(archive, count, seed):
@@ -492,11 +712,12 @@ def far_away(archive):
 
 
 def main(words):
-    if len(words) < 2 or words[0] not in ("days", "slips", "far"):
+    if len(words) < 2 or words[0] not in ("days", "exact", "slips", "far"):
         sys.exit(__doc__)
-    count = int(words[2]) if len(words) > 2 else {"days": 10000, "slips": 2000}.get(words[0])
-    seed = int(words[3]) if len(words) > 3 else 1
-    done = {"days": lambda: compare_days(words[1], count, seed), "slips": lambda: try_slips(words[1], count, seed), "far": lambda: far_away(words[1])}[words[0]]()
+    count = int(words[2]) if len(words) > 2 else {"days": 10000, "exact": 300, "slips": 2000}.get(words[0])
+    ends = [int(word) for word in (words[3] if len(words) > 3 else "1").split("-")]
+    done = {"days": lambda: compare_days(words[1], count, range(ends[0], ends[-1] + 1)), "exact": lambda: try_exact(words[1], count, ends[0]),
+            "slips": lambda: try_slips(words[1], count, ends[0]), "far": lambda: far_away(words[1])}[words[0]]()
     sys.exit(0 if done else 1)
 
 
