@@ -1,12 +1,15 @@
 #!/usr/bin/env python3
-"""Writes the tables of docs/LAYOUT.md from the named places in the code: `pub const NAME: usize = SUM;`.
+"""Writes the tables of docs/LAYOUT.md and each crate's Places.antt from the named places in the code: `pub const NAME: usize = SUM;`.
 
     tools/layout.py            writes them
     tools/layout.py --check    writes nothing; says whether they are what the code says
 
 A table stands behind a mark `<!-- PART -->` of the page, where PART is what the names of its places begin with (QR of
-QR_SIDE, or of QrPart::SIDE). What a place is for is the comment in front of its constant.
+QR_SIDE, or of QrPart::SIDE). What a place is for is the comment in front of its constant. Of a Places.antt the lines up
+to the first empty one are kept: what the file is about, and what it uses. One whose equations are the code's is left as
+it is, whatever its comments say: every crate above it would be proved anew.
 """
+import glob
 import os
 import re
 import sys
@@ -15,6 +18,8 @@ PAGE = "docs/LAYOUT.md"
 # crates whose constants are sizes, or places in numbers of their own and not in a workspace
 WITHOUT = ("mend", "mend_text", "record_write", "root_known", "day_volumes", "day_text")
 CONSTANT = re.compile(r"((?:^ *// .*\n)*)^ *pub const (\w+): usize = ([^;]+);", re.M)
+# in a Places.antt words that are no places have their names too, and a heading is kept
+NAMED = re.compile(r"^// ---- (.*)\n|((?:^// .*\n)*)^pub const (\w+): (?:usize|u32) = ([^;]+);", re.M)
 
 
 def complain(text):
@@ -61,6 +66,29 @@ def table(part, places):
     return "".join(row + "\n" for row in out)
 
 
+def mirror(path):
+    """What the crate's Places.antt is to say."""
+    crate = path.split("/")[1]
+    head, out, heading = open(path).read().split("\n\n")[0], [], None
+    for name in sorted(os.listdir(f"crates/{crate}/src")):
+        for title, comment, const, total in NAMED.findall(open(f"crates/{crate}/src/{name}").read()):
+            if title:
+                heading = title
+                continue
+            purpose = " ".join(part.strip(" /") for part in comment.strip().split("\n")).removesuffix(".")
+            if re.match(r"[A-Z]([a-z]|\b(?!'))", purpose) and purpose != "B":
+                purpose = purpose[0].lower() + purpose[1:]
+            total = re.sub(r"\b[a-z]\w*::", "", total)
+            said = f"-- {purpose}\n" if purpose else ""
+            out.append((f"-- ---- {heading}\n\n" if heading else "") + f"{said}abbrev pub {const} : ℕ\n{const} = {total}\n")
+            heading = None
+    return head + "\n\n" + "\n".join(out)
+
+
+def equations(path, text):
+    return text if path == PAGE else re.findall(r"^[A-Z]\w* = .*|^use .*", text, re.M)
+
+
 def main():
     if sys.argv[1:] not in ([], ["--check"]):
         sys.exit(__doc__)
@@ -72,11 +100,14 @@ def main():
         if part not in marks:
             print(f"layout.py: {PAGE} has no mark {part}, so it says nothing of these places", file=sys.stderr)
     new = re.sub(r"<!-- ([A-Z]+) -->\n(?:\|.*\n)*", lambda m: f"<!-- {m.group(1)} -->\n{table(m.group(1), places)}", old)
-    if not sys.argv[1:]:
-        with open(PAGE, "w") as out:
-            out.write(new)
-    elif new != old:
-        complain(f"{PAGE} is not what the code says: tools/layout.py writes it")
+    pages = {PAGE: new} | {path: mirror(path) for path in sorted(glob.glob("crates/*/specs/**/Places.antt", recursive=True)) if path.split("/")[1] not in WITHOUT}
+    for path, text in pages.items():
+        if equations(path, text) == equations(path, open(path).read()):
+            continue
+        if sys.argv[1:]:
+            complain(f"{path} is not what the code says: tools/layout.py writes it")
+        with open(path, "w") as out:
+            out.write(text)
 
 
 main()

@@ -10,7 +10,7 @@ use Rattle.workspace.specs.declared.Refusal.{Refusal}
 use Rattle.step.specs.Step.{Step}
 use Rattle.step.specs.declared.Report.{Report}
 use Rattle.step_call.specs.Promise.{refusedBy, Steps}
-use Rattle.record_read.specs.inner.Tables.{factorIn, gradientIn, kindsIn, valuesIn, widthsIn, jacobianIn, lowerIn, upperIn, problemIn, decodedIn}
+use Rattle.record_read.specs.Tables.{factorIn, gradientIn, kindsIn, valuesIn, widthsIn, jacobianIn, lowerIn, upperIn, problemIn, decodedIn}
 use Rattle.record_read.specs.declared.Input.{Input}
 use Rattle.record_read.specs.Input.{readNumbers}
 use Rattle.step_call.specs.declared.Outcome.{Outcome}

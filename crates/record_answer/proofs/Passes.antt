@@ -15,7 +15,7 @@ use Rattle.workspace.specs.Tables.{Answer, call, isDimension, isConstraints, is
 use Rattle.step_call.specs.Promise.{areKinds, areLengths}
 use Rattle.step_call.specs.Strict.{strictCall}
 use Rattle.record_answer.specs.Program.{stepAnswer}
-use Rattle.record_read.specs.inner.Tables.{kindAt, problemIn}
+use Rattle.record_read.specs.Tables.{kindAt, problemIn}
 use Rattle.record_read.proofs.Areas.{square}
 use Rattle.record_read.proofs.Heads.{InTable}
 

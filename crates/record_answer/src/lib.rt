@@ -7,7 +7,7 @@ ghost use mathlib.Core.List.{[], _∷_, _++_};
 ghost use Prim.Native.Nat.{_+_, _≤_, _<_};
 ghost use lib.ListN.{length, take};
 ghost use Rattle.workspace.specs.Tables.{numberOf};
-ghost use Rattle.record_read.specs.inner.Tables.{PLACES, problemIn};
+ghost use Rattle.record_read.specs.Tables.{PLACES, problemIn};
 ghost use Rattle.ascii.specs.Text.{decimalText};
 ghost use Rattle.record_answer.specs.Program.{faultText, refusedText, doneText, stepText, stepAnswer};
 ghost use Rattle.record_answer.specs.Promise.{Responds};

@@ -25,7 +25,8 @@ use Rattle.record_read.specs.declared.Head.the-variants.{Unsound, TooLar
 use Rattle.record_read.specs.declared.Input.the-variants.{Fault, Large, Whole}
 use Rattle.record_read.specs.Input.{recordTag, recordRow, recordColumn, recordBits, spareZero, recordAt, field, gives, given, isSome, isSound, orElse, constraintOf, table, givenBits, isWhole, allBelow, isComplete, Decoded, fault, tooLarge, problem, walk, isHead, decode, inNumbers, readNumbers}
 use Rattle.record_read.specs.Bits.{ConstraintBits, Bits, number, kindOf, valueOf, widthOf, numbersOf, oneBits, lowBits, highBits}
-use Rattle.record_read.specs.inner.Tables.{area, areaOf, ifSpot, spotIn, spotOf, tagMark, defaultAt, noMarks, defaultValues, kindAt, wholeAt, problemIn}
+use Rattle.record_read.specs.Tables.{kindAt, problemIn}
+use Rattle.record_read.specs.inner.Spots.{area, areaOf, ifSpot, spotIn, spotOf, tagMark, defaultAt, noMarks, defaultValues, wholeAt}
 use Rattle.record_read.specs.inner.Filling.{entryOf, kept, added, ifEntered, putAt, entered, ifHead, sizesOf, headOf, Filling, filling, ifFilling, onEntered, onHead, closing, walkTables, decodeTables, stated}
 use Rattle.step_rows.specs.Problem.{Problem, problemOf}
 use Rattle.record_read.proofs.Entries.{mark-some}

@@ -11,7 +11,7 @@ use Rattle.numbers.proofs.Lists.{index-lt}
 use Rattle.record_read.specs.declared.Area.{Area}
 use Rattle.record_read.specs.declared.Spot.{Spot}
 use Rattle.record_read.specs.declared.Spot.the-variants.{Outside, At}
-use Rattle.record_read.specs.inner.Tables.{area, either, areaOf, spotIn, spotOf, ifSpot}
+use Rattle.record_read.specs.inner.Spots.{area, either, areaOf, spotIn, spotOf, ifSpot}
 use Rattle.record_read.specs.inner.Filling.{entryOf}
 use Rattle.record_read.specs.Input.{is, spareZero, recordTag, recordRow, recordColumn}
 

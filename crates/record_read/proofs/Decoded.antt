@@ -1,5 +1,5 @@
 -- The sizes of a problem that was decoded are in the table, and one answer is promised.
-use mathlib.Core.Path.{_∙_, subst, sym, _≡_, refl, ap}
+use mathlib.Core.Path.{_∙_, subst, sym, _≡_, refl, ap, ap₂}
 use mathlib.Core.Bool.{Bool, true, false, cond, _&&_}
 use mathlib.Core.List.{List, [], _∷_}
 use Prim.Native.Nat.{ℕ, zero, suc, _+_, _-_, _/_, _%_}
@@ -10,9 +10,9 @@ use lib.Ieee.{Float}
 use Rattle.workspace.specs.Tables.{isDimension, isConstraints}
 use Rattle.step_rows.specs.Problem.{Problem}
 use Rattle.record_read.specs.declared.Input.{Input}
-use Rattle.record_read.specs.declared.Input.the-variants.{Whole}
-use Rattle.record_read.specs.inner.Tables.{problemIn, decodedIn}
-use Rattle.record_read.specs.inner.Filling.{Filling, filling}
+use Rattle.record_read.specs.declared.Input.the-variants.{Fault, Large, Whole}
+use Rattle.record_read.specs.Tables.{problemIn, decodedIn}
+use Rattle.record_read.specs.inner.Filling.{Filling, filling, Fills}
 use Rattle.record_read.specs.Claims.{OneDecoding}
 use Rattle.record_read.specs.Input.{recordRow, recordColumn, recordAt, isSound, givenBits, isComplete, Decoded, fault, tooLarge, problem, walk, isHead, decode, inNumbers, readNumbers}
 use Rattle.record_read.specs.Bits.{numbersOf}
@@ -58,7 +58,28 @@ unfolding problemIn
 whole-sizes bs r m n marks vals e h = problem-sizes bs (problemIn m n marks vals) (sym h ∙ ap (λ (q : Input). decodedIn q marks vals) e)
 
 -- the promise allows one answer only
+same-answer : (r q : Input) (marks marks₁ : List ℕ) (vals vals₁ : List Float) → decodedIn r marks vals ≡ decodedIn q marks₁ vals₁ → r ≡ q
+unfolding problemIn
+same-answer (Fault k) (Fault j) marks marks₁ vals vals₁ e = cc
+same-answer (Fault k) Large marks marks₁ vals vals₁ e = let z : _≡_ {A = ℕ} 0 1 = cc in absurd (omega arith)
+same-answer (Fault k) (Whole m n) marks marks₁ vals vals₁ e = fault-not k _ e
+same-answer Large (Fault k) marks marks₁ vals vals₁ e = let z : _≡_ {A = ℕ} 0 1 = cc in absurd (omega arith)
+same-answer Large Large marks marks₁ vals vals₁ e = refl
+same-answer Large (Whole m n) marks marks₁ vals vals₁ e = large-not _ e
+same-answer (Whole m n) (Fault k) marks marks₁ vals vals₁ e = fault-not k _ (sym e)
+same-answer (Whole m n) Large marks marks₁ vals vals₁ e = large-not _ (sym e)
+same-answer (Whole m n) (Whole j k) marks marks₁ vals vals₁ e =
+    let z : problemIn m n marks vals ≡ problemIn j k marks₁ vals₁ = cc in
+    ap₂ Whole (ap (λ (p : Problem). p .m) z) (ap (λ (p : Problem). p .n) z)
+
 pub one-decoding : OneDecoding
-one-decoding bs r q marks marks₁ marks₂ vals vals₁ vals₂ h k =
-    let e : filling r marks₁ vals₁ ≡ filling q marks₂ vals₂ = h .the-tables ∙ sym (k .the-tables) in
+one-decoding bs r q marks marks₁ marks₂ marks₃ vals vals₁ vals₂ vals₃ h k =
+    let e : decodedIn r marks₁ vals₁ ≡ decodedIn q marks₃ vals₃ = h .the-input ∙ sym (k .the-input) in
+    (same-answer r q marks₁ marks₃ vals₁ vals₃ e, e)
+
+-- and so do the tables: where they held the same before, they hold the same afterwards
+pub one-filling : (bs : List ℕ) (r q : Input) (marks marks₁ marks₂ : List ℕ) (vals vals₁ vals₂ : List Float) → Fills bs r marks marks₁ vals vals₁ → Fills bs q marks marks₂ vals vals₂
+    → (r ≡ q) × (marks₁ ≡ marks₂) × (vals₁ ≡ vals₂)
+one-filling bs r q marks marks₁ marks₂ vals vals₁ vals₂ h k =
+    let e : filling r marks₁ vals₁ ≡ filling q marks₂ vals₂ = h .tables ∙ sym (k .tables) in
     (ap (λ (f : Filling). f .answer) e, ap (λ (f : Filling). f .marks) e, ap (λ (f : Filling). f .vals) e)

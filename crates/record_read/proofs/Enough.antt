@@ -16,7 +16,7 @@ use Rattle.record_read.specs.declared.Head.{Head}
 use Rattle.record_read.specs.declared.Head.the-variants.{Unsound, TooLarge, Sizes}
 use Rattle.record_read.specs.declared.Input.the-variants.{Fault, Large}
 use Rattle.record_read.specs.Input.{recordTag, recordBits, recordAt}
-use Rattle.record_read.specs.inner.Tables.{tagMark, noMarks, defaultValues}
+use Rattle.record_read.specs.inner.Spots.{tagMark, noMarks, defaultValues}
 use Rattle.record_read.specs.inner.Filling.{entryOf, Entered, kept, added, ifEntered, putAt, entered, filling, onEntered, onHead, walkTables, decodeTables, headOf, stated}
 use Rattle.record_read.specs.Claims.{FirstBytesSay}
 use Rattle.record_read.proofs.Agreement.{agreement}

@@ -7,7 +7,7 @@ use native.Mathlib.Omega.{arith}
 use lib.Dec.{eqb}
 use lib.Ieee.{Float, binary64, ofBits}
 use Rattle.record_read.specs.declared.Spot.the-variants.{Outside, At}
-use Rattle.record_read.specs.inner.Tables.{spotOf, tagMark}
+use Rattle.record_read.specs.inner.Spots.{spotOf, tagMark}
 use Rattle.record_read.specs.inner.Filling.{entryOf, kept, putAt, entered}
 use Rattle.record_read.specs.Input.{spareZero, recordTag, recordRow, recordColumn, recordBits}
 

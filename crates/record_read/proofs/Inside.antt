@@ -11,7 +11,7 @@ use Rattle.record_read.specs.declared.Area.{Area}
 use Rattle.record_read.specs.declared.Spot.{Spot}
 use Rattle.record_read.specs.declared.Spot.the-variants.{Outside, At}
 use Rattle.record_read.specs.Input.{is, isInside}
-use Rattle.record_read.specs.inner.Tables.{area, either, areaOf, ifSpot, spotIn, spotOf}
+use Rattle.record_read.specs.inner.Spots.{area, either, areaOf, ifSpot, spotIn, spotOf}
 use Rattle.record_read.proofs.Bytes.{and-false}
 
 abbrev pub isAt : Spot → Bool

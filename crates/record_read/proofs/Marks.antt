@@ -10,7 +10,7 @@ use Rattle.numbers.proofs.Cases.{lt-or-ge}
 use Rattle.workspace.specs.Tables.{cleared}
 use Rattle.workspace.proofs.Tests.{and-true}
 use Rattle.record_read.specs.Input.{allBelow}
-use Rattle.record_read.specs.inner.Tables.{noMarks}
+use Rattle.record_read.specs.inner.Spots.{noMarks}
 use Rattle.record_read.proofs.Bytes.{and-false}
 
 cleared-all : (k : ℕ) (d : List ℕ) → length d ≡ k → cleared 0 k d ≡ replicate k 0

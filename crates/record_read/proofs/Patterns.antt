@@ -10,7 +10,7 @@ use lib.Ieee.{Float, inf, ofBits, round}
 use Rattle.numbers.specs.Numbers.{+0, one, tab, rows, grid}
 use Rattle.record_read.specs.Bits.{ConstraintBits, equality, floor, number, kindOf, valueOf, widthOf, oneBits, lowBits, highBits}
 use Rattle.record_read.specs.Input.{recordTag, recordBits, is, orElse, constraintOf, table, isWhole}
-use Rattle.record_read.specs.inner.Tables.{tagMark, areWhole}
+use Rattle.record_read.specs.inner.Spots.{tagMark, areWhole}
 
 -- ---- lists
 

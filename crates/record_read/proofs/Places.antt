@@ -11,7 +11,7 @@ use Rattle.numbers.proofs.Lists.{index-lt}
 use Rattle.record_read.specs.declared.Area.{Area}
 use Rattle.record_read.specs.declared.Spot.the-variants.{At}
 use Rattle.record_read.specs.Input.{is, field}
-use Rattle.record_read.specs.inner.Tables.{area, either, areaOf, spotIn}
+use Rattle.record_read.specs.inner.Spots.{area, either, areaOf, spotIn}
 use Rattle.record_read.proofs.Areas.{if-spot, square}
 
 -- a place in an area

@@ -12,9 +12,8 @@ use Rattle.record_read.specs.declared.Head.the-variants.{Unsound, TooLar
 use Rattle.record_read.specs.declared.Input.{Input}
 use Rattle.record_read.specs.declared.Input.the-variants.{Fault, Large, Whole}
 use Rattle.record_read.specs.Input.{recordAt, allBelow}
-use Rattle.record_read.specs.inner.Tables.{noMarks, defaultValues, wholeAt}
-use Rattle.record_read.specs.inner.Filling.{filling, Filling, kept, added, entered, enteredBy, closing, walkTables, decodeTables, headOf, stated}
-use Rattle.record_read.specs.Promise.{Decodes}
+use Rattle.record_read.specs.inner.Spots.{noMarks, defaultValues, wholeAt}
+use Rattle.record_read.specs.inner.Filling.{filling, Filling, kept, added, entered, enteredBy, closing, walkTables, decodeTables, headOf, stated, Fills}
 use Rattle.record_read.proofs.Agreement.{agreement}
 
 module _ (m n : ℕ) (bs : List ℕ) where
@@ -93,6 +92,5 @@ module _ (bs marks : List ℕ) (vals : List Float) where
 -- ---- the promise, from all that is left
 
 pub decodes : (bs : List ℕ) (r : Input) (marks marks′ : List ℕ) (vals vals′ : List Float) → filling r marks′ vals′ ≡ decodeTables bs marks vals
-    → length marks′ ≡ length marks → length vals′ ≡ length vals → Decodes bs r marks marks′ vals vals′
-decodes bs r marks marks′ vals vals′ e a b =
-    record { the-input = ap stated e ∙ agreement bs marks vals; the-tables = e; marks-size = a; vals-size = b }
+    → length marks′ ≡ length marks → length vals′ ≡ length vals → Fills bs r marks marks′ vals vals′
+decodes bs r marks marks′ vals vals′ e a b = record { promise = record { the-input = ap stated e ∙ agreement bs marks vals; marks-size = a; vals-size = b }; tables = e }

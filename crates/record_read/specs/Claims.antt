@@ -7,13 +7,14 @@ use lib.ListN.{length}
 use lib.Ieee.{Float}
 use Rattle.record_read.specs.declared.Input.{Input}
 use Rattle.record_read.specs.Input.{readNumbers}
+use Rattle.record_read.specs.Tables.{decodedIn}
 use Rattle.record_read.specs.Promise.{Decodes}
 
 abbrev pub FirstBytesSay : Type 0
 FirstBytesSay = (p q : List ℕ) → length p ≡ 9504 → readNumbers (p ++ q) ≡ readNumbers p
 
--- two calls on the same bytes and tables answer and leave the same
+-- two calls on the same bytes answer the same, with the same problem, whatever the tables held
 abbrev pub OneDecoding : Type 0
 OneDecoding =
-    (bs : List ℕ) (r q : Input) (marks marks₁ marks₂ : List ℕ) (vals vals₁ vals₂ : List Float)
-    → Decodes bs r marks marks₁ vals vals₁ → Decodes bs q marks marks₂ vals vals₂ → (r ≡ q) × (marks₁ ≡ marks₂) × (vals₁ ≡ vals₂)
+    (bs : List ℕ) (r q : Input) (marks marks₁ marks₂ marks₃ : List ℕ) (vals vals₁ vals₂ vals₃ : List Float)
+    → Decodes bs r marks marks₁ vals vals₁ → Decodes bs q marks₂ marks₃ vals₂ vals₃ → (r ≡ q) × (decodedIn r marks₁ vals₁ ≡ decodedIn q marks₃ vals₃)

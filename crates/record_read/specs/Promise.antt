@@ -6,14 +6,11 @@ use lib.ListN.{length}
 use lib.Ieee.{Float}
 use Rattle.record_read.specs.declared.Input.{Input}
 use Rattle.record_read.specs.Input.{readNumbers}
-use Rattle.record_read.specs.inner.Tables.{decodedIn}
-use Rattle.record_read.specs.inner.Filling.{filling, decodeTables}
+use Rattle.record_read.specs.Tables.{decodedIn}
 
 -- From the bytes: the answer r, and what the tables of marks and of values hold before and, primed, afterwards.
 pub record Decodes (bs : List ℕ) (r : Input) (marks marks′ : List ℕ) (vals vals′ : List Float) : Type 0 where
   -- the answer, with the problem that stands in the tables, is what the definition says, in numbers
   pub the-input : decodedIn r marks′ vals′ ≡ readNumbers bs
-  -- nothing is left open: after a fault the tables hold what the records before it gave
-  pub the-tables : filling r marks′ vals′ ≡ decodeTables bs marks vals
   pub marks-size : length marks′ ≡ length marks
   pub vals-size : length vals′ ≡ length vals

@@ -1,3 +1,3 @@
 -- What the inner functions keep and tell: it serves their contracts alone. Definitions only.
-pub mod Tables
+pub mod Spots
 pub mod Filling

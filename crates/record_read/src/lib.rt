@@ -9,9 +9,9 @@ ghost use mathlib.Core.Path.{_≡_};
 ghost use Prim.Native.Nat.{_+_, _-_, _*_, _/_, _≤_, _<_};
 ghost use lib.ListN.{length};
 ghost use Rattle.record_read.specs.Input.{spareZero, allBelow};
-ghost use Rattle.record_read.specs.Promise.{Decodes};
-ghost use Rattle.record_read.specs.inner.Tables.{PLACES, area, areaOf, spotIn, spotOf, tagMark, defaultAt, noMarks, defaultValues, areWhole, wholeAt};
-ghost use Rattle.record_read.specs.inner.Filling.{entryOf, putAt, entered, enteredBy, headOf, sizesOf, walkTables, filling};
+ghost use Rattle.record_read.specs.Tables.{PLACES};
+ghost use Rattle.record_read.specs.inner.Spots.{area, areaOf, spotIn, spotOf, tagMark, defaultAt, noMarks, defaultValues, areWhole, wholeAt};
+ghost use Rattle.record_read.specs.inner.Filling.{entryOf, putAt, entered, enteredBy, headOf, sizesOf, walkTables, filling, Fills};
 
 // Where the areas of the tables start, after the factor's at 0, and how many places a table has.
 const GRADIENT: usize = 256;
@@ -299,7 +299,7 @@ fn walk(bytes: &[u8], m: usize, n: usize, marks: &mut [u8], vals: &mut [f64]) ->
 
 // The whole input, into the two tables.
 pub fn decode(bytes: &[u8], marks: &mut [u8; PLACES], vals: &mut [f64; PLACES]) -> Input
-    ensures { λ r. ⌜ Decodes (now (bytes .entry)) r (now (marks .entry)) (now (marks .exit)) (now (vals .entry)) (now (vals .exit)) ⌝ }
+    ensures { λ r. ⌜ Fills (now (bytes .entry)) r (now (marks .entry)) (now (marks .exit)) (now (vals .entry)) (now (vals .exit)) ⌝ }
 {
     if bytes.len() < 16 {
         return Input::Fault(0);

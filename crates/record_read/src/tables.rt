@@ -2,7 +2,7 @@
 ghost use mathlib.Core.Path.{_≡_};
 ghost use Prim.Native.Nat.{_+_, _≤_, _<_};
 ghost use lib.ListN.{length, take, drop};
-ghost use Rattle.record_read.specs.inner.Tables.{PLACES, factorIn, gradientIn, valuesIn, widthsIn, jacobianIn, lowerIn, upperIn, kindAt, kindsIn};
+ghost use Rattle.record_read.specs.Tables.{PLACES, factorIn, gradientIn, valuesIn, widthsIn, jacobianIn, lowerIn, upperIn, kindAt, kindsIn};
 
 // A table with no mark.
 pub fn blank_marks() -> [u8; crate::PLACES]

@@ -1,22 +1,20 @@
 -- Laws of the tests: entries by their bits, widths, bounds, the factor's upper triangle.
-use mathlib.Core.Path.{_≡_, refl, sym, ap, _∙_, subst}
-use mathlib.Core.Bool.{Bool, true, false, cond, _&&_}
+use mathlib.Core.Path.{_≡_, refl, sym, ap, _∙_}
+use mathlib.Core.Bool.{Bool, true, _&&_}
 use mathlib.Core.List.{List, [], _∷_, map}
-use mathlib.Core.Logic.{⊎-elim}
-use Prim.Native.Nat.{ℕ, zero, suc, _+_, _-_, _*_, _<_, _≤_}
+use Prim.Native.Nat.{ℕ, zero, suc, _+_, _*_, _<_, _≤_}
 use native.Mathlib.Omega.{arith}
-use lib.Dec.{leb, ltb, eqb}
+use lib.Dec.{eqb}
 use lib.ListN.{length}
 use lib.Ieee.{Float}
-use borrow.Author.Tests.{eqb-true, lt-ltb, le-ltb, eq-eqb, ne-eqb}
+use borrow.Author.Tests.{eqb-true, lt-ltb, le-ltb}
 use Rattle.numbers.specs.Numbers.{at, nth}
-use Rattle.numbers.proofs.Cases.{lt-or-ge}
-use Rattle.workspace.proofs.Tests.{and-true}
 use Rattle.step_rows.specs.Problem.{constraintOf}
 use Rattle.step_call.specs.Promise.{isWidth}
 use Rattle.step_call.specs.Strict.{isLower, isUpper, isBounded}
 use Rattle.record_read.specs.Bits.{number}
 use Rattle.record_read.specs.Input.{allBelow}
+use Rattle.record_read.proofs.Marks.{all-at}
 use Rattle.record_write_call.specs.Promise.{isClear, areClear}
 use Rattle.record_write_call.specs.inner.Work.{clearAt}
 
@@ -49,17 +47,10 @@ pub clear-rows : (n : ℕ) (factor : List ℕ) → allBelow n (λ i. allBelow n 
 unfolding areClear
 clear-rows n factor = refl
 
-all-hold : (m : ℕ) (f : ℕ → Bool) → allBelow m f ≡ true → (i : ℕ) → i < m → f i ≡ true
-unfolding allBelow
-all-hold zero f h i l = absurd (omega arith)
-all-hold (suc m) f h i l =
-    let a = and-true (allBelow m f) (f m) h in
-    ⊎-elim (λ (e : i < m). all-hold m f (a .0) i e) (λ (e : m ≤ i). let z : m ≡ i = omega arith in subst (λ (x : ℕ). f x ≡ true) z (a .1)) (lt-or-ge i m)
-
 -- where the test passes, the bits above the diagonal are those of +0
 pub above-is-clear : (n : ℕ) (factor : List ℕ) → areClear n factor ≡ true → (i j : ℕ) → i < j → j < n → nth factor (i * n + j) ≡ 0
 unfolding areClear
 above-is-clear n factor h i j l k =
-    let a = all-hold n (λ i. allBelow n (λ j. isClear i j (nth factor (i * n + j)))) h i (omega arith) in
-    let b : isClear i j (nth factor (i * n + j)) ≡ true = all-hold n (λ j. isClear i j (nth factor (i * n + j))) a j k in
+    let a = all-at n (λ i. allBelow n (λ j. isClear i j (nth factor (i * n + j)))) h i (omega arith) in
+    let b : isClear i j (nth factor (i * n + j)) ≡ true = all-at n (λ j. isClear i j (nth factor (i * n + j))) a j k in
     eqb-true (nth factor (i * n + j)) 0 (clear-above i j (nth factor (i * n + j)) l ∙ b)

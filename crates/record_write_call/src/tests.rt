@@ -5,6 +5,7 @@ ghost use mathlib.Core.List.{map};
 ghost use Prim.Native.Nat.{_+_, _*_, _≤_};
 ghost use lib.Dec.{eqb};
 ghost use lib.ListN.{length};
+ghost use Rattle.workspace.specs.Tables.{has};
 ghost use Rattle.step_rows.specs.Problem.{constraintOf};
 ghost use Rattle.step_call.specs.Promise.{areKinds, isWidth, areWidths};
 ghost use Rattle.record_read.specs.Bits.{number};
@@ -20,28 +21,28 @@ use workspace::Refusal;
 fn are_lengths(
     n: usize,
     m: usize,
-    factor: usize,
-    gradient: usize,
-    kinds: usize,
-    values: usize,
-    jacobian: usize,
+    factor: &[u64],
+    gradient: &[u64],
+    kinds: &[u8],
+    values: &[u64],
+    jacobian: &[u64],
 ) -> bool
     requires { ⌜ (n ≤ 16) × (m ≤ 16) ⌝ }
-    ensures { λ r. ⌜ r ≡ (eqb factor (n * n) && eqb gradient n && eqb kinds m && eqb values m && eqb jacobian (m * n)) ⌝ }
+    ensures { λ r. ⌜ r ≡ (has (now (factor .entry)) (n * n) && has (now (gradient .entry)) n && has (now (kinds .entry)) m && has (now (values .entry)) m && has (now (jacobian .entry)) (m * n)) ⌝ }
 {
-    if factor != n * n {
+    if factor.len() != n * n {
         return false;
     }
-    if gradient != n {
+    if gradient.len() != n {
         return false;
     }
-    if kinds != m {
+    if kinds.len() != m {
         return false;
     }
-    if values != m {
+    if values.len() != m {
         return false;
     }
-    jacobian == m * n
+    jacobian.len() == m * n
 }
 
 // The lengths of the widths and the bounds.
@@ -142,15 +143,7 @@ fn test_strict(
     if !step_call::are_sizes(n, m) {
         return Outcome::Refused(Refusal::Size);
     }
-    if !are_lengths(
-        n,
-        m,
-        factor.len(),
-        gradient.len(),
-        kinds.len(),
-        values.len(),
-        jacobian.len(),
-    ) {
+    if !are_lengths(n, m, factor, gradient, kinds, values, jacobian) {
         return Outcome::Refused(Refusal::Length);
     }
     if !are_other_lengths(n, m, widths.len(), lower.len(), upper.len()) {

@@ -13,6 +13,7 @@ use Rattle.workspace.specs.declared.Outcome.the-variants.{Done, Refused}
 use Rattle.workspace.specs.declared.Refusal.the-variants.{Crossed, Unasked}
 use Rattle.workspace.specs.Tables.{Answer, refused, outcomeNumber, isRoom, has}
 use Rattle.step_call.specs.Strict.{isBounded}
+use Rattle.search.specs.Places.{MOST_VALUES, SEARCH_MACHINE, SEARCH_POINT, SEARCH_WORDS}
 use Rattle.search.specs.Setup.{Setup, Report, Question, values, slopes, single, Ending, converged}
 use Rattle.search.specs.Turn.{violations}
 use Rattle.search.specs.Written.{Standing, over, waits, written, play}
@@ -38,7 +39,7 @@ pub record Slices : Type 0 where
 abbrev pub toldOnce : (v : List Float) → Slices → Slices
 toldOnce v s =
     let p = setupIn (s .numbers) (s .state) in
-    let c = tellIn p (machineIn (s .numbers) (s .state)) (has (s .numbers) 1024 && has (s .state) 32) v true in
+    let c = tellIn p (machineIn (s .numbers) (s .state)) (has (s .numbers) SEARCH_MACHINE && has (s .state) SEARCH_WORDS) v true in
     record { numbers = floatsOf false p c (s .numbers); state = wordsOf false p c (s .state) }
 
 unfoldable pub toldAll : List (List Float) → Slices → Slices
@@ -51,10 +52,10 @@ pointAsked (values x) = x
 pointAsked (slopes x) = x
 pointAsked (single w x) = x
 
--- it stands where the caller reads it, from entry 976 on
+-- it stands where the caller reads it, from SEARCH_POINT on
 abbrev pub ReadsPoint : Setup → Standing → (numbers : List Float) → Type 0
 ReadsPoint p (over e r) f = Unit {0}
-ReadsPoint p (waits q) f = vec 976 (p .n) f ≡ pointAsked q
+ReadsPoint p (waits q) f = vec SEARCH_POINT (p .n) f ≡ pointAsked q
 
 -- a beginning that is done left f and u
 abbrev pub BeginsDone : (p : Setup) (scheme : ℕ) (x : List Float) (b : ℕ) (f : List Float) (u : List ℕ) → Type 0
@@ -64,7 +65,7 @@ BeginsDone p scheme x b f u =
 -- The problem of such a beginning has all that a search needs, and its bounds mean something and are in order.
 pub record Sound (p : Setup) (b : ℕ) : Type 0 where
   pub posed : Posed p
-  pub budget : b ≤ 10000
+  pub budget : b ≤ MOST_VALUES
   pub bounded : (i : ℕ) → i < p .n → isBounded (p .lower) (p .upper) i ≡ true
   pub ordered : (i : ℕ) → i < p .n → lt (at (p .upper) i) (at (p .lower) i) ≡ false
 
@@ -111,7 +112,7 @@ isSilent p (some m) = not (isWaiting (standing p m))
 
 -- An answer to no question, whatever it is, is refused by 18 and changes nothing.
 abbrev pub NoQuestion : Type 0
-NoQuestion = (v f f' : List Float) (u u' : List ℕ) (w w' : List Float) (iw iw' : List ℕ) (r : Outcome) → length f ≡ 1024 → length u ≡ 32 → isRoom w iw ≡ true
+NoQuestion = (v f f' : List Float) (u u' : List ℕ) (w w' : List Float) (iw iw' : List ℕ) (r : Outcome) → length f ≡ SEARCH_MACHINE → length u ≡ SEARCH_WORDS → isRoom w iw ≡ true
     → isSilent (setupIn f u) (machineIn f u) ≡ true → Runs false (setupIn f u) (tellCall v f u w iw) r f f' u u' w w' iw iw'
     → (r ≡ Refused Unasked) × (outcomeNumber r ≡ 18) × (f' ≡ f) × (u' ≡ u) × (w' ≡ w) × (iw' ≡ iw)
 

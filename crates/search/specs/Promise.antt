@@ -11,6 +11,7 @@ use Rattle.workspace.specs.declared.Outcome.{Outcome}
 use Rattle.workspace.specs.declared.Outcome.the-variants.{Done, Refused}
 use Rattle.workspace.specs.Tables.{Answer, done, refused, call, test, output, floats, words, isDimension, isConstraints, isRoom, isTolerance, has}
 use Rattle.step_call.specs.Strict.{bounds}
+use Rattle.search.specs.Places.{SEARCH_MACHINE, SEARCH_WORDS}
 use Rattle.search.specs.Setup.{Setup, isBudget, isScheme, areKinds, Question, values, slopes, single, Ending, converged, infeasible, exhausted, nonfinite}
 use Rattle.search.specs.Written.{Standing, over, waits}
 use Rattle.search.specs.Machine.{Machine, ended, starting, trying, sloping, raised, lowered, begin, tell, standing}
@@ -32,7 +33,7 @@ setupOf n m kinds lower upper ftol scheme = record { n = n; m = m; kinds = kinds
 abbrev pub beginCall : (p : Setup) (scheme : ℕ) (x : List Float) (b : ℕ) (f : List Float) (u : List ℕ) (w : List Float) (iw : List ℕ) → Answer Machine
 beginCall p scheme x b f u w iw =
     call (isDimension (p .n) && isConstraints (p .m) && isBudget b && isScheme scheme)
-    (has (p .kinds) (p .m) && has (p .lower) (p .n) && has (p .upper) (p .n) && has x (p .n) && has f 1024 && has u 32)
+    (has (p .kinds) (p .m) && has (p .lower) (p .n) && has (p .upper) (p .n) && has x (p .n) && has f SEARCH_MACHINE && has u SEARCH_WORDS)
     (isRoom w iw) (areKinds (p .kinds))
     (test (isTolerance (p .ftol)) Tolerance (bounds (p .lower) (p .upper) (p .n) 0 (test (areOrdered (p .n) (p .lower) (p .upper)) Crossed (done (begin p x b)))))
 
@@ -63,7 +64,7 @@ tellIn p (some m) l v r = heard (l && isWanted p (standing p m) v) r (isWaiting 
 
 -- the whole call: telling v to the machine in f and u answers the state that it is then in
 abbrev pub tellCall : (v f : List Float) (u : List ℕ) (w : List Float) (iw : List ℕ) → Answer Machine
-tellCall v f u w iw = tellIn (setupIn f u) (machineIn f u) (has f 1024 && has u 32) v (isRoom w iw)
+tellCall v f u w iw = tellIn (setupIn f u) (machineIn f u) (has f SEARCH_MACHINE && has u SEARCH_WORDS) v (isRoom w iw)
 
 -- ---- what a call leaves
 

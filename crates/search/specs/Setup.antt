@@ -4,6 +4,7 @@ use mathlib.Core.Bool.{Bool, true, false, _&&_}
 use mathlib.Core.List.{List, [], _∷_}
 use lib.Dec.{leb}
 use lib.Ieee.{Float, nan, inf, fin}
+use Rattle.search.specs.Places.{MOST_VALUES, SCHEME_CENTRAL}
 
 -- where slopes come from: told, or worked out from differences, forward or central
 pub data Scheme : Type 0 where
@@ -23,10 +24,10 @@ pub record Setup : Type 0 where
 
 -- how many objective values a run may cost, and the number of a scheme
 abbrev pub isBudget : ℕ → Bool
-isBudget b = leb b 10000
+isBudget b = leb b MOST_VALUES
 
 abbrev pub isScheme : ℕ → Bool
-isScheme k = leb k 2
+isScheme k = leb k SCHEME_CENTRAL
 
 -- every kind is 0 or 1: a search has no bands
 unfoldable pub areKinds : List ℕ → Bool

@@ -11,6 +11,7 @@ use Rattle.nnls.specs.Counted.{Counted}
 use Rattle.hessian.specs.Hessian.{identity, cholesky, update}
 use Rattle.step_rows.specs.Problem.{Problem}
 use Rattle.step.specs.Step.{Step, step}
+use Rattle.search.specs.Places.{BACKTRACKS}
 use Rattle.search.specs.Setup.{Setup, Point, Report, Ending, converged, infeasible, isFinite}
 
 -- ---- numbers
@@ -46,7 +47,7 @@ fullRelaxation = one ⊖ near 1 (10 ^ 8)
 
 -- the trials after the first one of a line
 abbrev pub backtracks : ℕ
-backtracks = 10
+backtracks = BACKTRACKS
 
 -- ---- points and what is kept of them
 

@@ -10,6 +10,7 @@ ghost use Rattle.numbers.specs.Numbers.{nth};
 ghost use Rattle.workspace.specs.declared.Refusal.the-variants.{Crossed};
 ghost use Rattle.workspace.specs.Tables.{done, test};
 ghost use Rattle.workspace.specs.inner.Readings.{Cleared};
+ghost use Rattle.search.specs.Places.{SCHEME_CENTRAL, SEARCH_ASKED};
 ghost use Rattle.search.specs.Machine as Machine;
 ghost use Rattle.search.specs.Layout.{setupIn};
 ghost use Rattle.search.specs.Promise.{setupOf, areOrdered, beginCall, tellCall, Runs};
@@ -23,6 +24,9 @@ use crate::tests::are_sizes;
 use crate::tests::are_slices;
 use crate::tests::is_told;
 use crate::tests::question_of;
+use search::PHASE_NONE;
+use search::PHASE_NONFINITE;
+use search::SEARCH_ASKED;
 use workspace::Outcome;
 use workspace::Refusal;
 
@@ -33,7 +37,7 @@ pub struct Search {}
 fn outcome_of(phase: u32) -> Outcome
     ensures { λ r. ⌜ r ≡ outcomeIn phase ⌝ }
 {
-    if phase == 9 {
+    if phase == PHASE_NONFINITE {
         return Outcome::Refused(Refusal::Nonfinite);
     }
     Outcome::Done
@@ -55,7 +59,7 @@ fn begin_bounded(
     w: &mut [f64],
     iw: &mut [u32],
 ) -> Outcome
-    requires { ⌜ Begins (setupOf n m (now kinds) (now lower) (now upper) ftol scheme) (now x) (now machine) (now words) × (scheme ≤ 2) × (8192 ≤ length (now w)) × (512 ≤ length (now iw)) ⌝ }
+    requires { ⌜ Begins (setupOf n m (now kinds) (now lower) (now upper) ftol scheme) (now x) (now machine) (now words) × (scheme ≤ SCHEME_CENTRAL) × (8192 ≤ length (now w)) × (512 ≤ length (now iw)) ⌝ }
     ensures { λ r. ⌜ Runs true (setupOf n m (now (kinds .entry)) (now (lower .entry)) (now (upper .entry)) ftol scheme) (test (areOrdered n (now (lower .entry)) (now (upper .entry))) Crossed (done (Machine.begin (setupOf n m (now (kinds .entry)) (now (lower .entry)) (now (upper .entry)) ftol scheme) (now (x .entry)) budget))) r (now (machine .entry)) (now (machine .exit)) (now (words .entry)) (now (words .exit)) (now (w .entry)) (now (w .exit)) (now (iw .entry)) (now (iw .exit)) ⌝ }
 {
     if !are_ordered(lower, upper, n) {
@@ -87,13 +91,13 @@ fn hear_all(
     iw: &mut [u32],
 ) -> Outcome
     requires { ⌜ Heard (now told) (now machine) (now words) × (8192 ≤ length (now w)) × (512 ≤ length (now iw)) ⌝ }
-    ensures { λ r. ⌜ Told (now (told .entry)) (now (machine .entry)) (now (machine .exit)) (now (words .entry)) (now (words .exit)) × Cleared (now (w .entry)) (now (w .exit)) (now (iw .entry)) (now (iw .exit)) × (r ≡ outcomeIn (nth (now (words .exit)) 0)) ⌝ }
+    ensures { λ r. ⌜ Told (now (told .entry)) (now (machine .entry)) (now (machine .exit)) (now (words .entry)) (now (words .exit)) × Cleared (now (w .entry)) (now (w .exit)) (now (iw .entry)) (now (iw .exit)) × (r ≡ outcomeIn (nth (now (words .exit)) SEARCH_ASKED)) ⌝ }
 {
     let v = &mut w[..8192];
     let l = &mut iw[..512];
     search_next::hear(told, machine, words, v, l);
     workspace::clear(w, iw);
-    outcome_of(words[0])
+    outcome_of(words[SEARCH_ASKED])
 }
 
 impl Search {
@@ -173,7 +177,7 @@ impl Search {
         if !workspace::is_room(w.len(), iw.len()) {
             return Outcome::Refused(Refusal::Room);
         }
-        if phase == 0 {
+        if phase == PHASE_NONE {
             return Outcome::Refused(Refusal::Unasked);
         }
         hear_all(told, machine, words, w, iw)

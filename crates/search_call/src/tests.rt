@@ -7,20 +7,33 @@ ghost use lib.ListN.{length};
 ghost use Rattle.numbers.specs.Numbers.{nth};
 ghost use Rattle.workspace.specs.Tables.{isDimension, isConstraints};
 ghost use Rattle.workspace.specs.inner.Readings.{nums};
+ghost use Rattle.search.specs.Places.{PHASE_START, SEARCH_CONSTRAINTS, SEARCH_KINDS, SEARCH_MACHINE, SEARCH_VARIABLES, SEARCH_WORDS};
 ghost use Rattle.search.specs.Setup.{isBudget, isScheme, areKinds};
 ghost use Rattle.search.specs.Turn.{backtracks};
 ghost use Rattle.search.specs.Layout.{areWords};
 ghost use Rattle.search.specs.Promise.{areOrdered};
 ghost use Rattle.search_next.specs.inner.Next.{wantedAt};
 ghost use Rattle.search_call.specs.inner.Work.{questionIn, isTold};
+use search::BACKTRACKS;
+use search::MOST_VALUES;
+use search::PHASE_LOWERED;
+use search::PHASE_NONE;
+use search::PHASE_SLOPES;
+use search::SCHEME_CENTRAL;
+use search::SEARCH_AFTER;
+use search::SEARCH_AGAIN;
+use search::SEARCH_ASKED;
+use search::SEARCH_CONSTRAINTS;
+use search::SEARCH_COORDINATES;
+use search::SEARCH_FRESH;
+use search::SEARCH_KINDS;
+use search::SEARCH_LEFT;
+use search::SEARCH_MACHINE;
+use search::SEARCH_SCHEME;
+use search::SEARCH_TAKEN;
+use search::SEARCH_VARIABLES;
+use search::SEARCH_WORDS;
 use search_turn::wide;
-
-// The most objective values that a run may cost.
-pub const MOST_VALUES: u32 = 10000;
-// The last scheme.
-pub const LAST_SCHEME: u32 = 2;
-// The trials after the first one of a line.
-pub const BACKTRACKS: u32 = 10;
 
 // ---- beginning
 
@@ -34,7 +47,7 @@ pub fn are_sizes(n: usize, m: usize, budget: u32, scheme: u32) -> bool
     if budget > MOST_VALUES {
         return false;
     }
-    if scheme > LAST_SCHEME {
+    if scheme > SCHEME_CENTRAL {
         return false;
     }
     true
@@ -58,12 +71,12 @@ pub fn are_lengths(n: usize, m: usize, kinds: usize, lower: usize, upper: usize,
 
 // The lengths of the machine's two slices.
 pub fn are_slices(machine: usize, words: usize) -> bool
-    ensures { λ r. ⌜ r ≡ (eqb machine 1024 && eqb words 32) ⌝ }
+    ensures { λ r. ⌜ r ≡ (eqb machine SEARCH_MACHINE && eqb words SEARCH_WORDS) ⌝ }
 {
-    if machine != 1024 {
+    if machine != SEARCH_MACHINE {
         return false;
     }
-    words == 32
+    words == SEARCH_WORDS
 }
 
 // Every kind is 0 or 1.
@@ -100,7 +113,7 @@ fn are_counts(n: usize, m: usize, scheme: u32, budget: u32, again: u32) -> bool
     if !step_call::are_sizes(n, m) {
         return false;
     }
-    if scheme > LAST_SCHEME {
+    if scheme > SCHEME_CENTRAL {
         return false;
     }
     if budget > MOST_VALUES {
@@ -133,11 +146,11 @@ fn are_places(n: u32, m: u32, fresh: u32, taken: u32, rows: u32, cols: u32) -> b
 
 // Every kind among the words is 0 or 1.
 fn hold_kinds(u: &[u32], m: usize) -> bool
-    requires { ⌜ 16 + m ≤ length (now u) ⌝ }
-    ensures { λ r. ⌜ r ≡ areKinds (nums 16 m (now (u .entry))) ⌝ }
+    requires { ⌜ SEARCH_KINDS + m ≤ length (now u) ⌝ }
+    ensures { λ r. ⌜ r ≡ areKinds (nums SEARCH_KINDS m (now (u .entry))) ⌝ }
 {
     for j in 0..m {
-        if u[16 + j] > 1 {
+        if u[SEARCH_KINDS + j] > 1 {
             return false;
         }
     }
@@ -146,43 +159,50 @@ fn hold_kinds(u: &[u32], m: usize) -> bool
 
 // Words that a call can work with, whoever wrote them.
 pub fn are_words(u: &[u32]) -> bool
-    requires { ⌜ length (now u) ≡ 32 ⌝ }
+    requires { ⌜ length (now u) ≡ SEARCH_WORDS ⌝ }
     ensures { λ r. ⌜ r ≡ areWords (now (u .entry)) ⌝ }
 {
-    let n = wide(u[8]);
-    let m = wide(u[9]);
-    if !are_counts(n, m, u[10], u[1], u[2]) {
+    let n = wide(u[SEARCH_VARIABLES]);
+    let m = wide(u[SEARCH_CONSTRAINTS]);
+    if !are_counts(n, m, u[SEARCH_SCHEME], u[SEARCH_LEFT], u[SEARCH_AGAIN]) {
         return false;
     }
-    if !are_places(u[8], u[9], u[3], u[4], u[5], u[6]) {
+    if !are_places(
+        u[SEARCH_VARIABLES],
+        u[SEARCH_CONSTRAINTS],
+        u[SEARCH_FRESH],
+        u[SEARCH_TAKEN],
+        u[SEARCH_AFTER],
+        u[SEARCH_COORDINATES],
+    ) {
         return false;
     }
     hold_kinds(u, m)
 }
 
-// The phase of the question that stands, or 0.
+// The phase of the question that stands, or `PHASE_NONE`.
 pub fn question_of(u: &[u32]) -> u32
-    requires { ⌜ length (now u) ≡ 32 ⌝ }
+    requires { ⌜ length (now u) ≡ SEARCH_WORDS ⌝ }
     ensures { λ r. ⌜ r ≡ questionIn (now (u .entry)) ⌝ }
 {
     if !are_words(u) {
-        return 0;
+        return PHASE_NONE;
     }
-    if u[0] > 5 {
-        return 0;
+    if u[SEARCH_ASKED] > PHASE_LOWERED {
+        return PHASE_NONE;
     }
-    u[0]
+    u[SEARCH_ASKED]
 }
 
 // How many numbers the question of a phase is told.
 fn wanted_of(phase: u32, n: usize, m: usize) -> usize
-    requires { ⌜ (1 ≤ phase) × (n ≤ 16) × (m ≤ 16) ⌝ }
+    requires { ⌜ (PHASE_START ≤ phase) × (n ≤ 16) × (m ≤ 16) ⌝ }
     ensures { λ r. ⌜ r ≡ wantedAt phase n m ⌝ }
 {
-    if phase < 3 {
+    if phase < PHASE_SLOPES {
         return m + 1;
     }
-    if phase == 3 {
+    if phase == PHASE_SLOPES {
         return (m + 1) * n;
     }
     1
@@ -190,11 +210,13 @@ fn wanted_of(phase: u32, n: usize, m: usize) -> usize
 
 // An answer to the question of a phase is as long as it is to be; where no question stands, any is.
 pub fn is_told(u: &[u32], phase: u32, told: usize) -> bool
-    requires { ⌜ (length (now u) ≡ 32) × (phase ≡ questionIn (now u)) ⌝ }
-    ensures { λ r. ⌜ r ≡ isTold phase (nth (now (u .entry)) 8) (nth (now (u .entry)) 9) told ⌝ }
+    requires { ⌜ (length (now u) ≡ SEARCH_WORDS) × (phase ≡ questionIn (now u)) ⌝ }
+    ensures { λ r. ⌜ r ≡ isTold phase (nth (now (u .entry)) SEARCH_VARIABLES) (nth (now (u .entry)) SEARCH_CONSTRAINTS) told ⌝ }
 {
-    if phase == 0 {
+    if phase == PHASE_NONE {
         return true;
     }
-    told == wanted_of(phase, wide(u[8]), wide(u[9]))
+    let n = wide(u[SEARCH_VARIABLES]);
+    let m = wide(u[SEARCH_CONSTRAINTS]);
+    told == wanted_of(phase, n, m)
 }

@@ -7,6 +7,7 @@ ghost use mathlib.Core.Path.{_≡_};
 ghost use Prim.Native.Nat.{suc, _+_, _*_, _≤_, _<_};
 ghost use lib.ListN.{length};
 ghost use Rattle.numbers.specs.Numbers.{at, nth};
+ghost use Rattle.search.specs.Places.{PHASE_TRIAL, SEARCH_AFTER, SEARCH_ASKED, SEARCH_COORDINATES};
 ghost use Rattle.search.specs.Layout.{setupIn};
 ghost use Rattle.search.specs.inner.Work.{Ready, Turned};
 ghost use Rattle.search_next.specs.inner.Next.{begunIn, arrivedIn, raisedIn, secondIn, singleIn, resumedIn, brokenIn, Heard, Told};
@@ -19,6 +20,22 @@ use crate::ends::end_goal;
 use crate::ends::end_with;
 use crate::trials::arrive_next;
 use crate::trials::judge_next;
+use search::PHASE_NONFINITE;
+use search::PHASE_RAISED;
+use search::PHASE_SLOPES;
+use search::PHASE_START;
+use search::PHASE_TRIAL;
+use search::SCHEME_FORWARD;
+use search::SEARCH_AFTER;
+use search::SEARCH_ASKED;
+use search::SEARCH_CONSTRAINTS;
+use search::SEARCH_COORDINATES;
+use search::SEARCH_NEW_VALUES;
+use search::SEARCH_NEW_X;
+use search::SEARCH_RAISED_VALUE;
+use search::SEARCH_SCHEME;
+use search::SEARCH_TAKEN;
+use search::SEARCH_VARIABLES;
 use search_turn::are_finite;
 use search_turn::move_of;
 use search_turn::wide;
@@ -28,12 +45,12 @@ fn start_next(values: &[f64], f: &mut [f64], u: &mut [u32], n: usize, m: usize)
     requires { ⌜ Ready n m (now f) (now u) × (length (now values) ≡ suc m) ⌝ }
     ensures { λ _. ⌜ Turned (setupIn (now (f .entry)) (now (u .entry))) (begunIn n m (now (f .entry)) (now (u .entry)) (now (values .entry))) (now (f .entry)) (now (f .exit)) (now (u .entry)) (now (u .exit)) ⌝ }
 {
-    workspace::load(values, f, 152, m + 1);
+    workspace::load(values, f, SEARCH_NEW_VALUES, m + 1);
     if !are_finite(values) {
-        end_begun(f, u, n, m, 9);
+        end_begun(f, u, n, m, PHASE_NONFINITE);
         return;
     }
-    u[4] = 0;
+    u[SEARCH_TAKEN] = 0;
     slopes_next(f, u, n, m);
 }
 
@@ -52,13 +69,13 @@ fn lower_next(
     requires { ⌜ Ready n m (now f) (now u) × (8192 ≤ length (now w)) × (512 ≤ length (now iw)) × (rows ≤ m) × (cols < n) ⌝ }
     ensures { λ _. ⌜ Turned (setupIn (now (f .entry)) (now (u .entry))) (raisedIn n m (now (f .entry)) (now (u .entry)) rows cols value) (now (f .entry)) (now (f .exit)) (now (u .entry)) (now (u .exit)) ⌝ }
 {
-    if u[10] > 1 {
-        f[4] = value;
+    if u[SEARCH_SCHEME] > SCHEME_FORWARD {
+        f[SEARCH_RAISED_VALUE] = value;
         ask_moved(f, u, n, m, rows, cols, true);
         return;
     }
-    let x = f[112 + (n - 1 - cols)];
-    let slope = slope_between(value, f[152 + (m - rows)], x + move_of(x), x);
+    let x = f[SEARCH_NEW_X + (n - 1 - cols)];
+    let slope = slope_between(value, f[SEARCH_NEW_VALUES + (m - rows)], x + move_of(x), x);
     add_slope(f, u, w, iw, n, m, rows, cols, slope);
 }
 
@@ -77,8 +94,13 @@ fn both_next(
     requires { ⌜ Ready n m (now f) (now u) × (8192 ≤ length (now w)) × (512 ≤ length (now iw)) × (rows ≤ m) × (cols < n) ⌝ }
     ensures { λ _. ⌜ Turned (setupIn (now (f .entry)) (now (u .entry))) (secondIn n m (now (f .entry)) (now (u .entry)) rows cols value) (now (f .entry)) (now (f .exit)) (now (u .entry)) (now (u .exit)) ⌝ }
 {
-    let x = f[112 + (n - 1 - cols)];
-    let slope = slope_between(f[4], value, x + move_of(x), x - move_of(x));
+    let x = f[SEARCH_NEW_X + (n - 1 - cols)];
+    let slope = slope_between(
+        f[SEARCH_RAISED_VALUE],
+        value,
+        x + move_of(x),
+        x - move_of(x),
+    );
     add_slope(f, u, w, iw, n, m, rows, cols, slope);
 }
 
@@ -92,12 +114,12 @@ fn single_next(
     n: usize,
     m: usize,
 )
-    requires { ⌜ Ready n m (now f) (now u) × (8192 ≤ length (now w)) × (512 ≤ length (now iw)) × (nth (now u) 5 ≤ m) × (nth (now u) 6 < n) ⌝ }
+    requires { ⌜ Ready n m (now f) (now u) × (8192 ≤ length (now w)) × (512 ≤ length (now iw)) × (nth (now u) SEARCH_AFTER ≤ m) × (nth (now u) SEARCH_COORDINATES < n) ⌝ }
     ensures { λ _. ⌜ Turned (setupIn (now (f .entry)) (now (u .entry))) (singleIn n m (now (f .entry)) (now (u .entry)) value) (now (f .entry)) (now (f .exit)) (now (u .entry)) (now (u .exit)) ⌝ }
 {
-    let rows = wide(u[5]);
-    let cols = wide(u[6]);
-    if u[0] == 4 {
+    let rows = wide(u[SEARCH_AFTER]);
+    let cols = wide(u[SEARCH_COORDINATES]);
+    if u[SEARCH_ASKED] == PHASE_RAISED {
         lower_next(value, f, u, w, iw, n, m, rows, cols);
         return;
     }
@@ -126,11 +148,11 @@ fn end_told(f: &mut [f64], u: &mut [u32], n: usize, m: usize)
     requires { ⌜ Ready n m (now f) (now u) ⌝ }
     ensures { λ _. ⌜ Turned (setupIn (now (f .entry)) (now (u .entry))) (brokenIn n m (now (f .entry)) (now (u .entry))) (now (f .entry)) (now (f .exit)) (now (u .entry)) (now (u .exit)) ⌝ }
 {
-    if u[0] == 2 {
-        end_with(f, u, 9);
+    if u[SEARCH_ASKED] == PHASE_TRIAL {
+        end_with(f, u, PHASE_NONFINITE);
         return;
     }
-    end_goal(f, u, n, m, 9);
+    end_goal(f, u, n, m, PHASE_NONFINITE);
 }
 
 // Finite numbers are told, behind the start.
@@ -143,14 +165,14 @@ fn go_on(
     n: usize,
     m: usize,
 )
-    requires { ⌜ Heard (now told) (now f) (now u) × Ready n m (now f) (now u) × (8192 ≤ length (now w)) × (512 ≤ length (now iw)) × (2 ≤ nth (now u) 0) ⌝ }
+    requires { ⌜ Heard (now told) (now f) (now u) × Ready n m (now f) (now u) × (8192 ≤ length (now w)) × (512 ≤ length (now iw)) × (PHASE_TRIAL ≤ nth (now u) SEARCH_ASKED) ⌝ }
     ensures { λ _. ⌜ Turned (setupIn (now (f .entry)) (now (u .entry))) (resumedIn n m (now (f .entry)) (now (u .entry)) (now (told .entry))) (now (f .entry)) (now (f .exit)) (now (u .entry)) (now (u .exit)) ⌝ }
 {
-    if u[0] == 2 {
+    if u[SEARCH_ASKED] == PHASE_TRIAL {
         judge_next(told, f, u, w, iw, n, m);
         return;
     }
-    if u[0] == 3 {
+    if u[SEARCH_ASKED] == PHASE_SLOPES {
         slopes_told(told, f, u, w, iw, n, m);
         return;
     }
@@ -162,9 +184,9 @@ pub fn hear(told: &[f64], f: &mut [f64], u: &mut [u32], w: &mut [f64], iw: &mut 
     requires { ⌜ Heard (now told) (now f) (now u) × (8192 ≤ length (now w)) × (512 ≤ length (now iw)) ⌝ }
     ensures { λ _. ⌜ Told (now (told .entry)) (now (f .entry)) (now (f .exit)) (now (u .entry)) (now (u .exit)) ⌝ }
 {
-    let n = wide(u[8]);
-    let m = wide(u[9]);
-    if u[0] == 1 {
+    let n = wide(u[SEARCH_VARIABLES]);
+    let m = wide(u[SEARCH_CONSTRAINTS]);
+    if u[SEARCH_ASKED] == PHASE_START {
         start_next(told, f, u, n, m);
         return;
     }

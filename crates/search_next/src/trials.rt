@@ -4,6 +4,7 @@ ghost use Prim.Native.Nat.{suc, _+_, _*_, _≤_};
 ghost use lib.ListN.{length};
 ghost use Rattle.numbers.specs.Numbers.{nth};
 ghost use Rattle.workspace.specs.inner.Readings.{vec};
+ghost use Rattle.search.specs.Places.{SEARCH_LEFT};
 ghost use Rattle.search.specs.Turn.{reset};
 ghost use Rattle.search.specs.Machine.{turnNext};
 ghost use Rattle.search.specs.Layout.{setupIn, iterateIn};
@@ -12,6 +13,19 @@ ghost use Rattle.search_next.specs.inner.Next.{triedIn, turnedIn, arrive
 use crate::differences::slopes_next;
 use crate::ends::end_with;
 use crate::ends::set_words;
+use search::BACKTRACKS;
+use search::PHASE_CONVERGED;
+use search::PHASE_EXHAUSTED;
+use search::PHASE_INFEASIBLE;
+use search::PHASE_TRIAL;
+use search::SEARCH_AGAIN;
+use search::SEARCH_ALPHA;
+use search::SEARCH_FRESH;
+use search::SEARCH_LEFT;
+use search::SEARCH_NEW_VALUES;
+use search::SEARCH_NEW_X;
+use search::SEARCH_POINT;
+use search::SEARCH_TAKEN;
 use search_move::identity_in;
 use search_move::move_turn;
 use search_move::start_turn;
@@ -28,15 +42,15 @@ pub fn try_next(f: &mut [f64], u: &mut [u32], n: usize, m: usize, alpha: f64, ag
     requires { ⌜ Ready n m (now f) (now u) ⌝ }
     ensures { λ _. ⌜ Turned (setupIn (now (f .entry)) (now (u .entry))) (triedIn n m (now (f .entry)) (now (u .entry)) alpha again) (now (f .entry)) (now (f .exit)) (now (u .entry)) (now (u .exit)) ⌝ }
 {
-    let budget = u[1];
+    let budget = u[SEARCH_LEFT];
     if budget == 0 {
-        end_with(f, u, 8);
+        end_with(f, u, PHASE_EXHAUSTED);
         return;
     }
-    f[1] = alpha;
-    along_into(f, 976, n, alpha);
-    let fresh = u[3];
-    set_words(u, 2, budget - 1, again, fresh, 1, 0, 0);
+    f[SEARCH_ALPHA] = alpha;
+    along_into(f, SEARCH_POINT, n, alpha);
+    let fresh = u[SEARCH_FRESH];
+    set_words(u, PHASE_TRIAL, budget - 1, again, fresh, 1, 0, 0);
 }
 
 // A turn from the iterate.
@@ -47,13 +61,13 @@ pub fn turn_next(f: &mut [f64], u: &mut [u32], w: &mut [f64], iw: &mut [u32], n:
     let opening = open_turn(f, u, w, iw, n, m);
     match opening {
         Opening::Go => {
-            try_next(f, u, n, m, 1.0, 10);
+            try_next(f, u, n, m, 1.0, BACKTRACKS);
         }
         Opening::Converged => {
-            end_with(f, u, 6);
+            end_with(f, u, PHASE_CONVERGED);
         }
         Opening::Infeasible => {
-            end_with(f, u, 7);
+            end_with(f, u, PHASE_INFEASIBLE);
         }
     }
 }
@@ -63,7 +77,7 @@ pub fn arrive_next(f: &mut [f64], u: &mut [u32], w: &mut [f64], iw: &mut [u32], 
     requires { ⌜ Ready n m (now f) (now u) × (8192 ≤ length (now w)) × (512 ≤ length (now iw)) ⌝ }
     ensures { λ _. ⌜ Turned (setupIn (now (f .entry)) (now (u .entry))) (arrivedIn n m (now (f .entry)) (now (u .entry)) (vec 0 (suc m * n) (now (w .entry)))) (now (f .entry)) (now (f .exit)) (now (u .entry)) (now (u .exit)) ⌝ }
 {
-    if u[4] == 0 {
+    if u[SEARCH_TAKEN] == 0 {
         start_turn(f, u, w, n, m);
         turn_next(f, u, w, iw, n, m);
         return;
@@ -71,7 +85,7 @@ pub fn arrive_next(f: &mut [f64], u: &mut [u32], w: &mut [f64], iw: &mut [u32], 
     let settled = is_settled(f, u, m);
     move_turn(f, u, w, n, m);
     if settled {
-        end_with(f, u, 6);
+        end_with(f, u, PHASE_CONVERGED);
         return;
     }
     turn_next(f, u, w, iw, n, m);
@@ -82,20 +96,20 @@ fn take_trial(told: &[f64], f: &mut [f64], u: &mut [u32], n: usize, m: usize)
     requires { ⌜ Ready n m (now f) (now u) × (length (now told) ≡ suc m) ⌝ }
     ensures { λ _. ⌜ Turned (setupIn (now (f .entry)) (now (u .entry))) (takenIn n m (now (f .entry)) (now (u .entry)) (now (told .entry))) (now (f .entry)) (now (f .exit)) (now (u .entry)) (now (u .exit)) ⌝ }
 {
-    let alpha = f[1];
-    along_into(f, 112, n, alpha);
-    workspace::load(told, f, 152, m + 1);
-    u[4] = 1;
+    let alpha = f[SEARCH_ALPHA];
+    along_into(f, SEARCH_NEW_X, n, alpha);
+    workspace::load(told, f, SEARCH_NEW_VALUES, m + 1);
+    u[SEARCH_TAKEN] = 1;
     slopes_next(f, u, n, m);
 }
 
 // B is the identity again, and a turn begins.
 fn reset_next(f: &mut [f64], u: &mut [u32], w: &mut [f64], iw: &mut [u32], n: usize, m: usize)
     requires { ⌜ Ready n m (now f) (now u) × (8192 ≤ length (now w)) × (512 ≤ length (now iw)) ⌝ }
-    ensures { λ _. ⌜ Turned (setupIn (now (f .entry)) (now (u .entry))) (turnNext (setupIn (now (f .entry)) (now (u .entry))) (nth (now (u .entry)) 1) (reset (setupIn (now (f .entry)) (now (u .entry))) (iterateIn n m (now (f .entry)) (now (u .entry))))) (now (f .entry)) (now (f .exit)) (now (u .entry)) (now (u .exit)) ⌝ }
+    ensures { λ _. ⌜ Turned (setupIn (now (f .entry)) (now (u .entry))) (turnNext (setupIn (now (f .entry)) (now (u .entry))) (nth (now (u .entry)) SEARCH_LEFT) (reset (setupIn (now (f .entry)) (now (u .entry))) (iterateIn n m (now (f .entry)) (now (u .entry))))) (now (f .entry)) (now (f .exit)) (now (u .entry)) (now (u .exit)) ⌝ }
 {
     identity_in(f, n);
-    u[3] = 1;
+    u[SEARCH_FRESH] = 1;
     turn_next(f, u, w, iw, n, m);
 }
 
@@ -117,13 +131,13 @@ pub fn judge_next(
         take_trial(told, f, u, n, m);
         return;
     }
-    let again = u[2];
+    let again = u[SEARCH_AGAIN];
     if again > 0 {
         let alpha = shorter_of(f, merit);
         try_next(f, u, n, m, alpha, again - 1);
         return;
     }
-    if u[3] == 1 {
+    if u[SEARCH_FRESH] == 1 {
         take_trial(told, f, u, n, m);
         return;
     }

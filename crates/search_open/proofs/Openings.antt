@@ -1,10 +1,9 @@
 -- What a turn opens, and what is written of it.
-use Prim.Native.Nat.{ℕ, zero, suc, _+_, _-_, _*_, _≤_}
+use Prim.Native.Nat.{ℕ, suc, _+_, _-_, _*_, _≤_}
 use mathlib.Core.Path.{_≡_, refl, sym, ap, _∙_, subst}
 use mathlib.Core.List.{List, [], _∷_}
 use mathlib.Core.Bool.{Bool, true, false, cond}
 use native.Mathlib.Omega.{arith}
-use lib.Dec.{eqb}
 use lib.ListN.{length, take, drop}
 use lib.Count.{trailingZeros}
 use lib.Ieee.{Float, nan, le, sub, ofBits, binary64, ofFields, units, odd, round, size, span, climb}
@@ -20,8 +19,9 @@ use Rattle.step.specs.inner.Work.{EndsStep, steppedAnswer}
 use Rattle.step.specs.declared.Stepped.{Stepped}
 use Rattle.search.specs.Setup.{Setup, Ending, converged, infeasible}
 use Rattle.search.specs.Turn.{Iterate, Line, Opened, stop, go, reset, fullRelaxation, merit, violations, penalties, withStep, lineOf, isStill, modelOf, stepped, factored, opened}
-use Rattle.search.specs.Layout.{bit, setupIn, iterateIn, laid, pointFloats, iterateFloats, FitsIterate}
+use Rattle.search.specs.Layout.{setupIn, iterateIn, laid, pointFloats, iterateFloats, FitsIterate}
 use Rattle.search.specs.inner.Work.{Ready, freshWords, openedFloats, openedWords}
+use Rattle.search.proofs.Rereads.{bit-word}
 use Rattle.search.proofs.Laying.{length-laid, laid-below, vec-below, vec-above, vec-here, laid-again, laid-apart}
 use Rattle.search.proofs.Layouts.{bounds}
 use Rattle.search.proofs.Lent.{part-length, part-vec, laid-twice, word-again}
@@ -42,11 +42,6 @@ opens-by : (r : Opening) (o : Opened) (s : Iterate) (line : Line) (f f′ : List
 opens-by r o s line f f′ u u′ e hf hu =
     record { iterate = s; line = line; opening = e; floats = hf ∙ ap (λ (t : Opened). openedFloats t f) (sym e); words = hu ∙ ap (λ (t : Opened). openedWords t u) (sym e) }
 
-bit-again : (k : ℕ) → k ≤ 1 → bit (eqb k 1) ≡ k
-bit-again zero l = refl
-bit-again (suc zero) l = refl
-bit-again (suc (suc k)) l = absurd (omega arith)
-
 -- 1 - 1e-8, as the code has it
 pub full-is : ofBits binary64 4607182418709945415 ≡ fullRelaxation
 unfolding ofBits ofFields odd round units size span climb trailingZeros sub
@@ -60,7 +55,7 @@ module _ (n m : ℕ) (f : List Float) (u : List ℕ) (h : Ready n m f u) where
   S = iterateIn n m f u
 
   fresh-again : freshWords (S .fresh) u ≡ u
-  fresh-again = ap (λ (t : ℕ). laid 3 (t ∷ []) u) (bit-again (nth u 3) (h .fresh)) ∙ word-again 3 u (let y = h .words in omega arith)
+  fresh-again = ap (λ (t : ℕ). laid 3 (t ∷ []) u) (bit-word (nth u 3) (h .fresh)) ∙ word-again 3 u (let y = h .words in omega arith)
 
   whole : iterateFloats S f ≡ f
   whole = let b = bounds n m (h .few) (h .constraints) in iterate-again n m f u (h .few) (h .constraints) (b .0) (b .1) (h .floats)

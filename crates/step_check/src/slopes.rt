@@ -91,6 +91,21 @@ fn slope_at(
     plus_upper(Side::of(upper[i]), uppers[i], u)
 }
 
+// The verdict on the slope along variable i.
+fn judge_slope(tolerance: f64, i: usize, slope: f64) -> Verdict
+    requires { ⌜ i ≤ 16 ⌝ }
+    ensures { λ r. ⌜ r ≡ firstFailed Stationarity tolerance (marginOf Variable i +0 slope ∷ []) ⌝ }
+{
+    crate::judge(
+        Test::Stationarity,
+        tolerance,
+        Part::Variable,
+        i as u32,
+        0.0,
+        slope,
+    )
+}
+
 // Stationarity of each variable.
 pub fn check_slopes(
     factor: &[f64],
@@ -124,14 +139,7 @@ pub fn check_slopes(
             m,
             i,
         );
-        let told = crate::judge(
-            Test::Stationarity,
-            tolerance,
-            Part::Variable,
-            i as u32,
-            0.0,
-            v,
-        );
+        let told = judge_slope(tolerance, i, v);
         let Verdict::Yes = told else {
             return told;
         };

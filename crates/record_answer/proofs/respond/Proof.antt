@@ -33,34 +33,34 @@ enum-known-m : tie.Need-enum-known-m
 enum-known-m c = omega arith
 
 slice-aggregate-put-step : tie.Need-slice-aggregate-put-step
-slice-aggregate-put-step c = c .before .before .before .before .before .before .before .before .blank-marks .ensures ∙ sym (c .before .before .before .before .decode .ensures .marks-size)
+slice-aggregate-put-step c = c .before .before .before .before .before .before .before .before .blank-marks .ensures ∙ sym (c .before .before .before .before .decode .ensures .promise .marks-size)
 
 slice-aggregate-put-step-2 : tie.Need-slice-aggregate-put-step-2
-slice-aggregate-put-step-2 c = c .before .before .before .before .before .before .before .before .blank-values .ensures ∙ sym (c .before .before .before .before .before .decode .ensures .vals-size)
+slice-aggregate-put-step-2 c = c .before .before .before .before .before .before .before .before .blank-values .ensures ∙ sym (c .before .before .before .before .before .decode .ensures .promise .vals-size)
 
 put-step-requires : tie.Need-put-step-requires
 put-step-requires c κs =
     let k = c .before .before .before .before .before .before .decode in
-    let s = whole-sizes (c .before .before .before .before .before .before .before .before .before .before .before .before .args .bytes .now) (k .result) _ _ (k .last .1 .0) (k .last .1 .1 .0) (c .before .before .before .before .m .given .1) (k .ensures .the-input) in
-    (s .few, s .some, s .most, k .ensures .marks-size ∙ sym (c .before .before .before .before .before .before .before .before .before .before .blank-marks .ensures), k .ensures .vals-size ∙ sym (c .before .before .before .before .before .before .before .before .before .blank-values .ensures), omega arith)
+    let s = whole-sizes (c .before .before .before .before .before .before .before .before .before .before .before .before .args .bytes .now) (k .result) _ _ (k .last .1 .0) (k .last .1 .1 .0) (c .before .before .before .before .m .given .1) (k .ensures .promise .the-input) in
+    (s .few, s .some, s .most, k .ensures .promise .marks-size ∙ sym (c .before .before .before .before .before .before .before .before .before .before .blank-marks .ensures), k .ensures .promise .vals-size ∙ sym (c .before .before .before .before .before .before .before .before .before .blank-values .ensures), omega arith)
 
 returns : tie.Need-returns
 returns c =
     let bs = c .before .before .before .before .before .before .before .before .before .before .before .args .bytes .now in
     let k = c .before .before .before .before .before .decode in
-    responds bs _ (output-is bs (k .result) (Fault _) (k .last .1 .0) (k .last .1 .1 .0) (c .before .before .before .k .given .1) (k .ensures .the-input)) (c .put-fault .ensures)
+    responds bs _ (output-is bs (k .result) (Fault _) (k .last .1 .0) (k .last .1 .1 .0) (c .before .before .before .k .given .1) (k .ensures .promise .the-input)) (c .put-fault .ensures)
 
 returns-2 : tie.Need-returns-2
 returns-2 c =
     let bs = c .before .before .before .before .before .before .before .before .before .before .args .bytes .now in
     let k = c .before .before .before .before .decode in
-    responds bs _ (output-is bs (k .result) Large (k .last .1 .0) (k .last .1 .1 .0) (c .before .before .enum-told .given .1) (k .ensures .the-input)) (c .put-refused .ensures)
+    responds bs _ (output-is bs (k .result) Large (k .last .1 .0) (k .last .1 .1 .0) (c .before .before .enum-told .given .1) (k .ensures .promise .the-input)) (c .put-refused .ensures)
 
 returns-3 : tie.Need-returns-3
 returns-3 c =
     let bs = c .before .before .before .before .before .before .before .before .before .before .before .before .before .args .bytes .now in
     let k = c .before .before .before .before .before .before .before .decode in
-    responds bs _ (output-is bs (k .result) (Whole _ _) (k .last .1 .0) (k .last .1 .1 .0) (c .before .before .before .before .before .m .given .1) (k .ensures .the-input)) (c .put-step .ensures)
+    responds bs _ (output-is bs (k .result) (Whole _ _) (k .last .1 .0) (k .last .1 .1 .0) (c .before .before .before .before .before .m .given .1) (k .ensures .promise .the-input)) (c .put-step .ensures)
 
 pub respond-spec : {M : Type 1} → statement M
 respond-spec =

@@ -1,6 +1,6 @@
 -- `area_of`: an area for each tag.
 use borrow.Author.Tests.{ne-eqb}
-use Rattle.record_read.specs.inner.Tables.{areaOf}
+use Rattle.record_read.specs.inner.Spots.{areaOf}
 use Rattle.record_read.proofs.area_of.Statement.{statement}
 use Rattle.record_read.proofs.area_of.Tie as tie
 

@@ -5,7 +5,7 @@ use Prim.Native.Nat.{_≤_, _-_}
 use native.Mathlib.Omega.{arith}
 use borrow.Author.Tests.{not-true, not-false}
 use Rattle.record_read.specs.Input.{allBelow}
-use Rattle.record_read.specs.inner.Tables.{wholeAt}
+use Rattle.record_read.specs.inner.Spots.{wholeAt}
 use Rattle.record_read.proofs.Marks.{all-none, all-end, all-stop, all-more}
 use Rattle.record_read.proofs.complete.Statement.{statement}
 use Rattle.record_read.proofs.complete.Tie as tie

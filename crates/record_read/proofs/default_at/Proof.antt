@@ -2,7 +2,7 @@
 use native.Mathlib.Omega.{arith}
 use borrow.Author.Tests.{eq-eqb, ne-eqb, lt-ltb, le-ltb}
 use lib.Ieee.{ofBits, nanBits, round}
-use Rattle.record_read.specs.inner.Tables.{defaultAt}
+use Rattle.record_read.specs.inner.Spots.{defaultAt}
 use Rattle.record_read.proofs.default_at.Statement.{statement}
 use Rattle.record_read.proofs.default_at.Tie as tie
 

@@ -2,7 +2,7 @@
 use Prim.Native.Nat.{_-_, _≤_}
 use native.Mathlib.Omega.{arith}
 use Rattle.numbers.proofs.Fills.{Fill, fill-none, fill-more, fill-all}
-use Rattle.record_read.specs.inner.Tables.{defaultAt, defaultValues}
+use Rattle.record_read.specs.inner.Spots.{defaultAt, defaultValues}
 use Rattle.record_read.proofs.defaults.Statement.{statement}
 use Rattle.record_read.proofs.defaults.Tie as tie
 

@@ -1,6 +1,6 @@
 -- `mark`: 2 for `I`, else 1.
 use borrow.Author.Tests.{ne-eqb}
-use Rattle.record_read.specs.inner.Tables.{tagMark}
+use Rattle.record_read.specs.inner.Spots.{tagMark}
 use Rattle.record_read.proofs.mark.Statement.{statement}
 use Rattle.record_read.proofs.mark.Tie as tie
 

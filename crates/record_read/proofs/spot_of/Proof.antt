@@ -5,7 +5,7 @@ use mathlib.Core.Bool.{false, _&&_}
 use native.Mathlib.Omega.{arith}
 use borrow.Author.Tests.{eq-eqb, ne-eqb, lt-ltb, le-ltb}
 use lib.Dec.{eqb, ltb}
-use Rattle.record_read.specs.inner.Tables.{spotOf}
+use Rattle.record_read.specs.inner.Spots.{spotOf}
 use Rattle.record_read.proofs.Areas.{Room, room, spot-rest}
 use Rattle.record_read.proofs.Bytes.{and-false}
 use Rattle.record_read.proofs.spot_of.Statement.{statement}

@@ -3,7 +3,7 @@ use Prim.Native.Nat.{_*_, _≤_}
 use native.Mathlib.Nat.{mul-le-mul}
 use native.Mathlib.Omega.{arith}
 use borrow.Author.Tests.{lt-ltb, le-ltb}
-use Rattle.record_read.specs.inner.Tables.{spotIn}
+use Rattle.record_read.specs.inner.Spots.{spotIn}
 use Rattle.record_read.proofs.within.Statement.{statement}
 use Rattle.record_read.proofs.within.Tie as tie
 

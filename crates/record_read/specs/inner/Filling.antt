@@ -1,4 +1,5 @@
 -- How the tables are filled, record by record. Definitions only.
+use mathlib.Core.Path.{_≡_}
 use mathlib.Core.Bool.{Bool, true, false, _&&_}
 use mathlib.Core.List.{List, [], _∷_}
 use Prim.Native.Nat.{ℕ, zero, suc, _+_, _-_, _/_, _%_}
@@ -15,7 +16,9 @@ use Rattle.record_read.specs.declared.Input.{Input}
 use Rattle.record_read.specs.declared.Input.the-variants.{Fault, Large, Whole}
 use Rattle.record_read.specs.Input.{recordTag, recordRow, recordColumn, recordBits, spareZero, recordAt, isHead, allBelow, Decoded}
 use Rattle.record_read.specs.Bits.{number}
-use Rattle.record_read.specs.inner.Tables.{ifSpot, spotOf, tagMark, noMarks, defaultValues, wholeAt, decodedIn}
+use Rattle.record_read.specs.Promise.{Decodes}
+use Rattle.record_read.specs.Tables.{decodedIn}
+use Rattle.record_read.specs.inner.Spots.{ifSpot, spotOf, tagMark, noMarks, defaultValues, wholeAt}
 
 -- ---- one record after the first
 
@@ -102,3 +105,8 @@ decodeTables bs marks vals =
     ifFilling (ltb (length bs) 16) (filling (Fault 0) marks vals)
     (onHead (headOf (take 16 bs)) (filling (Fault 0) marks vals) (filling Large marks vals)
     (λ m n. walkTables m n bs (length bs / 16 - 1) 1 noMarks (defaultValues n)))
+
+-- Nothing is left open: after a fault, too, the tables hold what the records before it gave.
+pub record Fills (bs : List ℕ) (r : Input) (marks marks′ : List ℕ) (vals vals′ : List Float) : Type 0 where
+  pub promise : Decodes bs r marks marks′ vals vals′
+  pub tables : filling r marks′ vals′ ≡ decodeTables bs marks vals

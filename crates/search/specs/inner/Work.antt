@@ -7,6 +7,7 @@ use lib.ListN.{length}
 use lib.Ieee.{Float}
 use Rattle.numbers.specs.Numbers.{one, nth}
 use Rattle.workspace.specs.inner.Readings.{nums}
+use Rattle.search.specs.Places.{SEARCH_ALPHA, SEARCH_CONSTRAINTS, SEARCH_D, SEARCH_FRESH, SEARCH_KINDS, SEARCH_MACHINE, SEARCH_VARIABLES, SEARCH_WORDS}
 use Rattle.search.specs.Setup.{Setup, areKinds}
 use Rattle.search.specs.Turn.{Iterate, Line, Opened, stop, go}
 use Rattle.search.specs.Machine.{Machine}
@@ -16,26 +17,26 @@ use Rattle.search.specs.Layout.{laid, bit, iterateFloats, machineFloats,
 
 -- the machine's slices, with n variables and m constraints
 pub record Ready (n m : ℕ) (f : List Float) (u : List ℕ) : Type 0 where
-  pub floats : length f ≡ 1024
-  pub words : length u ≡ 32
+  pub floats : length f ≡ SEARCH_MACHINE
+  pub words : length u ≡ SEARCH_WORDS
   pub some : 1 ≤ n
   pub few : n ≤ 16
   pub constraints : m ≤ 16
-  pub variables : nth u 8 ≡ n
-  pub functions : nth u 9 ≡ m
-  pub kinds : areKinds (nums 16 m u) ≡ true
-  pub fresh : nth u 3 ≤ 1
+  pub variables : nth u SEARCH_VARIABLES ≡ n
+  pub functions : nth u SEARCH_CONSTRAINTS ≡ m
+  pub kinds : areKinds (nums SEARCH_KINDS m u) ≡ true
+  pub fresh : nth u SEARCH_FRESH ≤ 1
 
 -- ---- what is left
 
 -- the iterate s stands in the slices
 abbrev pub freshWords : Bool → List ℕ → List ℕ
-freshWords t u = laid 3 (bit t ∷ []) u
+freshWords t u = laid SEARCH_FRESH (bit t ∷ []) u
 
 -- what a turn has opened: the iterate, and its line with alpha at one
 abbrev pub openedFloats : Opened → List Float → List Float
 openedFloats (stop e s) f = iterateFloats s f
-openedFloats (go s line) f = laid 1 (one ∷ line .merit ∷ line .slope ∷ []) (laid 64 (line .d) (iterateFloats s f))
+openedFloats (go s line) f = laid SEARCH_ALPHA (one ∷ line .merit ∷ line .slope ∷ []) (laid SEARCH_D (line .d) (iterateFloats s f))
 
 abbrev pub openedWords : Opened → List ℕ → List ℕ
 openedWords (stop e s) u = freshWords (s .fresh) u

@@ -10,6 +10,7 @@ use Rattle.numbers.specs.Numbers.{at, nth, tab}
 use Rattle.workspace.specs.declared.Refusal.the-variants.{Nonfinite}
 use Rattle.workspace.specs.declared.Outcome.{Outcome}
 use Rattle.workspace.specs.declared.Outcome.the-variants.{Done, Refused}
+use Rattle.search.specs.Places.{PHASE_LOWERED, PHASE_NONE, PHASE_NONFINITE, PHASE_START, SEARCH_ASKED, SEARCH_LEFT, SEARCH_MACHINE, SEARCH_NEW_X, SEARCH_POINT, SEARCH_VALUES, SEARCH_WORDS, SEARCH_X}
 use Rattle.search.specs.Setup.{Setup}
 use Rattle.search.specs.Turn.{clip, backtracks}
 use Rattle.search.specs.Machine.{begin}
@@ -27,22 +28,22 @@ clippedIn n l u x = tab n (λ i. clip (at l i) (at u i) (at x i))
 pub record Begins (p : Setup) (x f : List Float) (u : List ℕ) : Type 0 where
   pub posed : Posed p
   pub start : length x ≡ p .n
-  pub floats : length f ≡ 1024
-  pub words : length u ≡ 32
+  pub floats : length f ≡ SEARCH_MACHINE
+  pub words : length u ≡ SEARCH_WORDS
 
 -- the clipped start with values that are not known
 abbrev pub unknownFloats : (m : ℕ) → (y f : List Float) → List Float
-unknownFloats m y f = laid 48 y (laid 128 (replicate (suc m) nan) f)
+unknownFloats m y f = laid SEARCH_X y (laid SEARCH_VALUES (replicate (suc m) nan) f)
 
 -- the run is over before a value was told; k is the number of how
 pub record Unknown (k n m : ℕ) (y : List Float) (f f′ : List Float) (u u′ : List ℕ) : Type 0 where
   pub floats : f′ ≡ unknownFloats m y f
-  pub words : u′ ≡ set u 0 k
+  pub words : u′ ≡ set u SEARCH_ASKED k
 
 -- the values at y are asked for, with b left
 pub record Asks (b m : ℕ) (y : List Float) (f f′ : List Float) (u u′ : List ℕ) : Type 0 where
-  pub floats : f′ ≡ laid 976 y (laid 112 y (unknownFloats m y f))
-  pub words : u′ ≡ set (set u 0 1) 1 b
+  pub floats : f′ ≡ laid SEARCH_POINT y (laid SEARCH_NEW_X y (unknownFloats m y f))
+  pub words : u′ ≡ set (set u SEARCH_ASKED PHASE_START) SEARCH_LEFT b
 
 -- the search of p from x with a budget of b has begun
 pub record Started (p : Setup) (x : List Float) (b : ℕ) (r : Outcome) (f′ : List Float) (u′ : List ℕ) : Type 0 where
@@ -52,13 +53,13 @@ pub record Started (p : Setup) (x : List Float) (b : ℕ) (r : Outcome) (f′ : 
 
 -- ---- telling
 
--- the phase of the question that stands, or 0
+-- the phase of the question that stands, or PHASE_NONE
 abbrev pub questionIn : List ℕ → ℕ
-questionIn u = cond (areWords u && leb (nth u 0) 5) (nth u 0) 0
+questionIn u = cond (areWords u && leb (nth u SEARCH_ASKED) PHASE_LOWERED) (nth u SEARCH_ASKED) PHASE_NONE
 
 abbrev pub isTold : (phase n m told : ℕ) → Bool
-isTold k n m t = cond (eqb k 0) true (eqb t (wantedAt k n m))
+isTold k n m t = cond (eqb k PHASE_NONE) true (eqb t (wantedAt k n m))
 
 -- the outcome of a state whose first word is k
 abbrev pub outcomeIn : ℕ → Outcome
-outcomeIn k = cond (eqb k 9) (Refused Nonfinite) Done
+outcomeIn k = cond (eqb k PHASE_NONFINITE) (Refused Nonfinite) Done

@@ -9,6 +9,7 @@ use lib.ListN.{length, set}
 use lib.Ieee.{Float}
 use Rattle.numbers.specs.Numbers.{at, nth}
 use Rattle.workspace.specs.inner.Readings.{vec}
+use Rattle.search.specs.Places.{PHASE_LOWERED, PHASE_RAISED, PHASE_SLOPES, PHASE_START, PHASE_TRIAL, SEARCH_AFTER, SEARCH_AGAIN, SEARCH_ALPHA, SEARCH_ASKED, SEARCH_CONSTRAINTS, SEARCH_COORDINATES, SEARCH_LEFT, SEARCH_MACHINE, SEARCH_NEW_SLOPES, SEARCH_NEW_X, SEARCH_RAISED_VALUE, SEARCH_VARIABLES, SEARCH_WORDS}
 use Rattle.search.specs.Setup.{Setup, Point, Report, Ending, nonfinite, areFinite}
 use Rattle.search.specs.Turn.{pointOf, reportOf, blank, along, raise, lower, quotient}
 use Rattle.search.specs.Written.{Goal, begun, taken, reportFor, pay, sound, reach}
@@ -19,7 +20,7 @@ use Rattle.search.specs.inner.Work.{Turned}
 -- ---- words
 
 abbrev pub sevenWords : (phase b again fresh goal rows cols : ℕ) → List ℕ → List ℕ
-sevenWords phase b again fresh goal rows cols u = laid 0 (phase ∷ b ∷ again ∷ fresh ∷ goal ∷ rows ∷ cols ∷ []) u
+sevenWords phase b again fresh goal rows cols u = laid SEARCH_ASKED (phase ∷ b ∷ again ∷ fresh ∷ goal ∷ rows ∷ cols ∷ []) u
 
 abbrev pub goalWords : Goal → (phase b rows cols : ℕ) → List ℕ → List ℕ
 goalWords goal phase b rows cols u = sevenWords phase b 0 (bit (isFresh goal)) (bit (isTaken goal)) rows cols u
@@ -46,11 +47,11 @@ askMoved p down b goal q rows cols g v =
     reach ended (movedTo down (at (q .x) (p .n - suc cols))) (reportFor p goal q) (pay ended (p .m - rows) b (reportFor p goal q) (λ c. movedState down c goal q rows cols g v))
 
 abbrev pub movedIn : (n i : ℕ) → (y : Float) → List Float → List Float
-movedIn n i y f = set (vec 112 n f) i y
+movedIn n i y f = set (vec SEARCH_NEW_X n f) i y
 
 abbrev pub phaseOf : (down : Bool) → ℕ
-phaseOf false = 4
-phaseOf true = 5
+phaseOf false = PHASE_RAISED
+phaseOf true = PHASE_LOWERED
 
 -- what function m - rows costs
 abbrev pub priceOf : (rows m : ℕ) → ℕ
@@ -58,70 +59,70 @@ priceOf rows m = cond (eqb rows m) 1 0
 
 -- what is asked next about the goal and the new point in the slices, and the slopes known of it
 abbrev pub askedIn : (n m : ℕ) (f : List Float) (u : List ℕ) → (down : Bool) → (rows cols : ℕ) → Machine
-askedIn n m f u down rows cols = askMoved (setupIn f u) down (nth u 1) (goalIn n m f u) (newIn n m f) rows cols (vec 448 (known n m rows cols) f) (at f 4)
+askedIn n m f u down rows cols = askMoved (setupIn f u) down (nth u SEARCH_LEFT) (goalIn n m f u) (newIn n m f) rows cols (vec SEARCH_NEW_SLOPES (known n m rows cols) f) (at f SEARCH_RAISED_VALUE)
 
 -- the slope along the coordinate that was moved is c
 abbrev pub addedIn : (n m : ℕ) (f : List Float) (u : List ℕ) → (rows cols : ℕ) → (c : Float) → Machine
-addedIn n m f u rows cols c = moveNext (setupIn f u) (goalIn n m f u) (newIn n m f) rows cols (nth u 1) (vec 448 (known n m rows cols) f ++ (c ∷ []))
+addedIn n m f u rows cols c = moveNext (setupIn f u) (goalIn n m f u) (newIn n m f) rows cols (nth u SEARCH_LEFT) (vec SEARCH_NEW_SLOPES (known n m rows cols) f ++ (c ∷ []))
 
 -- a row is whole
 abbrev pub rowIn : (n m : ℕ) (f : List Float) (u : List ℕ) → (rows : ℕ) → Machine
-rowIn n m f u rows = moveNext (setupIn f u) (goalIn n m f u) (newIn n m f) rows 0 (nth u 1) (vec 448 ((m - rows) * n + n) f)
+rowIn n m f u rows = moveNext (setupIn f u) (goalIn n m f u) (newIn n m f) rows 0 (nth u SEARCH_LEFT) (vec SEARCH_NEW_SLOPES ((m - rows) * n + n) f)
 
 -- the gradient is finite; of a constraint's row nothing is asked yet
 abbrev pub rowStands : (n m rows : ℕ) → List Float → Bool
-rowStands n m rows f = cond (eqb rows m) (areFinite (vec 448 n f)) true
+rowStands n m rows f = cond (eqb rows m) (areFinite (vec SEARCH_NEW_SLOPES n f)) true
 
 -- ---- answers
 
 abbrev pub triedIn : (n m : ℕ) (f : List Float) (u : List ℕ) → (alpha : Float) → (again : ℕ) → Machine
-triedIn n m f u α again = tryNext (nth u 1) (iterateIn n m f u) (lineIn n f) α again
+triedIn n m f u α again = tryNext (nth u SEARCH_LEFT) (iterateIn n m f u) (lineIn n f) α again
 
 abbrev pub turnedIn : (n m : ℕ) (f : List Float) (u : List ℕ) → Machine
-turnedIn n m f u = turnNext (setupIn f u) (nth u 1) (iterateIn n m f u)
+turnedIn n m f u = turnNext (setupIn f u) (nth u SEARCH_LEFT) (iterateIn n m f u)
 
 abbrev pub arrivedIn : (n m : ℕ) (f : List Float) (u : List ℕ) → (g : List Float) → Machine
-arrivedIn n m f u g = arriveNext (setupIn f u) (goalIn n m f u) (nth u 1) (newIn n m f) g
+arrivedIn n m f u g = arriveNext (setupIn f u) (goalIn n m f u) (nth u SEARCH_LEFT) (newIn n m f) g
 
 abbrev pub slopedIn : (n m : ℕ) (f : List Float) (u : List ℕ) → Machine
-slopedIn n m f u = slopesNext (setupIn f u .scheme) (setupIn f u) (goalIn n m f u) (nth u 1) (newIn n m f)
+slopedIn n m f u = slopesNext (setupIn f u .scheme) (setupIn f u) (goalIn n m f u) (nth u SEARCH_LEFT) (newIn n m f)
 
 -- the point of the trial with its values v
 abbrev pub trialIn : (n m : ℕ) (f : List Float) (u : List ℕ) → (v : List Float) → Point
-trialIn n m f u v = pointOf (along (setupIn f u) (iterateIn n m f u) (lineIn n f) (at f 1)) v
+trialIn n m f u v = pointOf (along (setupIn f u) (iterateIn n m f u) (lineIn n f) (at f SEARCH_ALPHA)) v
 
 abbrev pub takenIn : (n m : ℕ) (f : List Float) (u : List ℕ) → (v : List Float) → Machine
-takenIn n m f u v = slopesNext (setupIn f u .scheme) (setupIn f u) (taken (iterateIn n m f u)) (nth u 1) (trialIn n m f u v)
+takenIn n m f u v = slopesNext (setupIn f u .scheme) (setupIn f u) (taken (iterateIn n m f u)) (nth u SEARCH_LEFT) (trialIn n m f u v)
 
 abbrev pub judgedIn : (n m : ℕ) (f : List Float) (u : List ℕ) → (v : List Float) → Machine
-judgedIn n m f u v = judgeNext (setupIn f u) (nth u 1) (iterateIn n m f u) (lineIn n f) (at f 1) (nth u 2) (trialIn n m f u v)
+judgedIn n m f u v = judgeNext (setupIn f u) (nth u SEARCH_LEFT) (iterateIn n m f u) (lineIn n f) (at f SEARCH_ALPHA) (nth u SEARCH_AGAIN) (trialIn n m f u v)
 
 abbrev pub raisedIn : (n m : ℕ) (f : List Float) (u : List ℕ) → (rows cols : ℕ) → (v : Float) → Machine
-raisedIn n m f u rows cols v = lowerNext (setupIn f u .scheme) (setupIn f u) (nth u 1) (goalIn n m f u) (newIn n m f) rows cols (vec 448 (known n m rows cols) f) v
+raisedIn n m f u rows cols v = lowerNext (setupIn f u .scheme) (setupIn f u) (nth u SEARCH_LEFT) (goalIn n m f u) (newIn n m f) rows cols (vec SEARCH_NEW_SLOPES (known n m rows cols) f) v
 
 -- the values at the start are v
 abbrev pub begunIn : (n m : ℕ) (f : List Float) (u : List ℕ) → (v : List Float) → Machine
 begunIn n m f u v =
-    let q = pointOf (vec 112 n f) v in
-    sound ended v (blank (setupIn f u) q) (slopesNext (setupIn f u .scheme) (setupIn f u) begun (nth u 1) q)
+    let q = pointOf (vec SEARCH_NEW_X n f) v in
+    sound ended v (blank (setupIn f u) q) (slopesNext (setupIn f u .scheme) (setupIn f u) begun (nth u SEARCH_LEFT) q)
 
 -- the value at the lowered point is v
 abbrev pub secondIn : (n m : ℕ) (f : List Float) (u : List ℕ) → (rows cols : ℕ) → (v : Float) → Machine
-secondIn n m f u rows cols v = let x = at (vec 112 n f) (setupIn f u .n - suc cols) in addedIn n m f u rows cols (quotient (at f 4) v (raise x) (lower x))
+secondIn n m f u rows cols v = let x = at (vec SEARCH_NEW_X n f) (setupIn f u .n - suc cols) in addedIn n m f u rows cols (quotient (at f SEARCH_RAISED_VALUE) v (raise x) (lower x))
 
 abbrev pub singleIn : (n m : ℕ) (f : List Float) (u : List ℕ) → (v : Float) → Machine
-singleIn n m f u v = cond (eqb (nth u 0) 4) (raisedIn n m f u (nth u 5) (nth u 6) v) (secondIn n m f u (nth u 5) (nth u 6) v)
+singleIn n m f u v = cond (eqb (nth u SEARCH_ASKED) PHASE_RAISED) (raisedIn n m f u (nth u SEARCH_AFTER) (nth u SEARCH_COORDINATES) v) (secondIn n m f u (nth u SEARCH_AFTER) (nth u SEARCH_COORDINATES) v)
 
 -- behind the start: what is told is finite, or is not
 abbrev pub resumedIn : (n m : ℕ) (f : List Float) (u : List ℕ) → (v : List Float) → Machine
-resumedIn n m f u v = cond (eqb (nth u 0) 2) (judgedIn n m f u v) (cond (eqb (nth u 0) 3) (arrivedIn n m f u v) (singleIn n m f u (at v 0)))
+resumedIn n m f u v = cond (eqb (nth u SEARCH_ASKED) PHASE_TRIAL) (judgedIn n m f u v) (cond (eqb (nth u SEARCH_ASKED) PHASE_SLOPES) (arrivedIn n m f u v) (singleIn n m f u (at v 0)))
 
 abbrev pub brokenIn : (n m : ℕ) (f : List Float) (u : List ℕ) → Machine
-brokenIn n m f u = ended nonfinite (cond (eqb (nth u 0) 2) (reportOf (iterateIn n m f u)) (reportFor (setupIn f u) (goalIn n m f u) (newIn n m f)))
+brokenIn n m f u = ended nonfinite (cond (eqb (nth u SEARCH_ASKED) PHASE_TRIAL) (reportOf (iterateIn n m f u)) (reportFor (setupIn f u) (goalIn n m f u) (newIn n m f)))
 
 -- ---- a call
 
--- how many numbers the question of a phase is told
+-- how many numbers the question of a phase is told: none, PHASE_START and PHASE_TRIAL, PHASE_SLOPES, and the two after it
 abbrev pub wantedAt : (phase n m : ℕ) → ℕ
 wantedAt zero n m = 0
 wantedAt (suc zero) n m = suc m
@@ -131,12 +132,12 @@ wantedAt (suc (suc (suc (suc k)))) n m = 1
 
 -- a question stands, and its answer is as long as it is to be
 pub record Heard (v f : List Float) (u : List ℕ) : Type 0 where
-  pub floats : length f ≡ 1024
-  pub words : length u ≡ 32
+  pub floats : length f ≡ SEARCH_MACHINE
+  pub words : length u ≡ SEARCH_WORDS
   pub good : areWords u ≡ true
-  pub asked : 1 ≤ nth u 0
-  pub waiting : nth u 0 ≤ 5
-  pub told : length v ≡ wantedAt (nth u 0) (nth u 8) (nth u 9)
+  pub asked : PHASE_START ≤ nth u SEARCH_ASKED
+  pub waiting : nth u SEARCH_ASKED ≤ PHASE_LOWERED
+  pub told : length v ≡ wantedAt (nth u SEARCH_ASKED) (nth u SEARCH_VARIABLES) (nth u SEARCH_CONSTRAINTS)
 
 -- the state in the slices has become what it becomes by v
 abbrev pub Told : (v f f′ : List Float) (u u′ : List ℕ) → Type 0

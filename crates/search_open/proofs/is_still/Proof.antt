@@ -60,7 +60,7 @@ returns c =
     let s = c .before .before .before .before .before .before .before .before .before .before in
     let r = s .pre .0 in
     let a = s .args in
-    λ t. still-in (a .n) (a .m) (a .f .now) (a .u .now) r (a .d .now) (a .l .now) t (length (a .f .now) - 176) (129 + a .m - 128) _ _ _ _ (omega (arith, r .floats, r .few)) (omega arith)
+    λ t. still-in (a .n) (a .m) (a .f .now) (a .u .now) r (a .d .now) (a .multipliers .now) t (length (a .f .now) - 176) (129 + a .m - 128) _ _ _ _ (omega (arith, r .floats, r .few)) (omega arith)
     (c .before .before .before .dot .ensures) (c .before .before .magnitude-of .ensures) (c .before .complementarity-of .ensures) (c .is-within .ensures)
 
 pub is-still-spec : {M : Type 1} → statement M

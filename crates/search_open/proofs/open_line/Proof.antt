@@ -33,14 +33,14 @@ part-d-start c = omega arith
 part-d-end : tie.Need-part-d-end
 part-d-end c = omega arith
 
-sub-l : tie.Need-sub-l
-sub-l c = omega arith
+sub-multipliers : tie.Need-sub-multipliers
+sub-multipliers c = omega arith
 
-part-l-start : tie.Need-part-l-start
-part-l-start c = omega arith
+part-multipliers-start : tie.Need-part-multipliers-start
+part-multipliers-start c = omega arith
 
-part-l-end : tie.Need-part-l-end
-part-l-end c = omega arith
+part-multipliers-end : tie.Need-part-multipliers-end
+part-multipliers-end c = omega arith
 
 is-still-requires : tie.Need-is-still-requires
 is-still-requires c κs =
@@ -121,9 +121,9 @@ open-line-spec =
     sub-d
     part-d-start
     part-d-end
-    sub-l
-    part-l-start
-    part-l-end
+    sub-multipliers
+    part-multipliers-start
+    part-multipliers-end
     is-still-requires
     load-requires
     same-length

@@ -18,8 +18,8 @@ mul-e c = let s = c .before .before .before .before .before in omega (arith, bou
 array-borrow-prefix-room : tie.Need-array-borrow-prefix-room
 array-borrow-prefix-room c = let s = c .before .before .before .before .before in omega (arith, bounds (s .args .n) (s .args .m) (s .pre .0 .few) (s .pre .0 .constraints) .1)
 
-slice-aggregate-l : tie.Need-slice-aggregate-l
-slice-aggregate-l c =
+slice-aggregate-factor : tie.Need-slice-aggregate-factor
+slice-aggregate-factor c =
     let s = c .before .before .before .before .before .before in
     let b = bounds (s .args .n) (s .args .m) (s .pre .0 .few) (s .pre .0 .constraints) .1 in
     sym (length-take-le (s .args .n * s .args .n) _ (omega (arith, b, c .before .factor-room .ensures)))
@@ -95,7 +95,7 @@ open-turn-spec =
     factor-room-requires
     mul-e
     array-borrow-prefix-room
-    slice-aggregate-l
+    slice-aggregate-factor
     slice-relend-prefix-factor-turn
     slice-aggregate-factor-turn
     factor-turn-requires

@@ -87,7 +87,7 @@ returns c =
     let p = s .pre in
     let e = c .before .before .before .before .solve-step in
     ends-front (a .n) (a .m) (e .result) (e .last .1 .1 .1 .1 .1 .1 .1 .1 .0) (a .w .now) _ _ (p .2 .variables) (p .2 .constraints) (e .kept .1 .1 .1 .1 .1 .1 .1 .1 .0 ∙ length-take-le 8192 (a .w .now) (p .3))
-    (problem-lent (a .n) (a .m) (a .f .now) (p .2 .variables) (p .2 .constraints) (p .0) (a .l .now) (a .kinds .now) (a .widths .now) (a .lower .now) (a .upper .now)) (e .ensures)
+    (problem-lent (a .n) (a .m) (a .f .now) (p .2 .variables) (p .2 .constraints) (p .0) (a .factor .now) (a .kinds .now) (a .widths .now) (a .lower .now) (a .upper .now)) (e .ensures)
 
 pub solve-at-spec : {M : Type 1} → statement M
 solve-at-spec =

@@ -7,6 +7,7 @@ use Rattle.numbers.specs.Numbers.{one, dot, _⊖_, _⊗_}
 use Rattle.workspace.specs.Tables.{Answer, done, refused}
 use Rattle.hessian.specs.Hessian.{identity}
 use Rattle.step.specs.Step.{Step}
+use Rattle.search.specs.Places.{SEARCH_B, SEARCH_FRESH}
 use Rattle.search.specs.Setup.{converged, infeasible}
 use Rattle.search.specs.Turn.{Iterate, Line, Opened, stop, go}
 use Rattle.search.specs.Layout.{laid}
@@ -23,11 +24,11 @@ factorOf n (refused k) = identity n
 
 abbrev pub factoredFloats : ℕ → Answer (List Float) → List Float → List Float
 factoredFloats n (done l) f = f
-factoredFloats n (refused k) f = laid 720 (identity n) f
+factoredFloats n (refused k) f = laid SEARCH_B (identity n) f
 
 abbrev pub factoredWords : Answer (List Float) → List ℕ → List ℕ
 factoredWords (done l) u = u
-factoredWords (refused k) u = laid 3 (1 ∷ []) u
+factoredWords (refused k) u = laid SEARCH_FRESH (1 ∷ []) u
 
 pub record Factors (n : ℕ) (a : Answer (List Float)) (f f′ : List Float) (u u′ : List ℕ) (l : List Float) : Type 0 where
   pub floats : f′ ≡ factoredFloats n a f
@@ -37,7 +38,7 @@ pub record Factors (n : ℕ) (a : Answer (List Float)) (f f′ : List Float) (u 
 -- ---- the step
 
 abbrev pub stepOf : (d multipliers : List Float) → (relaxation : Float) → Step
-stepOf d l t = record { d = d; multipliers = l; relaxation = t }
+stepOf d multipliers t = record { d = d; multipliers = multipliers; relaxation = t }
 
 -- ---- what is opened
 

@@ -48,14 +48,14 @@ loop-again c =
     let s = c .before .before .before .before .loop in
     let a = c .before .before .before .before .before .before .before .args in (
       omega arith,
-      ap (λ (t : Float). s .total ⊕ t) (c .magnitude-of .ensures) ∙ Σ-more (s .j) (λ k. magnitude (at (a .l .now) k ⊗ at (a .v .now) (1 + k))) (s .total) (s .inv .1),
+      ap (λ (t : Float). s .total ⊕ t) (c .magnitude-of .ensures) ∙ Σ-more (s .j) (λ k. magnitude (at (a .multipliers .now) k ⊗ at (a .v .now) (1 + k))) (s .total) (s .inv .1),
     )
 
 returns : tie.Need-returns Inv-loop μ-loop
 returns c =
     let s = c .before .loop in
     let a = c .before .before .before .before .args in
-    Σ-done (s .j) (a .m) _ (s .total) (s .inv .0) (omega arith) (s .inv .1) ∙ complementarity-in (a .m) (a .l .now) (a .v .now)
+    Σ-done (s .j) (a .m) _ (s .total) (s .inv .0) (omega arith) (s .inv .1) ∙ complementarity-in (a .m) (a .multipliers .now) (a .v .now)
 
 pub complementarity-of-spec : {M : Type 1} → statement M
 complementarity-of-spec =

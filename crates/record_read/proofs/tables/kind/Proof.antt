@@ -1,7 +1,7 @@
 -- `kind`: an inequality where the value's mark is 2, and a band where the width has one.
 use native.Mathlib.Omega.{arith}
 use borrow.Author.Tests.{eq-eqb, ne-eqb}
-use Rattle.record_read.specs.inner.Tables.{kindAt}
+use Rattle.record_read.specs.Tables.{kindAt}
 use Rattle.record_read.proofs.tables.kind.Statement.{statement}
 use Rattle.record_read.proofs.tables.kind.Tie as tie
 

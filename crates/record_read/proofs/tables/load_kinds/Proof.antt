@@ -5,7 +5,7 @@ use native.Mathlib.Omega.{arith}
 use lib.ListN.{length, length-set}
 use Rattle.workspace.specs.inner.Readings.{Span}
 use Rattle.workspace.proofs.Writes.{written-none, written-front, written-all}
-use Rattle.record_read.specs.inner.Tables.{kindAt}
+use Rattle.record_read.specs.Tables.{kindAt}
 use Rattle.record_read.proofs.tables.load_kinds.Statement.{statement}
 use Rattle.record_read.proofs.tables.load_kinds.Tie as tie
 

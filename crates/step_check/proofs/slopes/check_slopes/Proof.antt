@@ -3,7 +3,6 @@ use mathlib.Core.Path.{_≡_, refl, sym, ap, _∙_}
 use mathlib.Core.List.{[], _∷_}
 use Prim.Native.Nat.{ℕ, _+_, _*_, _-_, _≤_, _<_}
 use Rattle.numbers.specs.Numbers.{+0}
-use Rattle.workspace.proofs.Readings.{lit-+0}
 use Rattle.step_rows.specs.Problem.{each}
 use Rattle.step_check.specs.declared.Test.the-variants.{Stationarity}
 use Rattle.step_check.specs.declared.Part.the-variants.{Variable}
@@ -27,11 +26,8 @@ loop-holds c = (omega arith, first-none _ _ _)
 slope-at-requires : tie.Need-slope-at-requires Inv-loop μ-loop
 slope-at-requires c κs = (c .loop-test .taken, c .before .before .before .before .before .before .before .before .before .before .before .pre)
 
-cast-judge : tie.Need-cast-judge Inv-loop μ-loop
-cast-judge c = omega (arith, c .before .before .before .before .before .before .before .before .before .before .before .before .pre .variables)
-
-judge-requires : tie.Need-judge-requires Inv-loop μ-loop
-judge-requires c κs = tt
+judge-slope-requires : tie.Need-judge-slope-requires Inv-loop μ-loop
+judge-slope-requires c κs = omega (arith, c .before .before .before .before .before .before .before .before .before .before .before .before .pre .variables)
 
 enum-told : tie.Need-enum-told Inv-loop μ-loop
 enum-told c = search needs
@@ -41,7 +37,7 @@ enum-told-2 c = search needs
 
 returns : tie.Need-returns Inv-loop μ-loop
 returns c = let e = c .enum-told2 .given .1 in
-    e ∙ sym (first-out _ _ _ (c .before .before .before .before .before .loop .i) _ _ _ _ (c .before .before .before .before .loop-test .taken) (c .before .before .before .before .before .loop .inv .1) (sym (rw (c .before .before .before .slope-at .ensures, lit-+0) at (c .before .before .judge .ensures)) ∙ e))
+    e ∙ sym (first-out _ _ _ (c .before .before .before .before .before .loop .i) _ _ _ _ (c .before .before .before .before .loop-test .taken) (c .before .before .before .before .before .loop .inv .1) (sym (rw (c .before .before .before .slope-at .ensures) at (c .before .before .judge-slope .ensures)) ∙ e))
 
 add-i : tie.Need-add-i Inv-loop μ-loop
 add-i c = omega arith
@@ -50,7 +46,7 @@ loop-less : tie.Need-loop-less Inv-loop μ-loop
 loop-less c = omega arith
 
 loop-again : tie.Need-loop-again Inv-loop μ-loop
-loop-again c = (omega arith, first-more _ _ _ _ (c .before .before .before .before .before .loop .inv .1) (sym (rw (c .before .before .before .slope-at .ensures, lit-+0) at (c .before .before .judge .ensures)) ∙ c .enum-told .given .1))
+loop-again c = (omega arith, first-more _ _ _ _ (c .before .before .before .before .before .loop .inv .1) (sym (rw (c .before .before .before .slope-at .ensures) at (c .before .before .judge-slope .ensures)) ∙ c .enum-told .given .1))
 
 returns-2 : tie.Need-returns-2 Inv-loop μ-loop
 returns-2 c = first-all _ _ _ _ _ (omega arith) (omega arith) (c .before .loop .inv .1)
@@ -63,8 +59,7 @@ check-slopes-spec =
     μ-loop
     loop-holds
     slope-at-requires
-    cast-judge
-    judge-requires
+    judge-slope-requires
     enum-told
     enum-told-2
     returns
