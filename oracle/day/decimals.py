@@ -17,7 +17,7 @@ import subprocess
 import sys
 from fractions import Fraction
 
-NEEDED = ("numbers", "endian", "ascii", "decimals", "workspace", "step_rows", "record_read")
+NEEDED = ("numbers", "endian", "ascii", "decimals", "workspace", "step_rows", "problem_read")
 PIECE = 100000
 BLOCK, ANSWER, TEXT = 64, 32, 16
 
@@ -30,11 +30,11 @@ def build():
     for crate in NEEDED:
         os.symlink(f"{root}/crates/{crate}", f"{own}/crates/{crate}")
     shutil.copy("oracle/day/probe.rt.txt", f"{own}/crates/probe/src/main.rt")
-    shutil.copy("crates/record_read/src/floats.rt", f"{own}/crates/probe/src/floats.rt")
+    shutil.copy("crates/problem_read/src/floats.rt", f"{own}/crates/probe/src/floats.rt")
     for function in ("value", "is_same"):
-        with open(f"crates/record_read/proofs/floats/{function}/Proof.antt") as proof:
+        with open(f"crates/problem_read/proofs/floats/{function}/Proof.antt") as proof:
             text = proof.read()
-        text = text.replace("record_read·proofs.proofs.floats", "probe·proofs.proofs.floats").replace("record_read·proofs.proofs.", "record_read.proofs.")
+        text = text.replace("problem_read·proofs.proofs.floats", "probe·proofs.proofs.floats").replace("problem_read·proofs.proofs.", "problem_read.proofs.")
         os.makedirs(f"{own}/crates/probe/proofs/floats/{function}")
         with open(f"{own}/crates/probe/proofs/floats/{function}/Proof.antt", "w") as proof:
             proof.write(text)
@@ -42,7 +42,7 @@ def build():
     shutil.copy("oracle/day/main.antt.txt", f"{own}/crates/probe/proofs/main/Proof.antt")
     with open("crates.txt") as listed, open(f"{own}/crates.txt", "w") as out:
         out.writelines(line for line in listed if line.split(":")[0] in NEEDED)
-        out.write("probe: numbers endian ascii decimals workspace step_rows record_read io libc\n")
+        out.write("probe: numbers endian ascii decimals workspace step_rows problem_read io libc\n")
     done = subprocess.run(["rt", "check", "probe"], cwd=own, capture_output=True, text=True)
     if done.returncode:
         sys.exit(done.stdout[-3000:] + done.stderr[-3000:])

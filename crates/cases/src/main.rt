@@ -26,7 +26,7 @@ fn output_room() -> [u8; 2048]
 // The name of a case, and what the record program writes for its file.
 fn answer(name: &[u8], file: &[u8]) {
     let mut out = output_room();
-    let n = record_answer::respond(file, &mut out);
+    let n = problem_answer::respond(file, &mut out);
     io::write_all(STDOUT_FILENO, name);
     io::write_all(STDOUT_FILENO, b":\n");
     io::write_all(STDOUT_FILENO, &out[..n]);

@@ -14,7 +14,7 @@ use Rattle.numbers.specs.Numbers.{+0, _⊗_, Σ, at, nth, tab}
 use Rattle.numbers.proofs.Cases.{lt-or-ge, eq-or-ne}
 use Rattle.numbers.proofs.Lists.{length-tab, getD-tab, tab-of, tab-same}
 use Rattle.numbers.proofs.Sums.{Σ-same}
-use Rattle.workspace.specs.inner.Readings.{Written, Block, Span}
+use Rattle.workspace.specs.Readings.{Written, Block, Span}
 use Rattle.day_volumes.specs.Found.{laid, rowTimes, flag, noFigures, noSigns}
 use Rattle.day_volumes.specs.inner.Work.{itemFigures, sumFigures, allFigures, testSigns, withinSigns}
 use Rattle.interval.specs.Intervals.{isFinite}

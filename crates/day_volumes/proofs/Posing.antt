@@ -16,7 +16,7 @@ use lib.Ieee.{Float, nan, binary64, neg, ofInt, ofBits, round}
 use Rattle.numbers.specs.Numbers.{+0, -1, near, one, _⊖_, _⊘_, at, nth, tab, rows, grid}
 use Rattle.numbers.proofs.Cases.{lt-or-ge}
 use Rattle.numbers.proofs.Lists.{length-tab, getD-tab, grid-more}
-use Rattle.workspace.specs.inner.Readings.{Block}
+use Rattle.workspace.specs.Readings.{Block}
 use Rattle.workspace.proofs.Readings.{lit-+0, lit-one}
 use Rattle.householder.proofs.Leading.{lit--1}
 use Rattle.workspace.proofs.Writes.{written-as}

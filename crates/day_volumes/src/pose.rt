@@ -5,7 +5,7 @@ ghost use Prim.Native.Nat.{_+_, _*_, _≤_, _<_};
 ghost use lib.Dec.{eqb};
 ghost use lib.ListN.{length};
 ghost use Rattle.numbers.specs.Numbers.{+0, at, nth, tab};
-ghost use Rattle.workspace.specs.inner.Readings.{Block};
+ghost use Rattle.workspace.specs.Readings.{Block};
 ghost use Rattle.totaliser.specs.Volume.{volume};
 ghost use Rattle.day_volumes.specs.Posed.{isStock, valueOf, values as Posed·values, balances as Posed·balances, isLimit, turned, limitEntry, leastOf};
 ghost use Rattle.day_volumes.specs.inner.Work.{Tables, Limiting, LimitsIn};

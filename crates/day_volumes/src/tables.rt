@@ -7,7 +7,7 @@ ghost use lib.Ieee.{nan};
 ghost use Rattle.numbers.specs.Numbers.{at, nth};
 ghost use Rattle.interval.specs.Intervals.{isFinite};
 ghost use Rattle.certain.specs.Bound as Bound;
-ghost use Rattle.workspace.specs.inner.Readings.{Block, Span};
+ghost use Rattle.workspace.specs.Readings.{Block, Span};
 ghost use Rattle.day_volumes.specs.Found.{flag as Found·flag, rowTimes};
 ghost use Rattle.day_volumes.specs.inner.Work.{Counts, Limited, itemFigures, sumFigures, allFigures, testSigns, withinSigns};
 use crate::pose::BALANCES;

@@ -10,9 +10,9 @@ use Rattle.workspace.specs.Tables as Tables
 use Rattle.workspace.specs.declared.Refusal.{Refusal}
 use Rattle.workspace.specs.declared.Outcome as Told
 use Rattle.workspace.specs.declared.Outcome.the-variants as told
-use Rattle.record_write_call.specs.declared.Outcome.{Outcome}
-use Rattle.record_write_call.specs.declared.Outcome.the-variants.{Done, Refused}
-use Rattle.record_write_call.specs.Promise.{outcomeOf, WritesFile}
+use Rattle.problem_write_call.specs.declared.Outcome.{Outcome}
+use Rattle.problem_write_call.specs.declared.Outcome.the-variants.{Done, Refused}
+use Rattle.problem_write_call.specs.Promise.{outcomeOf, WritesFile}
 use Rattle.gritstrut.specs.Interface.{placeLeft}
 use Rattle.gritstrut.specs.Writing.{FileLeaves, OneFile}
 

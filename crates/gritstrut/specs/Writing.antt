@@ -6,7 +6,7 @@ use lib.ListN.{length}
 use lib.Ieee.{Float}
 use Rattle.workspace.specs.Tables.{Answer, number, output}
 use Rattle.workspace.specs.Tables as Tables
-use Rattle.record_write_call.specs.Promise.{outcomeOf, WritesFile}
+use Rattle.problem_write_call.specs.Promise.{outcomeOf, WritesFile}
 use Rattle.gritstrut.specs.Interface.{placeLeft}
 
 pub record FileLeaves (c : Answer (List ℕ)) (k bytes bytes' place place' : ℕ) (out out' : List ℕ) (w w' : List Float) (iw iw' : List ℕ) : Type 0 where

@@ -1,9 +1,9 @@
 // The C function that writes problem files.
-ghost use Rattle.record_write.specs.Lent.{lentOf};
-ghost use Rattle.record_write_call.specs.Promise.{writeCall};
+ghost use Rattle.problem_write.specs.Lent.{lentOf};
+ghost use Rattle.problem_write_call.specs.Promise.{writeCall};
 ghost use Rattle.gritstrut.specs.Writing.{FileLeaves};
-use record_write_call::Outcome;
-use record_write_call::Problems;
+use problem_write_call::Outcome;
+use problem_write_call::Problems;
 
 // Writes a problem, its numbers as bits, as the record program's input.
 #[no_mangle]

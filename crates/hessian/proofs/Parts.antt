@@ -7,7 +7,7 @@ use lib.ListN.{length, take, drop}
 use lib.Ieee.{Float}
 use Rattle.numbers.specs.Numbers.{at, dot, row}
 use Rattle.numbers.proofs.Lists.{part-row, by-entries, tab-same}
-use Rattle.workspace.specs.inner.Readings.{vec}
+use Rattle.workspace.specs.Readings.{vec}
 
 -- row i, lent as a part of B
 pub times-entry : (n i : ℕ) (b v : List Float) (x : Float) → i * n + n ≤ length b → x ≡ dot n (take (i * n + n - i * n) (drop (i * n) b)) v → x ≡ dot n (row n i b) v

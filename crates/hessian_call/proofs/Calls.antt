@@ -10,7 +10,7 @@ use Rattle.workspace.specs.Tables.{Answer, done, call, isDimension, isRoom, has
 use Rattle.workspace.specs.declared.Refusal.the-variants.{Size, Length, Room}
 use Rattle.workspace.specs.declared.Outcome.{Outcome}
 use Rattle.workspace.specs.declared.Outcome.the-variants.{Done, Refused}
-use Rattle.workspace.specs.inner.Readings.{Cleared}
+use Rattle.workspace.specs.Readings.{Cleared}
 use Rattle.workspace.proofs.Tests.{and-true, dimension-le, has-length, room-ge}
 use Rattle.hessian_call.specs.Promise.{Writes}
 use Rattle.hessian.specs.inner.Work.{FactorMade}

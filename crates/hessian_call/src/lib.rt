@@ -4,7 +4,7 @@ ghost use mathlib.Core.Bool.{_&&_};
 ghost use Prim.Native.Nat.{_+_, _*_, _≤_};
 ghost use lib.Dec.{eqb};
 ghost use lib.ListN.{length};
-ghost use Rattle.workspace.specs.inner.Readings.{Cleared};
+ghost use Rattle.workspace.specs.Readings.{Cleared};
 ghost use Rattle.hessian.specs.Hessian.{cholesky, update};
 ghost use Rattle.hessian.specs.inner.Work.{FactorMade};
 ghost use Rattle.hessian_call.specs.Promise.{Writes, identityCall, timesCall, choleskyCall, updateCall};

@@ -14,7 +14,7 @@ use Rattle.numbers.specs.Numbers.{Σ, at, tab, dot, entry, _⊗_}
 use Rattle.numbers.proofs.Sums.{Σ-same}
 use Rattle.numbers.proofs.Lists.{length-tab, getD-tab, tab-same, tab-of}
 use Rattle.numbers.proofs.Cases.{lt-or-ge, last-or-before}
-use Rattle.workspace.specs.inner.Readings.{vec, Block}
+use Rattle.workspace.specs.Readings.{vec, Block}
 use Rattle.hessian_packed.specs.Packed.{count, place, triangle}
 
 -- one row more

@@ -8,7 +8,7 @@ use lib.ListN.{length}
 use lib.Ieee.{Float}
 use Rattle.numbers.specs.Numbers.{at, nth, gather, scatter, row}
 use Rattle.numbers.proofs.Lists.{scatter-same}
-use Rattle.workspace.specs.inner.Readings.{vec, stack, nums, Block}
+use Rattle.workspace.specs.Readings.{vec, stack, nums, Block}
 use Rattle.workspace.proofs.Readings.{at-vec, vec-is, vec-same, mat-same, stack-same, row-stack, nth-front, nums-same}
 use Rattle.householder.specs.Qr.{Factors, factor, image, reflect, forth}
 use Rattle.householder.specs.Claims.{Permutation}

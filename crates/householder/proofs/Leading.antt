@@ -28,7 +28,7 @@ use Rattle.numbers.proofs.Sums.{Σ-same}
 use Rattle.numbers.proofs.Lists.{length-column, at-column}
 use Rattle.numbers.proofs.Monotone.{keeps-order}
 use Rattle.numbers.proofs.Apart.{sets-apart, root-over, root-under, root-up}
-use Rattle.workspace.specs.inner.Readings.{mat}
+use Rattle.workspace.specs.Readings.{mat}
 use Rattle.workspace.proofs.Readings.{entry-mat}
 use Rattle.householder.specs.Qr.{columnNorm, better, pivot}
 use Rattle.householder.specs.inner.Search.{product, squares, four, shown, taken, weighed, compared, clear, Rooted, Judged, JudgedFour, SureFour, Leads}

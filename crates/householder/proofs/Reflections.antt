@@ -11,7 +11,7 @@ use borrow.Author.Tests.{lt-ltb, le-ltb}
 use Rattle.numbers.specs.Numbers.{+0, _⊕_, _⊗_, _⊘_, Σ, at, tab}
 use Rattle.numbers.proofs.Cases.{lt-or-ge}
 use Rattle.numbers.proofs.Sums.{Σ-same}
-use Rattle.workspace.specs.inner.Readings.{vec, Block}
+use Rattle.workspace.specs.Readings.{vec, Block}
 use Rattle.workspace.proofs.Readings.{lit-+0, at-vec, vec-is, vec-same}
 use Rattle.householder.specs.Qr.{along, image}
 use Rattle.householder.specs.inner.Search.{product}

@@ -10,7 +10,7 @@ use lib.Seq.{getD-set-same, getD-set-other}
 use lib.Ieee.{Float, binary64, eq, ofBits, nan}
 use Rattle.numbers.specs.Numbers.{_⊕_, _⊗_, _⊘_, at}
 use Rattle.numbers.proofs.Cases.{lt-or-ge}
-use Rattle.workspace.specs.inner.Readings.{vec}
+use Rattle.workspace.specs.Readings.{vec}
 use Rattle.workspace.proofs.Readings.{vec-same}
 use Rattle.householder.specs.declared.Four.{Four}
 use Rattle.householder.specs.Qr.{image}

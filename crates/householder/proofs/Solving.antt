@@ -11,7 +11,7 @@ use lib.Ieee.{Float, nan}
 use Rattle.numbers.specs.Numbers.{+0, _⊖_, _⊗_, _⊘_, Σ, at, nth, scatter, entry}
 use Rattle.numbers.proofs.Sums.{Σ-same}
 use Rattle.numbers.proofs.Lists.{tab-replicate, scatter-same}
-use Rattle.workspace.specs.inner.Readings.{vec, mat, nums, Block}
+use Rattle.workspace.specs.Readings.{vec, mat, nums, Block}
 use Rattle.workspace.proofs.Readings.{at-vec, vec-same, vec-set, entry-mat, nth-nums}
 use Rattle.workspace.proofs.Writes.{block-vec}
 use Rattle.householder.specs.Qr.{image, forth, back, applyQt, applyQ, upward, solveR, downward, solveRt, solve}

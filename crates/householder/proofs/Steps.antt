@@ -14,7 +14,7 @@ use borrow.Author.Tests.{lt-ltb, le-ltb, eq-eqb, ne-eqb}
 use Rattle.numbers.specs.Numbers.{+0, epsilon, _⊗_, at, nth, tab, entry, rows, row, column, transposed}
 use Rattle.numbers.proofs.Cases.{lt-or-ge, eq-or-ne}
 use Rattle.numbers.proofs.Lists.{tab-replicate}
-use Rattle.workspace.specs.inner.Readings.{vec, mat, stack, nums, Block}
+use Rattle.workspace.specs.Readings.{vec, mat, stack, nums, Block}
 use Rattle.workspace.proofs.Readings.{at-vec, vec-is, vec-same, vec-set, vec-mat, entry-mat, mat-is, mat-same, mat-stack, stack-is, stack-same, row-stack, nth-front, nums-set-front}
 use Rattle.householder.specs.Qr.{Factors, columnNorm, pivot, swapped, signed, reflector, pinned, stepped, advance, tolerance, stopIf, steps, start, factor}
 use Rattle.householder.specs.inner.Work.{held, Unmade, Turned, Exchanged, Prepared, diagonalOf}

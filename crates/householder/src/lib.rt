@@ -11,7 +11,7 @@ ghost use lib.Dec.{eqb};
 ghost use lib.Ieee.{Float};
 ghost use lib.ListN.{length};
 ghost use Rattle.numbers.specs.Numbers.{at, nth, tab};
-ghost use Rattle.workspace.specs.inner.Readings.{vec, mat, nums, Block};
+ghost use Rattle.workspace.specs.Readings.{vec, mat, nums, Block};
 ghost use Rattle.householder.specs.Qr.{pivot, tolerance, signed, advance, factor, solve};
 ghost use Rattle.householder.specs.inner.Search.{product, four};
 ghost use Rattle.householder.specs.inner.Work.{held, Unmade, Turned, Prepared, AppliedQt, AppliedFour, AppliedQ, SolvedR, SolvedRt, SolvedFour, Placed};

@@ -7,7 +7,7 @@ ghost use lib.Ieee.{le};
 ghost use lib.ListN.{length};
 ghost use Rattle.numbers.specs.Root.{sqrtOf};
 ghost use Rattle.numbers.specs.Rounded.{IsUnits};
-ghost use Rattle.workspace.specs.inner.Readings.{mat};
+ghost use Rattle.workspace.specs.Readings.{mat};
 ghost use Rattle.householder.specs.Qr.{pivot};
 ghost use Rattle.householder.specs.inner.Search.{shown, weighed, compared, clear, squares, four, SureFour, Judged, JudgedFour, Leads};
 ghost use Rattle.householder.specs.inner.Work.{Kept};

@@ -3,7 +3,7 @@ ghost use mathlib.Core.Path.{_≡_};
 ghost use Prim.Native.Nat.{_+_, _-_, _*_, _<_, _≤_};
 ghost use lib.ListN.{length, set};
 ghost use Rattle.numbers.specs.Numbers.{at, nth, _⊕_, _⊗_};
-ghost use Rattle.workspace.specs.inner.Readings.{Block};
+ghost use Rattle.workspace.specs.Readings.{Block};
 ghost use Rattle.householder.specs.inner.Search.{product};
 ghost use Rattle.householder.specs.inner.Work.{Reflected, Exchanged, Moved};
 ghost use Rattle.householder.specs.inner.Places.{QR_SIDE, QR_MATRIX};

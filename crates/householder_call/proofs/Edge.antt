@@ -10,7 +10,7 @@ use lib.Ieee.{Float}
 use borrow.Author.Tests.{eqb-true}
 use Rattle.numbers.specs.Numbers.{+0}
 use Rattle.workspace.specs.Tables.{done}
-use Rattle.workspace.specs.inner.Readings.{vec, mat, stack, nums, Cleared}
+use Rattle.workspace.specs.Readings.{vec, mat, stack, nums, Cleared}
 use Rattle.workspace.proofs.Parts.{vec-front, mat-front, stack-front, nums-front, front-cleared}
 use Rattle.workspace.proofs.Tests.{and-true}
 use Rattle.householder.specs.Qr.{Factors, factor}

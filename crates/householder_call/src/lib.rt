@@ -4,7 +4,7 @@ ghost use mathlib.Core.Bool.{_&&_};
 ghost use Prim.Native.Nat.{_+_, _*_, _≤_, min};
 ghost use lib.Dec.{eqb};
 ghost use lib.ListN.{length};
-ghost use Rattle.workspace.specs.inner.Readings.{vec, mat, stack, nums};
+ghost use Rattle.workspace.specs.Readings.{vec, mat, stack, nums};
 ghost use Rattle.householder.specs.Qr.{factor};
 ghost use Rattle.householder.specs.inner.Work.{held};
 ghost use Rattle.householder_call.specs.Promise.{qrCall, Factored};

@@ -14,7 +14,7 @@ use Rattle.numbers.proofs.Cases.{lt-or-ge}
 use Rattle.numbers.proofs.Lists.{getD-tab, tab-same}
 use Rattle.numbers.proofs.Sums.{Σ-same}
 use Rattle.workspace.specs.Tables.{Answer, done, infeasible, iterationCap}
-use Rattle.workspace.specs.inner.Readings.{vec, mat, stack, nums, Block}
+use Rattle.workspace.specs.Readings.{vec, mat, stack, nums, Block}
 use Rattle.workspace.proofs.Readings.{at-vec, vec-is, entry-mat, mat-is, mat-same, entry-stack}
 use Rattle.workspace.proofs.Writes.{written-more, written-as, block-vec}
 use Rattle.nnls.specs.Counted.{Counted, then, andThen}

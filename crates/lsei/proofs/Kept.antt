@@ -7,7 +7,7 @@ use lib.ListN.{length, take, drop, List·getD-append}
 use lib.Seq.{getD-take, getD-drop, getD-append-add}
 use lib.Ieee.{Float, nan}
 use Rattle.numbers.specs.Numbers.{at, nth}
-use Rattle.workspace.specs.inner.Readings.{mat, nums}
+use Rattle.workspace.specs.Readings.{mat, nums}
 use Rattle.workspace.proofs.Readings.{mat-same, length-mat, nth-front}
 use Rattle.householder.specs.Qr.{Factors, factor}
 use Rattle.householder.specs.Claims.{SoundFactors}

@@ -11,7 +11,7 @@ use Rattle.numbers.specs.Numbers.{at, nth, tab, gather, row, dot, Σ, _⊖_, _�
 use Rattle.numbers.proofs.Cases.{lt-or-ge}
 use Rattle.numbers.proofs.Lists.{tab-same, getD-tab}
 use Rattle.numbers.proofs.Sums.{Σ-same}
-use Rattle.workspace.specs.inner.Readings.{vec, stack, nums, Block}
+use Rattle.workspace.specs.Readings.{vec, stack, nums, Block}
 use Rattle.workspace.proofs.Readings.{at-vec, vec-is, vec-same, nth-nums, row-stack, stack-is, stack-same}
 use Rattle.householder.specs.Qr.{Factors, applyQt, solveRt}
 use Rattle.householder.specs.inner.Work.{held, AppliedQt, SolvedRt, SolvedFour}

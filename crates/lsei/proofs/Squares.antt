@@ -12,7 +12,7 @@ use lib.Ieee.{Float}
 use Rattle.numbers.specs.Numbers.{+0, at, nth, tab, scatter, _⊕_}
 use Rattle.numbers.proofs.Lists.{tab-replicate, scatter-same}
 use Rattle.workspace.specs.Tables.{Answer, done, rankDeficient}
-use Rattle.workspace.specs.inner.Readings.{vec, nums, Block}
+use Rattle.workspace.specs.Readings.{vec, nums, Block}
 use Rattle.workspace.proofs.Readings.{at-vec, vec-is, vec-same, nth-nums}
 use Rattle.workspace.proofs.Writes.{block-vec}
 use Rattle.householder.specs.Qr.{Factors, factor, applyQt, solveR, standing}

@@ -14,7 +14,7 @@ use borrow.Rule.Slice.PartMut.{midOf, putMid}
 use borrow.Author.Tests.{lt-ltb, le-ltb}
 use Rattle.numbers.specs.Numbers.{at, nth}
 use Rattle.numbers.proofs.Lists.{tab-same}
-use Rattle.workspace.specs.inner.Readings.{vec, mat, stack}
+use Rattle.workspace.specs.Readings.{vec, mat, stack}
 use Rattle.workspace.proofs.Readings.{vec-same, vec-part, stack-same, stack-part, nth-front}
 use Rattle.workspace.proofs.Parts.{lent-is, back-part, back-get}
 use Rattle.householder.specs.Qr.{Factors, factor, applyQt}

@@ -6,7 +6,7 @@ ghost use Prim.Native.Nat.{ℕ, _+_, _*_, _/_, _<_, _≤_};
 ghost use lib.Dec.{ltb};
 ghost use lib.ListN.{length};
 ghost use Rattle.numbers.specs.Numbers.{+0, one, at, nth, Σ, _⊕_, _⊖_, _⊗_, _⊘_};
-ghost use Rattle.workspace.specs.inner.Readings.{vec, mat, stack, Block};
+ghost use Rattle.workspace.specs.Readings.{vec, mat, stack, Block};
 ghost use Rattle.workspace.specs.Tables.{outcomeOf};
 ghost use Rattle.lsei.specs.Lsei.{Solution, dualSide, dualResidual, primal, ldp, lsi};
 ghost use Rattle.nnls.specs.inner.Dual.{fourOf};

@@ -15,7 +15,7 @@ use Rattle.numbers.proofs.Cases.{lt-or-ge}
 use Rattle.workspace.specs.Tables.{Answer, outcomeOf, floats, words, cleared}
 use Rattle.workspace.specs.declared.Outcome.{Outcome}
 use Rattle.workspace.specs.declared.Outcome.the-variants.{Done}
-use Rattle.workspace.specs.inner.Readings.{vec, Block, Cleared}
+use Rattle.workspace.specs.Readings.{vec, Block, Cleared}
 use Rattle.workspace.proofs.Readings.{at-vec, length-vec}
 use Rattle.workspace.proofs.Parts.{vec-front, front-cleared}
 use Rattle.nnls.specs.Counted.{Counted}

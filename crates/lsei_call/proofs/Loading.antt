@@ -7,7 +7,7 @@ use lib.ListN.{length}
 use lib.Ieee.{Float}
 use Rattle.numbers.specs.Numbers.{at}
 use Rattle.numbers.proofs.Lists.{tab-same, by-entries}
-use Rattle.workspace.specs.inner.Readings.{vec, mat, stack, Block, Loaded, Stacked}
+use Rattle.workspace.specs.Readings.{vec, mat, stack, Block, Loaded, Stacked}
 use Rattle.workspace.proofs.Readings.{vec-same, mat-same, stack-same}
 use Rattle.workspace.proofs.Writes.{block-vec}
 use Rattle.lsei.specs.inner.Work.{sides, Spaced}

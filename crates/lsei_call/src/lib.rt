@@ -1,26 +1,26 @@
 // The public LDP, LSI and LSEI: tests, the problem into the lent workspaces, and the answer out.
+mod arguments;
 mod inputs;
-mod tests;
 
 ghost use mathlib.Core.Path.{_≡_};
 ghost use mathlib.Core.List.{_++_};
 ghost use Prim.Native.Nat.{ℕ, _+_, _*_, _<_, _≤_};
 ghost use lib.ListN.{length};
-ghost use Rattle.workspace.specs.inner.Readings.{vec};
+ghost use Rattle.workspace.specs.Readings.{vec};
 ghost use Rattle.lsei.specs.Lsei as Definition;
 ghost use Rattle.lsei_call.specs.Promise.{ldpCall, lsiCall, lseiCall, Solves};
 ghost use Rattle.lsei.specs.inner.Work.{endingAnswer, endedSolution, distanceIn, squaresIn};
 ghost use Rattle.lsei_nullspace.specs.inner.Work.{solutionIn};
 ghost use Rattle.lsei_call.specs.inner.Work.{LdpInput, LsiInput, LseiInput, SolutionGiven};
+use crate::arguments::are_lengths_ldp;
+use crate::arguments::are_lengths_lsei;
+use crate::arguments::are_lengths_lsi;
+use crate::arguments::is_ldp;
+use crate::arguments::is_lsei;
+use crate::arguments::is_lsi;
 use crate::inputs::load_lsei;
 use crate::inputs::load_lsi;
 use crate::inputs::load_rows;
-use crate::tests::are_lengths_ldp;
-use crate::tests::are_lengths_lsei;
-use crate::tests::are_lengths_lsi;
-use crate::tests::is_ldp;
-use crate::tests::is_lsei;
-use crate::tests::is_lsi;
 use workspace::Outcome;
 use workspace::Refusal;
 

@@ -6,7 +6,7 @@ use native.Mathlib.Omega.{arith}
 use lib.Ieee.{Float}
 use Rattle.numbers.specs.Numbers.{at, Σ, _⊖_, _⊗_}
 use Rattle.numbers.proofs.Sums.{Σ-same}
-use Rattle.workspace.specs.inner.Readings.{Block}
+use Rattle.workspace.specs.Readings.{Block}
 use Rattle.nnls.specs.inner.Dual.{sumAt, fourOf}
 use Rattle.nnls.specs.declared.dual.Four.{Four}
 use Rattle.lsei_nullspace.specs.inner.Work.{slopeIn}

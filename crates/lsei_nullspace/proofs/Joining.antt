@@ -11,7 +11,7 @@ use Rattle.numbers.specs.Numbers.{+0, at, nth, tab, entry, Σ, _⊖_, _⊗_}
 use Rattle.numbers.proofs.Cases.{lt-or-ge}
 use Rattle.numbers.proofs.Lists.{tab-of, getD-tab}
 use Rattle.numbers.proofs.Sums.{Σ-same}
-use Rattle.workspace.specs.inner.Readings.{vec, stack, Block}
+use Rattle.workspace.specs.Readings.{vec, stack, Block}
 use Rattle.workspace.proofs.Readings.{at-vec, vec-is, length-vec, entry-stack}
 use Rattle.householder.specs.Qr.{applyQt, applyQ, solveR, solveRt}
 use Rattle.householder.specs.inner.Work.{held, AppliedQt, AppliedQ, SolvedR, SolvedRt, Placed}

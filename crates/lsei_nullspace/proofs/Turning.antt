@@ -11,7 +11,7 @@ use Rattle.numbers.specs.Numbers.{at, tab, dot, entry, rows, grid, row, Σ, _�
 use Rattle.numbers.proofs.Cases.{lt-or-ge}
 use Rattle.numbers.proofs.Lists.{tab-same, tab-of, getD-tab, entry-rows, length-row}
 use Rattle.numbers.proofs.Sums.{Σ-same}
-use Rattle.workspace.specs.inner.Readings.{vec, mat, stack, Block}
+use Rattle.workspace.specs.Readings.{vec, mat, stack, Block}
 use Rattle.workspace.proofs.Readings.{at-vec, vec-is, vec-same, length-vec, mat-is, row-stack, stack-is}
 use Rattle.householder.specs.Qr.{Factors, applyQt}
 use Rattle.householder.specs.inner.Work.{held, AppliedQt, AppliedFour}

@@ -6,7 +6,7 @@ ghost use Prim.Native.Nat.{ℕ, _+_, _-_, _*_, _/_, _<_, _≤_};
 ghost use lib.Ieee.{Float};
 ghost use lib.ListN.{length};
 ghost use Rattle.numbers.specs.Numbers.{at, nth, Σ, _⊖_, _⊗_};
-ghost use Rattle.workspace.specs.inner.Readings.{vec, stack, Block};
+ghost use Rattle.workspace.specs.Readings.{vec, stack, Block};
 ghost use Rattle.nnls.specs.inner.Dual.{fourOf};
 ghost use Rattle.lsei.specs.Lsei.{lsei};
 ghost use Rattle.lsei.specs.inner.Work.{endedSolution, sides, Spaced};

@@ -8,7 +8,7 @@ use lib.Dec.{eqb}
 use lib.Ieee.{Float, nan, inf, fin, lt, isNan, ne}
 use borrow.Author.Tests.{eq-eqb, ne-eqb}
 use Rattle.numbers.specs.Numbers.{+0, at, nth, _⊖_, _⊘_}
-use Rattle.workspace.specs.inner.Readings.{vec, nums}
+use Rattle.workspace.specs.Readings.{vec, nums}
 use Rattle.workspace.proofs.Readings.{at-vec, nth-front}
 use Rattle.nnls.specs.Nnls.{above0, upTo0, ratioOf, ranksBefore, free, block, sooner, blocking}
 use Rattle.nnls.specs.inner.Work.{nearestOf, nearerOf}

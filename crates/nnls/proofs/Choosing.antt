@@ -10,7 +10,7 @@ use lib.Dec.{eqb}
 use lib.Ieee.{Float, lt}
 use borrow.Author.Tests.{eq-eqb, ne-eqb}
 use Rattle.numbers.specs.Numbers.{at, nth}
-use Rattle.workspace.specs.inner.Readings.{vec, nums}
+use Rattle.workspace.specs.Readings.{vec, nums}
 use Rattle.workspace.proofs.Readings.{at-vec, nth-nums, nth-front}
 use Rattle.nnls.specs.Nnls.{above0, beats, choose}
 use Rattle.nnls.specs.inner.Work.{candidateOf, betterOf}

@@ -15,7 +15,7 @@ use lib.Ieee.{Float}
 use borrow.Author.Tests.{eq-eqb, ne-eqb}
 use Rattle.numbers.specs.Numbers.{at, nth, tab}
 use Rattle.numbers.proofs.Lists.{tab-of, tab-same}
-use Rattle.workspace.specs.inner.Readings.{vec, mat, nums}
+use Rattle.workspace.specs.Readings.{vec, mat, nums}
 use Rattle.workspace.proofs.Readings.{at-vec, nth-front, nth-nums, length-nums}
 use Rattle.workspace.proofs.Writes.{written-none, written-more, span-nums}
 use Rattle.nnls_passive.specs.Passive.{isIn, Solved}

@@ -10,7 +10,7 @@ use lib.Pow.{pow-mono}
 use lib.Seq.{ext-getD}
 use Rattle.numbers.specs.Numbers.{nth}
 use Rattle.numbers.proofs.Cases.{lt-or-ge}
-use Rattle.workspace.specs.inner.Readings.{nums}
+use Rattle.workspace.specs.Readings.{nums}
 use Rattle.workspace.proofs.Readings.{nth-front}
 use Rattle.nnls.specs.inner.Memory.{bits, front, Digits}
 

@@ -7,7 +7,7 @@ use lib.ListN.{replicate}
 use lib.Ieee.{Float, nan}
 use Rattle.numbers.specs.Numbers.{at, Σ, _⊖_, _⊗_}
 use Rattle.numbers.proofs.Lists.{getD-tab}
-use Rattle.workspace.specs.inner.Readings.{vec, mat, nums, Block, Span}
+use Rattle.workspace.specs.Readings.{vec, mat, nums, Block, Span}
 use Rattle.workspace.proofs.Readings.{vec-is, at-vec, entry-mat}
 use Rattle.numbers.proofs.Sums.{Σ-same}
 use Rattle.nnls.specs.Nnls.{residual, dualOf}

@@ -7,7 +7,7 @@ use lib.ListN.{length, set, length-set}
 use lib.Ieee.{Float, nan}
 use Rattle.numbers.specs.Numbers.{at, Σ, _⊖_, _⊗_}
 use Rattle.numbers.proofs.Sums.{Σ-same}
-use Rattle.workspace.specs.inner.Readings.{Block}
+use Rattle.workspace.specs.Readings.{Block}
 use Rattle.workspace.proofs.Writes.{written-more}
 use Rattle.nnls.specs.inner.Dual.{residualAt, dualAt, fourOf, setFour}
 use Rattle.nnls.specs.declared.dual.Four.{Four}

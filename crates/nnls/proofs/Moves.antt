@@ -11,7 +11,7 @@ use lib.Seq.{getD-set-same, getD-set-other}
 use lib.Ieee.{Float, nan}
 use borrow.Author.Tests.{eq-eqb, ne-eqb}
 use Rattle.numbers.specs.Numbers.{+0, at, nth, _⊕_, _⊖_, _⊗_}
-use Rattle.workspace.specs.inner.Readings.{vec, nums}
+use Rattle.workspace.specs.Readings.{vec, nums}
 use Rattle.workspace.proofs.Readings.{vec-is, at-vec, nums-is, nth-front}
 use Rattle.numbers.proofs.Cases.{lt-or-ge}
 use Rattle.nnls.specs.Nnls.{upTo0, nextX, nextMark, moveX, moveP, stepTo}

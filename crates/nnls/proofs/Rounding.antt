@@ -8,7 +8,7 @@ use native.Mathlib.Omega.{arith}
 use lib.ListN.{length, replicate}
 use lib.Ieee.{Float}
 use Rattle.numbers.specs.Numbers.{+0, nth}
-use Rattle.workspace.specs.inner.Readings.{nums}
+use Rattle.workspace.specs.Readings.{nums}
 use Rattle.workspace.proofs.Readings.{nth-front}
 use Rattle.nnls.specs.Nnls.{kept, ended, tries, Settled, turns, accept, pass, rounds, activeSet, nnls}
 use Rattle.nnls.specs.inner.State.{State, put, solveIn, dualIn, Rounded}

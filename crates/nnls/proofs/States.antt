@@ -8,7 +8,7 @@ use lib.ListN.{length, set, replicate}
 use lib.Ieee.{Float}
 use Rattle.numbers.specs.Numbers.{+0, at, nth, tab}
 use Rattle.numbers.proofs.Lists.{tab-replicate}
-use Rattle.workspace.specs.inner.Readings.{vec, mat, nums, Block, Span}
+use Rattle.workspace.specs.Readings.{vec, mat, nums, Block, Span}
 use Rattle.workspace.proofs.Readings.{vec-is, vec-same, mat-same, nums-same}
 use Rattle.workspace.proofs.Writes.{block-vec, span-nums}
 use Rattle.nnls_passive.specs.inner.Work.{PassiveSolved}

@@ -2,7 +2,7 @@
 ghost use mathlib.Core.Path.{_≡_};
 ghost use Prim.Native.Nat.{_+_, _*_, _/_, _<_, _≤_};
 ghost use lib.ListN.{length};
-ghost use Rattle.workspace.specs.inner.Readings.{Block};
+ghost use Rattle.workspace.specs.Readings.{Block};
 ghost use Rattle.nnls.specs.inner.Dual.{sumAt, residualAt, dualAt, fourOf, setFour};
 ghost use Rattle.nnls_passive.specs.inner.Places.{NNLS_DUAL, NNLS_RESIDUAL, NNLS_ROOM};
 

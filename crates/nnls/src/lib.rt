@@ -7,7 +7,7 @@ ghost use mathlib.Core.Path.{_≡_};
 ghost use Prim.Native.Nat.{_+_, _*_, _<_, _≤_};
 ghost use lib.ListN.{length, replicate};
 ghost use Rattle.numbers.specs.Numbers.{+0, nth};
-ghost use Rattle.workspace.specs.inner.Readings.{vec, mat, nums};
+ghost use Rattle.workspace.specs.Readings.{vec, mat, nums};
 ghost use Rattle.nnls.specs.Nnls as Nnls;
 ghost use Rattle.nnls.specs.inner.State.{read, solveIn, dualIn, Rounded};
 ghost use Rattle.nnls.specs.inner.Work.{betterOf, trialOf, nearerOf, obstacleOf, Moved, TriedColumn, Passed, TurnsTaken};

@@ -3,7 +3,7 @@ ghost use mathlib.Core.Path.{_≡_};
 ghost use Prim.Native.Nat.{ℕ, _+_, _-_, _*_, _<_, _≤_};
 ghost use lib.ListN.{length};
 ghost use Rattle.numbers.specs.Numbers.{nth};
-ghost use Rattle.workspace.specs.inner.Readings.{nums};
+ghost use Rattle.workspace.specs.Readings.{nums};
 ghost use Rattle.nnls.specs.inner.Memory.{bits, front, Repeated, MayLook, LookedBack, Noted, Placed, SoughtFor, SoughtRound, Recorded, MayFinish, CameBack};
 ghost use Rattle.nnls_passive.specs.inner.Places.{NNLS_WORDS};
 

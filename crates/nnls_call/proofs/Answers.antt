@@ -12,7 +12,7 @@ use Rattle.numbers.specs.Numbers.{+0, at}
 use Rattle.numbers.proofs.Lists.{by-entries}
 use Rattle.workspace.specs.Tables.{done, iterationCap, isMatrix}
 use Rattle.workspace.specs.declared.Refusal.the-variants.{Capped}
-use Rattle.workspace.specs.inner.Readings.{vec, mat, Block, Loaded, Cleared}
+use Rattle.workspace.specs.Readings.{vec, mat, Block, Loaded, Cleared}
 use Rattle.workspace.proofs.Readings.{mat-same}
 use Rattle.workspace.proofs.Writes.{block-vec}
 use Rattle.workspace.proofs.Parts.{vec-front, front-cleared}

@@ -7,7 +7,7 @@ use native.Mathlib.Omega.{arith}
 use lib.Ieee.{Float}
 use Rattle.numbers.specs.Numbers.{at, nth, entry, grid}
 use Rattle.numbers.proofs.Cases.{lt-or-ge}
-use Rattle.workspace.specs.inner.Readings.{mat, Block}
+use Rattle.workspace.specs.Readings.{mat, Block}
 use Rattle.workspace.proofs.Readings.{mat-is, entry-mat}
 use Rattle.nnls_passive.specs.inner.Work.{Collected}
 

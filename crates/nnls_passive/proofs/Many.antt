@@ -12,7 +12,7 @@ use lib.ListN.{length, set, length-append}
 use lib.Seq.{getD-set-same, getD-set-other}
 use borrow.Author.Tests.{ne-eqb}
 use Rattle.numbers.specs.Numbers.{nth, entry, grid}
-use Rattle.workspace.specs.inner.Readings.{nums}
+use Rattle.workspace.specs.Readings.{nums}
 use Rattle.numbers.proofs.Cases.{last-or-before}
 use Rattle.workspace.proofs.Readings.{nth-nums, nth-front, nums-set-front}
 use Rattle.householder.specs.Qr.{factor}

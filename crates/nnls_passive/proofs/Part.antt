@@ -8,7 +8,7 @@ use lib.Seq.{getD-drop}
 use lib.Ieee.{Float, nan}
 use borrow.Rule.Slice.PartMut.{midOf, putMid}
 use Rattle.numbers.specs.Numbers.{at}
-use Rattle.workspace.specs.inner.Readings.{vec, mat, Block}
+use Rattle.workspace.specs.Readings.{vec, mat, Block}
 use Rattle.workspace.proofs.Readings.{vec-is, vec-part, mat-part}
 use Rattle.workspace.proofs.Writes.{block-vec}
 use Rattle.workspace.proofs.Parts.{lent-is, back-part, back-get}

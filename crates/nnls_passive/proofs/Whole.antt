@@ -10,7 +10,7 @@ use lib.ListN.{drop, replicate}
 use lib.Ieee.{Float}
 use Rattle.numbers.specs.Numbers.{+0, at, nth, scatter, entry, grid}
 use Rattle.numbers.proofs.Lists.{tab-replicate, scatter-same}
-use Rattle.workspace.specs.inner.Readings.{vec, mat, nums, Block}
+use Rattle.workspace.specs.Readings.{vec, mat, nums, Block}
 use Rattle.workspace.proofs.Readings.{vec-same, length-mat, nth-nums}
 use Rattle.workspace.proofs.Writes.{block-vec}
 use Rattle.householder.specs.Qr.{Factors, factor, solve}

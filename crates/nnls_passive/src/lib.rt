@@ -5,7 +5,7 @@ ghost use Prim.Native.Nat.{ℕ, _+_, _*_, _<_, _≤_};
 ghost use lib.Dec.{eqb};
 ghost use lib.ListN.{length, drop};
 ghost use Rattle.numbers.specs.Numbers.{nth};
-ghost use Rattle.workspace.specs.inner.Readings.{nums};
+ghost use Rattle.workspace.specs.Readings.{nums};
 ghost use Rattle.nnls_passive.specs.inner.Work.{Crowded, Listed, Collected, PartFactored, SolvedPart, Spread, PassiveSolved};
 ghost use Rattle.nnls_passive.specs.inner.Places.{NNLS_COLUMNS, NNLS_PERM, NNLS_ROOM, NNLS_WORDS};
 

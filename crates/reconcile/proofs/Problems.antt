@@ -11,7 +11,7 @@ use lib.Ieee.{Float, binary64, div, ofBits, ofInt}
 use borrow.Author.Tests.{ne-eqb}
 use Rattle.numbers.specs.Numbers.{+0, near, one, _⊘_, at, tab, grid}
 use Rattle.numbers.proofs.Lists.{tab-same, tab-replicate}
-use Rattle.workspace.specs.inner.Readings.{vec, stack, Block, Stacked}
+use Rattle.workspace.specs.Readings.{vec, stack, Block, Stacked}
 use Rattle.workspace.proofs.Readings.{lit-one, vec-is, vec-same, stack-is, stack-same}
 use Rattle.workspace.proofs.Writes.{block-vec}
 use Rattle.workspace.proofs.Copies.{Laid, laid-more}

@@ -2,7 +2,7 @@
 ghost use mathlib.Core.Path.{_≡_};
 ghost use Prim.Native.Nat.{_+_, _*_, _≤_};
 ghost use lib.ListN.{length};
-ghost use Rattle.workspace.specs.inner.Readings.{Block};
+ghost use Rattle.workspace.specs.Readings.{Block};
 ghost use Rattle.lsei.specs.inner.Work.{endedSolution};
 ghost use Rattle.lsei_nullspace.specs.inner.Places.{LSEI_F, LSEI_ROOM, LSEI_WORDS};
 ghost use Rattle.lsei_nullspace.specs.inner.Work.{solutionIn};

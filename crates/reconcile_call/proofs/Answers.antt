@@ -11,7 +11,7 @@ use lib.Ieee.{Float}
 use Rattle.workspace.specs.Tables.{Answer, outcomeOf, output}
 use Rattle.workspace.specs.declared.Outcome.{Outcome}
 use Rattle.workspace.specs.declared.Outcome.the-variants.{Done}
-use Rattle.workspace.specs.inner.Readings.{Cleared}
+use Rattle.workspace.specs.Readings.{Cleared}
 use Rattle.nnls.specs.Counted.{Counted}
 use Rattle.lsei.specs.Lsei.{Solution}
 use Rattle.lsei.specs.inner.Work.{endingAnswer, endedSolution}

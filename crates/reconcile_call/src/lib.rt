@@ -1,10 +1,10 @@
 // The public reconciliation of a day: tests, the problem into the lent workspaces, and the answer out.
-mod tests;
+mod arguments;
 
 ghost use mathlib.Core.Path.{_≡_};
 ghost use Prim.Native.Nat.{_+_, _*_, _≤_};
 ghost use lib.ListN.{length};
-ghost use Rattle.workspace.specs.inner.Readings.{vec};
+ghost use Rattle.workspace.specs.Readings.{vec};
 ghost use Rattle.lsei.specs.inner.Work.{endingAnswer};
 ghost use Rattle.lsei_nullspace.specs.inner.Places.{LSEI_ROOM};
 ghost use Rattle.lsei_nullspace.specs.inner.Work.{solutionIn};
@@ -12,10 +12,10 @@ ghost use Rattle.reconcile.specs.Day.{dayOf, corrected};
 ghost use Rattle.reconcile.specs.inner.Work.{Readable};
 ghost use Rattle.reconcile_call.specs.Promise.{dayCall, Reconciles};
 ghost use Rattle.reconcile_call.specs.inner.Work.{DayGiven};
-use crate::tests::are_lengths;
-use crate::tests::test_meters;
-pub use tests::are_sizes;
-pub use tests::is_spread;
+use crate::arguments::are_lengths;
+use crate::arguments::test_meters;
+pub use arguments::are_sizes;
+pub use arguments::is_spread;
 use workspace::Outcome;
 use workspace::Refusal;
 

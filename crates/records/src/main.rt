@@ -1,5 +1,5 @@
 // The record program: standard input to standard output. The first 9,504 bytes decide the answer (`FirstBytesDecide` of
-// record_answer's specs/Claims.antt), so no more is read. A read or a write that fails is told on standard error.
+// problem_answer's specs/Claims.antt), so no more is read. A read or a write that fails is told on standard error.
 use input::Reading;
 use libc::STDERR_FILENO;
 use libc::STDIN_FILENO;
@@ -24,7 +24,7 @@ fn output_room() -> [u8; 2048]
 // Writes the answer to the input.
 fn answer(input: &[u8]) {
     let mut out = output_room();
-    let n = record_answer::respond(input, &mut out);
+    let n = problem_answer::respond(input, &mut out);
     if !io::write_all(STDOUT_FILENO, &out[..n]) {
         io::write_all(
             STDERR_FILENO,

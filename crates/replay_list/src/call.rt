@@ -35,12 +35,12 @@ pub fn size(call: &Call, i: usize) -> usize
 
 // The float that outputs hold before the call.
 pub fn junk(call: &Call) -> f64 {
-    record_read::value(word(call, 32))
+    problem_read::value(word(call, 32))
 }
 
 // The float that the workspace holds before the call.
 pub fn room_junk(call: &Call) -> f64 {
-    record_read::value(word(call, 40))
+    problem_read::value(word(call, 40))
 }
 
 // The counts that the tally holds before the call: the same two words.
@@ -156,7 +156,7 @@ fn no_values() -> Values
 pub fn values_of(call: &Call) -> Values {
     let mut values = no_values();
     for i in 0..1525 {
-        values[i] = record_read::value(word(call, 88 + 8 * i));
+        values[i] = problem_read::value(word(call, 88 + 8 * i));
     }
     values
 }

@@ -13,7 +13,7 @@ use borrow.Author.Tests.{leb-true, eqb-true, not-true}
 use Rattle.numbers.specs.Numbers.{at}
 use Rattle.numbers.proofs.Lists.{length-tab}
 use Rattle.numbers.proofs.Cases.{last-or-before}
-use Rattle.workspace.specs.inner.Readings.{vec}
+use Rattle.workspace.specs.Readings.{vec}
 use Rattle.workspace.proofs.Tests.{and-true}
 use Rattle.workspace.specs.Tables.{Answer, done, refused, number, outcomeNumber, call, test, floats, words, isDimension, isConstraints, isRoom, isTolerance, has}
 use Rattle.workspace.specs.declared.Outcome.{Outcome}

@@ -10,7 +10,7 @@ use lib.ListN.{length, getD}
 use lib.Ieee.{Float, nan}
 use Rattle.numbers.specs.Numbers.{at, tab}
 use Rattle.numbers.proofs.Lists.{length-tab, getD-tab, tab-same, tab-of}
-use Rattle.workspace.specs.inner.Readings.{vec, nums, Written, Block}
+use Rattle.workspace.specs.Readings.{vec, nums, Written, Block}
 use Rattle.search.specs.Layout.{fronted, laid}
 
 -- ---- laying

@@ -15,7 +15,7 @@ use Rattle.nnls.proofs.Signs.{T→true}
 use Rattle.search.proofs.Laying.{size, laid-in, laid-below, laid-above, vec-below, vec-above, vec-laid, nums-above, nums-here}
 use Rattle.search.proofs.Reported.{report-read}
 use Rattle.workspace.specs.Tables.{isDimension, isConstraints}
-use Rattle.workspace.specs.inner.Readings.{vec, nums}
+use Rattle.workspace.specs.Readings.{vec, nums}
 use Rattle.search.specs.Setup.{Setup, isBudget, isScheme, areKinds, Scheme, told, forward, central, Point, Report, Question, values, slopes, single, Ending, converged, infeasible, exhausted, nonfinite}
 use Rattle.search.specs.Turn.{Iterate, Line, backtracks, pointOf, along, raise, lower}
 use Rattle.search.specs.Written.{Goal, begun, taken, Standing, over, waits}

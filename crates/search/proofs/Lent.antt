@@ -9,7 +9,7 @@ use lib.Ieee.{Float, nan}
 use borrow.Rule.Slice.PartMut.{putMid}
 use Rattle.numbers.specs.Numbers.{at, nth}
 use Rattle.numbers.proofs.Lists.{tab-of, by-entries}
-use Rattle.workspace.specs.inner.Readings.{vec, nums, Block}
+use Rattle.workspace.specs.Readings.{vec, nums, Block}
 use Rattle.search.specs.Layout.{fronted, laid}
 use Rattle.search.proofs.Laying.{written-laid}
 

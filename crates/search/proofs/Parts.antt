@@ -9,7 +9,7 @@ use lib.Ieee.{Float, nan}
 use borrow.Rule.Slice.PartMut.{midOf, putMid}
 use Rattle.numbers.specs.Numbers.{+0, at}
 use Rattle.numbers.proofs.Lists.{tab-same, tab-replicate}
-use Rattle.workspace.specs.inner.Readings.{vec, Block}
+use Rattle.workspace.specs.Readings.{vec, Block}
 use Rattle.workspace.proofs.Readings.{length-vec}
 use Rattle.search.specs.Layout.{fronted, laid}
 use Rattle.search.proofs.Laying.{written-laid}

@@ -5,7 +5,7 @@ use mathlib.Core.List.{List}
 use native.Mathlib.Omega.{arith}
 use lib.ListN.{length}
 use lib.Ieee.{Float}
-use Rattle.workspace.specs.inner.Readings.{vec}
+use Rattle.workspace.specs.Readings.{vec}
 use Rattle.search.specs.Layout.{laid, pointIn, newIn, iterateIn, pointFloats, newFloats, iterateFloats}
 use Rattle.search.proofs.Laying.{laid-again}
 

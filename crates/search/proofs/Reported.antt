@@ -6,7 +6,7 @@ use mathlib.Core.Logic.{_⊎_, inl, inr}
 use native.Mathlib.Omega.{arith}
 use lib.ListN.{length}
 use lib.Ieee.{Float}
-use Rattle.workspace.specs.inner.Readings.{vec}
+use Rattle.workspace.specs.Readings.{vec}
 use Rattle.search.specs.Setup.{Setup, Point, Report}
 use Rattle.search.specs.Turn.{Iterate, Line, reportOf, blank, unknown}
 use Rattle.search.specs.Written.{Goal, begun, taken, reportFor}

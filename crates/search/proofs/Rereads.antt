@@ -10,7 +10,7 @@ use lib.ListN.{length, replicate, length-replicate}
 use lib.Ieee.{Float, nan}
 use Rattle.numbers.specs.Numbers.{+0, at, nth, tab, _⊕_, _⊗_}
 use Rattle.numbers.proofs.Lists.{getD-tab, tab-same}
-use Rattle.workspace.specs.inner.Readings.{vec, nums}
+use Rattle.workspace.specs.Readings.{vec, nums}
 use Rattle.workspace.proofs.Readings.{length-vec}
 use Rattle.search.proofs.Laying.{size, length-laid, laid-in, laid-below, laid-above, vec-below, vec-above, vec-laid, Apart, vec-apart, laid-again}
 use Rattle.search.proofs.Layouts.{bounds, seven-length, is-one, iterate-size, iterate-SL, iterate-B, iterate-PE, iterate-MU, iterate-PX, iterate-PV}

@@ -7,7 +7,7 @@ use mathlib.Core.Option.{Option, none, some}
 use lib.ListN.{length, take, getElem?}
 use lib.Ieee.{Float, lt}
 use Rattle.numbers.specs.Numbers.{at}
-use Rattle.workspace.specs.inner.Readings.{vec}
+use Rattle.workspace.specs.Readings.{vec}
 use Rattle.workspace.specs.declared.Outcome.{Outcome}
 use Rattle.workspace.specs.declared.Outcome.the-variants.{Done, Refused}
 use Rattle.workspace.specs.declared.Refusal.the-variants.{Crossed, Unasked}

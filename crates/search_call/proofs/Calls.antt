@@ -15,7 +15,7 @@ use Rattle.workspace.specs.declared.Refusal.{Refusal}
 use Rattle.workspace.specs.declared.Refusal.the-variants.{Size, Length, Room, Kind, Tolerance, Crossed, Unasked}
 use Rattle.workspace.specs.declared.Outcome.{Outcome}
 use Rattle.workspace.specs.declared.Outcome.the-variants.{Refused}
-use Rattle.workspace.specs.inner.Readings.{Cleared}
+use Rattle.workspace.specs.Readings.{Cleared}
 use Rattle.workspace.proofs.Tests.{and-true, dimension-le, dimension-ge, constraints-le, has-length}
 use Rattle.search.specs.Setup.{Setup, isBudget, isScheme, areKinds, Report, Ending, converged, infeasible, exhausted, nonfinite}
 use Rattle.search.specs.Written.{Standing, over, waits}

@@ -8,7 +8,7 @@ use lib.Ieee.{Float, nan, binary64, ofBits, div}
 use Rattle.numbers.specs.Numbers.{+0, at, nth, tab}
 use Rattle.numbers.proofs.Lists.{tab-of, tab-replicate}
 use Rattle.workspace.specs.Tables.{cleared}
-use Rattle.workspace.specs.inner.Readings.{vec, Block, Span}
+use Rattle.workspace.specs.Readings.{vec, Block, Span}
 use Rattle.search.specs.Layout.{schemeOf, schemeNumber, laid, setupFloats, setupWords}
 use Rattle.search.specs.Promise.{setupOf}
 use Rattle.search.proofs.Laying.{written-laid, vec-laid}

@@ -9,7 +9,7 @@ use borrow.Author.Tests.{leb-true}
 use Rattle.numbers.specs.Numbers.{nth}
 use Rattle.workspace.specs.Tables.{isDimension, isConstraints}
 use Rattle.workspace.proofs.Tests.{and-true, dimension-le, dimension-ge, constraints-le}
-use Rattle.workspace.specs.inner.Readings.{nums}
+use Rattle.workspace.specs.Readings.{nums}
 use Rattle.search.specs.Setup.{isBudget, isScheme, areKinds}
 use Rattle.search.specs.Turn.{backtracks}
 use Rattle.search.specs.Layout.{areWords}

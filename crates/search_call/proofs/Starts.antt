@@ -10,7 +10,7 @@ use Rattle.numbers.specs.Numbers.{+0, at, tab}
 use Rattle.numbers.proofs.Lists.{length-tab, tab-same, tab-replicate}
 use Rattle.workspace.specs.declared.Refusal.the-variants.{Nonfinite}
 use Rattle.workspace.specs.declared.Outcome.the-variants.{Done, Refused}
-use Rattle.workspace.specs.inner.Readings.{vec}
+use Rattle.workspace.specs.Readings.{vec}
 use Rattle.search.specs.Setup.{Setup, Ending, exhausted, nonfinite, areFinite}
 use Rattle.search.specs.Turn.{clip, clipped, unknown, blank}
 use Rattle.search.specs.Machine.{Machine, ended, starting, begin}

@@ -1,6 +1,6 @@
 // The public operations of the search: tests, then the machine in its two slices, and the workspaces cleared.
+mod arguments;
 mod begin;
-mod tests;
 
 ghost use mathlib.Core.Path.{_≡_};
 ghost use mathlib.Core.Bool.{true, false};
@@ -9,21 +9,21 @@ ghost use lib.ListN.{length};
 ghost use Rattle.numbers.specs.Numbers.{nth};
 ghost use Rattle.workspace.specs.declared.Refusal.the-variants.{Crossed};
 ghost use Rattle.workspace.specs.Tables.{done, test};
-ghost use Rattle.workspace.specs.inner.Readings.{Cleared};
+ghost use Rattle.workspace.specs.Readings.{Cleared};
 ghost use Rattle.search.specs.Places.{SCHEME_CENTRAL, SEARCH_ASKED};
 ghost use Rattle.search.specs.Machine as Machine;
 ghost use Rattle.search.specs.Layout.{setupIn};
 ghost use Rattle.search.specs.Promise.{setupOf, areOrdered, beginCall, tellCall, Runs};
 ghost use Rattle.search_next.specs.inner.Next.{Heard, Told};
 ghost use Rattle.search_call.specs.inner.Work.{Begins, outcomeIn};
+use crate::arguments::are_kinds;
+use crate::arguments::are_lengths;
+use crate::arguments::are_ordered;
+use crate::arguments::are_sizes;
+use crate::arguments::are_slices;
+use crate::arguments::is_told;
+use crate::arguments::question_of;
 use crate::begin::begin_posed;
-use crate::tests::are_kinds;
-use crate::tests::are_lengths;
-use crate::tests::are_ordered;
-use crate::tests::are_sizes;
-use crate::tests::are_slices;
-use crate::tests::is_told;
-use crate::tests::question_of;
 use search::PHASE_NONE;
 use search::PHASE_NONFINITE;
 use search::SEARCH_ASKED;

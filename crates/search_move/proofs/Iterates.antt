@@ -8,7 +8,7 @@ use lib.Seq.{take-at}
 use lib.Ieee.{Float, nan}
 use Rattle.numbers.specs.Numbers.{+0, at, nth, tab, _⊖_, _⊗_}
 use Rattle.numbers.proofs.Lists.{getD-tab, tab-same, length-tab, tab-replicate, row-fits, index-lt}
-use Rattle.workspace.specs.inner.Readings.{vec, Block}
+use Rattle.workspace.specs.Readings.{vec, Block}
 use Rattle.workspace.proofs.Readings.{length-vec}
 use Rattle.hessian.specs.Hessian.{identity, update}
 use Rattle.hessian.proofs.Lengths.{length-update}

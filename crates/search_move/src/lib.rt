@@ -3,7 +3,7 @@ ghost use mathlib.Core.Path.{_≡_};
 ghost use mathlib.Core.Bool.{true, false};
 ghost use Prim.Native.Nat.{suc, _+_, _*_, _≤_, _<_};
 ghost use lib.ListN.{length};
-ghost use Rattle.workspace.specs.inner.Readings.{vec};
+ghost use Rattle.workspace.specs.Readings.{vec};
 ghost use Rattle.hessian.specs.Hessian.{identity, update};
 ghost use Rattle.search.specs.Places.{SEARCH_ALL_SLOPES, SEARCH_B, SEARCH_MACHINE, SEARCH_MULTIPLIERS};
 ghost use Rattle.search.specs.Turn.{lagrangianAt, first, moved};

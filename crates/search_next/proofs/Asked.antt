@@ -12,7 +12,7 @@ use lib.ListN.{length, set}
 use lib.Ieee.{Float, nan}
 use Rattle.numbers.specs.Numbers.{at, nth, tab, _⊕_, _⊖_}
 use Rattle.numbers.proofs.Lists.{getD-tab}
-use Rattle.workspace.specs.inner.Readings.{vec, Block}
+use Rattle.workspace.specs.Readings.{vec, Block}
 use Rattle.workspace.proofs.Readings.{length-vec}
 use Rattle.search.specs.Setup.{Setup, Point, Report, exhausted, nonfinite, isFinite}
 use Rattle.search.specs.Turn.{moveOf, raise, lower}

@@ -8,7 +8,7 @@ use lib.Dec.{eqb}
 use lib.ListN.{length, set, replicate, length-replicate}
 use lib.Ieee.{Float}
 use Rattle.numbers.specs.Numbers.{+0, nth}
-use Rattle.workspace.specs.inner.Readings.{vec, Block}
+use Rattle.workspace.specs.Readings.{vec, Block}
 use Rattle.workspace.proofs.Readings.{length-vec}
 use Rattle.search.specs.Turn.{blank}
 use Rattle.search.specs.Written.{reportFor}

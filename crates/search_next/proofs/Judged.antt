@@ -8,7 +8,7 @@ use lib.Dec.{eqb}
 use lib.ListN.{length}
 use lib.Ieee.{Float}
 use Rattle.numbers.specs.Numbers.{one, at, nth}
-use Rattle.workspace.specs.inner.Readings.{vec}
+use Rattle.workspace.specs.Readings.{vec}
 use Rattle.workspace.proofs.Readings.{length-vec}
 use Rattle.hessian.specs.Hessian.{identity}
 use Rattle.search_open.specs.declared.Opening.{Opening}

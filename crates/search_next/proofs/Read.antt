@@ -7,7 +7,7 @@ use native.Mathlib.Omega.{arith}
 use lib.Dec.{eqb}
 use lib.Ieee.{Float}
 use Rattle.numbers.specs.Numbers.{nth}
-use Rattle.workspace.specs.inner.Readings.{nums}
+use Rattle.workspace.specs.Readings.{nums}
 use Rattle.workspace.proofs.Readings.{length-vec}
 use Rattle.search.specs.Setup.{areKinds}
 use Rattle.search.specs.Turn.{Iterate}

@@ -13,7 +13,7 @@ use lib.Seq.{getD-set-same, getD-set-other, getD-take, length-take-le}
 use lib.Ieee.{Float, nan}
 use Rattle.numbers.specs.Numbers.{at, nth, tab, _⊕_, _⊖_}
 use Rattle.numbers.proofs.Lists.{getD-tab, tab-more, tab-same, tab-of}
-use Rattle.workspace.specs.inner.Readings.{vec, Block}
+use Rattle.workspace.specs.Readings.{vec, Block}
 use Rattle.workspace.proofs.Readings.{length-vec}
 use Rattle.search.specs.Setup.{Setup, told, Point, Report, nonfinite, areFinite}
 use Rattle.search.specs.Turn.{moveOf, raise, lower, quotient}

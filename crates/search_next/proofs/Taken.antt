@@ -11,7 +11,7 @@ use lib.ListN.{length}
 use lib.Ieee.{Float, nan}
 use Rattle.numbers.specs.Numbers.{at, nth, tab, _⊕_, _⊗_}
 use Rattle.numbers.proofs.Lists.{length-tab, tab-of}
-use Rattle.workspace.specs.inner.Readings.{vec, Block}
+use Rattle.workspace.specs.Readings.{vec, Block}
 use Rattle.workspace.proofs.Readings.{length-vec}
 use Rattle.search.specs.Setup.{Setup, nonfinite, areFinite}
 use Rattle.search.specs.Turn.{Iterate, pointOf, blank, along, clip}

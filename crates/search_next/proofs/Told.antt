@@ -11,7 +11,7 @@ use lib.ListN.{length}
 use lib.Ieee.{Float}
 use Rattle.numbers.specs.Numbers.{at, nth}
 use Rattle.workspace.specs.Tables.{isDimension, isConstraints}
-use Rattle.workspace.specs.inner.Readings.{vec, nums}
+use Rattle.workspace.specs.Readings.{vec, nums}
 use Rattle.search.specs.Setup.{isBudget, isScheme, areKinds, nonfinite, areFinite}
 use Rattle.search.specs.Turn.{backtracks, reportOf}
 use Rattle.search.specs.Written.{reportFor}

@@ -7,7 +7,7 @@ use lib.ListN.{length, set}
 use lib.Ieee.{Float, nan}
 use Rattle.numbers.specs.Numbers.{one, at, nth, tab, _⊕_, _⊗_}
 use Rattle.numbers.proofs.Lists.{tab-same}
-use Rattle.workspace.specs.inner.Readings.{vec}
+use Rattle.workspace.specs.Readings.{vec}
 use Rattle.hessian.specs.Hessian.{cholesky}
 use Rattle.search.specs.Setup.{Setup, Report, Ending, exhausted}
 use Rattle.search.specs.Turn.{Iterate, Line, Opened, stop, go, reportOf, opened, backtracks, along, clip, merit}

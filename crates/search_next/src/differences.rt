@@ -4,7 +4,7 @@ ghost use mathlib.Core.List.{[], _∷_, _++_};
 ghost use Prim.Native.Nat.{suc, _+_, _-_, _*_, _≤_, _<_};
 ghost use lib.ListN.{length};
 ghost use Rattle.numbers.specs.Numbers.{at};
-ghost use Rattle.workspace.specs.inner.Readings.{vec};
+ghost use Rattle.workspace.specs.Readings.{vec};
 ghost use Rattle.search.specs.Places.{SEARCH_MACHINE, SEARCH_NEW_SLOPES, SEARCH_POINT};
 ghost use Rattle.search.specs.Layout.{setupIn, known, laid};
 ghost use Rattle.search.specs.Turn.{quotient};

@@ -3,7 +3,7 @@ ghost use mathlib.Core.Path.{_≡_};
 ghost use Prim.Native.Nat.{suc, _+_, _*_, _≤_};
 ghost use lib.ListN.{length};
 ghost use Rattle.numbers.specs.Numbers.{nth};
-ghost use Rattle.workspace.specs.inner.Readings.{vec};
+ghost use Rattle.workspace.specs.Readings.{vec};
 ghost use Rattle.search.specs.Places.{SEARCH_LEFT};
 ghost use Rattle.search.specs.Turn.{reset};
 ghost use Rattle.search.specs.Machine.{turnNext};

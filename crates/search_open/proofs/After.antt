@@ -8,7 +8,7 @@ use lib.Dec.{eqb}
 use lib.ListN.{length}
 use lib.Ieee.{Float, nan}
 use Rattle.numbers.specs.Numbers.{one, at, nth}
-use Rattle.workspace.specs.inner.Readings.{vec}
+use Rattle.workspace.specs.Readings.{vec}
 use Rattle.search.specs.Setup.{Setup}
 use Rattle.search.specs.Turn.{Iterate, Line, Opened, go, opened}
 use Rattle.search.specs.Layout.{setupIn, iterateIn, lineIn, laid, iterateFloats, FitsIterate}

@@ -12,7 +12,7 @@ use Rattle.workspace.specs.Tables.{Answer, done, refused}
 use Rattle.workspace.specs.declared.Outcome.{Outcome}
 use Rattle.workspace.specs.declared.Outcome.the-variants.{Done, Refused}
 use Rattle.workspace.specs.declared.Refusal.{Refusal}
-use Rattle.workspace.specs.inner.Readings.{vec, nums}
+use Rattle.workspace.specs.Readings.{vec, nums}
 use Rattle.hessian.specs.Hessian.{identity, cholesky}
 use Rattle.hessian.specs.inner.Work.{FactorMade}
 use Rattle.hessian.proofs.Lengths.{length-identity}

@@ -10,7 +10,7 @@ use lib.Seq.{getD-take, getD-drop}
 use lib.Ieee.{Float, nan, lt, ofBits, binary64}
 use Rattle.numbers.specs.Numbers.{one, at, dot, _⊕_, _⊖_, _⊗_}
 use Rattle.numbers.proofs.Sums.{Σ-same}
-use Rattle.workspace.specs.inner.Readings.{vec}
+use Rattle.workspace.specs.Readings.{vec}
 use Rattle.workspace.proofs.Readings.{at-vec, lit-one}
 use Rattle.search.specs.Turn.{magnitude, complementarity, violations, maxViolation, isStill}
 use Rattle.search.specs.Layout.{setupIn, iterateIn, fronted, laid}

@@ -10,7 +10,7 @@ use lib.Ieee.{Float, nan, le, sub, ofBits, binary64, ofFields, units, odd, round
 use Rattle.numbers.specs.Numbers.{one, at, nth, tab, dot, _⊖_, _⊗_}
 use Rattle.numbers.proofs.Lists.{length-tab, by-entries}
 use Rattle.workspace.specs.Tables.{Answer, done, refused}
-use Rattle.workspace.specs.inner.Readings.{vec}
+use Rattle.workspace.specs.Readings.{vec}
 use Rattle.workspace.proofs.Readings.{length-vec}
 use Rattle.hessian.specs.Hessian.{identity, cholesky}
 use Rattle.hessian.proofs.Lengths.{length-identity}

@@ -12,7 +12,7 @@ use lib.Seq.{length-take-le}
 use lib.Ieee.{Float, nan}
 use Rattle.numbers.specs.Numbers.{+0, at, nth, tab, _⊖_}
 use Rattle.numbers.proofs.Lists.{length-tab, getD-tab, tab-same, tab-replicate}
-use Rattle.workspace.specs.inner.Readings.{vec, nums, Written, Block}
+use Rattle.workspace.specs.Readings.{vec, nums, Written, Block}
 use Rattle.workspace.proofs.Readings.{at-vec}
 use Rattle.workspace.proofs.Tests.{and-true}
 use Rattle.workspace.proofs.Writes.{written-all}

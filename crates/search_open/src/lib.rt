@@ -7,7 +7,7 @@ ghost use lib.ListN.{length};
 ghost use lib.Ieee.{Float};
 ghost use Rattle.numbers.specs.Numbers.{one, at, tab, _⊖_};
 ghost use Rattle.workspace.specs.Tables.{done};
-ghost use Rattle.workspace.specs.inner.Readings.{vec, nums};
+ghost use Rattle.workspace.specs.Readings.{vec, nums};
 ghost use Rattle.hessian.specs.Hessian.{identity, cholesky};
 ghost use Rattle.step_rows.specs.Problem.{problemOf};
 ghost use Rattle.step_rows.specs.inner.Work.{Lengths};

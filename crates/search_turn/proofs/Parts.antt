@@ -11,7 +11,7 @@ use lib.Ieee.{Float, nan, lt, ofBits, binary64}
 use Rattle.numbers.specs.Numbers.{at, nth, tab, dot, Σ, _⊕_, _⊖_, _⊗_, _⊘_}
 use Rattle.numbers.proofs.Lists.{getD-tab, tab-same}
 use Rattle.numbers.proofs.Sums.{Σ-same}
-use Rattle.workspace.specs.inner.Readings.{vec, nums}
+use Rattle.workspace.specs.Readings.{vec, nums}
 use Rattle.workspace.proofs.Readings.{at-vec}
 use Rattle.search.specs.Turn.{magnitude, larger, two, clip, violation, violations, largest, maxViolation, merit, complementarity, penalties, along, isSettled}
 use Rattle.search.specs.Layout.{setupIn, newIn, iterateIn, lineIn}

@@ -6,7 +6,7 @@ ghost use Prim.Native.Nat.{ℕ, _+_, _≤_};
 ghost use lib.ListN.{length};
 ghost use lib.Ieee.{Float, lt};
 ghost use Rattle.numbers.specs.Numbers.{at, nth, tab, dot, _⊕_, _⊗_, _⊘_};
-ghost use Rattle.workspace.specs.inner.Readings.{vec};
+ghost use Rattle.workspace.specs.Readings.{vec};
 ghost use Rattle.search.specs.Places.{SEARCH_ALPHA, SEARCH_CONSTRAINTS, SEARCH_D, SEARCH_LOWER, SEARCH_MACHINE, SEARCH_MULTIPLIERS, SEARCH_PENALTIES, SEARCH_TOLERANCE, SEARCH_UPPER, SEARCH_WORDS, SEARCH_X};
 ghost use Rattle.search.specs.Setup.{isFinite, areFinite};
 ghost use Rattle.search.specs.Layout.{setupIn, newIn, iterateIn, lineIn, laid};

@@ -11,7 +11,7 @@ use lib.Ieee.{Float, nan}
 use Rattle.numbers.specs.Numbers.{+0, at, nth, tab, rows, row}
 use Rattle.numbers.proofs.Cases.{lt-or-ge}
 use Rattle.numbers.proofs.Lists.{tab-same, tab-more, tab-replicate, rows-same, rows-snoc, by-entries}
-use Rattle.workspace.specs.inner.Readings.{vec, stack, Block, Stacked}
+use Rattle.workspace.specs.Readings.{vec, stack, Block, Stacked}
 use Rattle.workspace.proofs.Readings.{vec-same, stack-same, nth-nums}
 use Rattle.workspace.proofs.Writes.{block-vec}
 use Rattle.lsei.specs.inner.Work.{sides, Spaced}

@@ -13,7 +13,7 @@ use borrow.Author.Tests.{le-leb, lt-leb}
 use Rattle.numbers.specs.Numbers.{near, at, nth, tab, rows}
 use Rattle.numbers.proofs.Lists.{tab-same, getD-tab}
 use Rattle.workspace.specs.Tables.{Answer, done}
-use Rattle.workspace.specs.inner.Readings.{vec, stack, nums, Block}
+use Rattle.workspace.specs.Readings.{vec, stack, nums, Block}
 use Rattle.workspace.proofs.Readings.{length-vec, vec-is, vec-same, stack-same, at-vec, nums-same}
 use Rattle.workspace.proofs.Parts.{vec-front}
 use Rattle.nnls.specs.Counted.{Counted}

@@ -14,7 +14,7 @@ use borrow.Author.Tests.{eq-eqb, ne-eqb, ltb-true, lt-ltb, le-leb, lt-leb}
 use Rattle.numbers.specs.Numbers.{+0, one, at, nth, tab}
 use Rattle.numbers.proofs.Cases.{lt-or-ge}
 use Rattle.numbers.proofs.Lists.{tab-same, tab-more, tab-of}
-use Rattle.workspace.specs.inner.Readings.{vec, nums, Block}
+use Rattle.workspace.specs.Readings.{vec, nums, Block}
 use Rattle.workspace.proofs.Readings.{lit-+0, lit-one, length-vec, at-vec, vec-is, vec-same, nums-same, nth-nums}
 use Rattle.certain.specs.Bound.{kept}
 use Rattle.lsei.specs.Lsei.{Solution}

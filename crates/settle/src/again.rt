@@ -5,7 +5,7 @@ ghost use Prim.Native.Nat.{ℕ, _+_, _-_, _*_, _<_, _≤_};
 ghost use lib.ListN.{length};
 ghost use lib.Dec.{eqb};
 ghost use Rattle.numbers.specs.Numbers.{+0, one, at, nth};
-ghost use Rattle.workspace.specs.inner.Readings.{vec, nums, Block};
+ghost use Rattle.workspace.specs.Readings.{vec, nums, Block};
 ghost use Rattle.settle.specs.Settle as Definition;
 ghost use Rattle.lsei_nullspace.specs.inner.Places.{LSEI_X, LSEI_EQUALITY_MULTIPLIERS};
 ghost use Rattle.settle.specs.inner.Places.{SETTLE_Z, SETTLE_AGAIN_X, SETTLE_AGAIN_Z, SETTLE_HELD, SETTLE_ROOM, SETTLE_WORDS};

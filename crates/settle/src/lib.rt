@@ -8,7 +8,7 @@ mod problem;
 ghost use mathlib.Core.Path.{_≡_};
 ghost use Prim.Native.Nat.{ℕ, _+_, _*_, _<_, _≤_};
 ghost use lib.ListN.{length};
-ghost use Rattle.workspace.specs.inner.Readings.{vec};
+ghost use Rattle.workspace.specs.Readings.{vec};
 ghost use Rattle.lsei.specs.inner.Work.{endedSolution};
 ghost use Rattle.lsei_nullspace.specs.inner.Work.{solutionIn};
 ghost use Rattle.settle.specs.Settle as Definition;

@@ -3,7 +3,7 @@ ghost use mathlib.Core.Path.{_≡_};
 ghost use Prim.Native.Nat.{ℕ, _+_, _*_, _<_, _≤_};
 ghost use lib.ListN.{length};
 ghost use Rattle.numbers.specs.Numbers.{at};
-ghost use Rattle.workspace.specs.inner.Readings.{Block};
+ghost use Rattle.workspace.specs.Readings.{Block};
 ghost use Rattle.lsei.specs.inner.Work.{Spaced};
 ghost use Rattle.lsei_nullspace.specs.inner.Places.{LSEI_F, LSEI_ROOM};
 ghost use Rattle.settle.specs.Settle.{target};

@@ -14,7 +14,7 @@ use Rattle.workspace.specs.Tables.{Answer, done, refused, outcomeOf, floats, wo
 use Rattle.workspace.specs.declared.Refusal.{Refusal}
 use Rattle.workspace.specs.declared.Outcome.{Outcome}
 use Rattle.workspace.specs.declared.Outcome.the-variants.{Done, Refused}
-use Rattle.workspace.specs.inner.Readings.{vec, Cleared}
+use Rattle.workspace.specs.Readings.{vec, Cleared}
 use Rattle.workspace.proofs.Parts.{vec-front, front-cleared}
 use Rattle.lsei.specs.Lsei.{Solution}
 use Rattle.lsei.specs.inner.Work.{endingAnswer}

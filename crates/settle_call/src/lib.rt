@@ -1,6 +1,6 @@
 // The public settling of a day's volumes and the certifying of volumes from anywhere: tests, the kernel in the lent
 // workspaces, and the answer out.
-mod tests;
+mod arguments;
 
 ghost use mathlib.Core.Path.{_≡_};
 ghost use Prim.Native.Nat.{_+_, _*_, _≤_};
@@ -12,7 +12,7 @@ ghost use Rattle.settle.specs.inner.Places.{SETTLE_ROOM};
 ghost use Rattle.settle.specs.inner.Work.{Input, endedSettled, settledIn};
 ghost use Rattle.settle_call.specs.Promise.{settleCall, Settles, certifyCall, Certifies};
 ghost use Rattle.settle_call.specs.inner.Work.{toldBy, SettledGiven};
-use crate::tests::test_call;
+use crate::arguments::test_call;
 use workspace::Outcome;
 use workspace::Refusal;
 

@@ -7,7 +7,7 @@ use lib.Ieee.{Float, neg}
 use Rattle.numbers.specs.Numbers.{transposed}
 use Rattle.workspace.specs.Tables.{refused}
 use Rattle.workspace.specs.declared.Refusal.{Refusal}
-use Rattle.workspace.specs.inner.Readings.{vec}
+use Rattle.workspace.specs.Readings.{vec}
 use Rattle.householder.specs.Qr.{downward}
 use Rattle.nnls.specs.Counted.{Counted, after}
 use Rattle.step_rows.specs.Problem.{problemOf, Problem, boundRows, equalityRows, inequalityRows, relaxedRows}

@@ -11,7 +11,7 @@ use Rattle.numbers.specs.Numbers.{+0, at, nth, row, transposed}
 use Rattle.workspace.specs.Tables.{outcomeOf}
 use Rattle.workspace.specs.declared.Refusal.{Refusal}
 use Rattle.workspace.specs.declared.Outcome.the-variants as Outcome
-use Rattle.workspace.specs.inner.Readings.{vec, stack, Block, Loaded}
+use Rattle.workspace.specs.Readings.{vec, stack, Block, Loaded}
 use Rattle.workspace.proofs.Readings.{vec-is, vec-same, vec-part, stack-same, stack-part}
 use Rattle.workspace.proofs.Writes.{block-vec}
 use Rattle.workspace.proofs.Parts.{lent-is}

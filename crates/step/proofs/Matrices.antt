@@ -11,7 +11,7 @@ use borrow.Author.Tests.{le-leb, lt-leb, lt-ltb, le-ltb, eq-eqb, ne-eqb}
 use Rattle.numbers.specs.Numbers.{+0, at, entry, grid}
 use Rattle.numbers.proofs.Cases.{lt-or-ge}
 use Rattle.numbers.proofs.Lists.{entry-grid}
-use Rattle.workspace.specs.inner.Readings.{mat, Block, Loaded}
+use Rattle.workspace.specs.Readings.{mat, Block, Loaded}
 use Rattle.workspace.proofs.Readings.{entry-mat, mat-is}
 use Rattle.workspace.proofs.Copies.{Laid}
 use Rattle.step.specs.Step.{relaxedMatrix}

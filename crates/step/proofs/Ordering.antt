@@ -8,7 +8,7 @@ use lib.ListN.{length, drop, List·getD-append}
 use lib.Seq.{drop-cons, drop-drop, getD-drop, getD-append-add}
 use lib.Ieee.{Float, nan}
 use Rattle.numbers.specs.Numbers.{at, nth, _⊖_}
-use Rattle.workspace.specs.inner.Readings.{vec, Block}
+use Rattle.workspace.specs.Readings.{vec, Block}
 use Rattle.workspace.proofs.Readings.{length-vec, at-vec}
 use Rattle.step_rows.specs.Problem.{byKind}
 use Rattle.step.specs.Step.{inOrder, paired}

@@ -8,7 +8,7 @@ use lib.Ieee.{Float, nan}
 use borrow.Rule.Slice.PartMut.{putMid}
 use Rattle.numbers.specs.Numbers.{at, transposed}
 use Rattle.numbers.proofs.Lists.{matrix-same, length-transposed, entry-transposed}
-use Rattle.workspace.specs.inner.Readings.{vec, mat, stack}
+use Rattle.workspace.specs.Readings.{vec, mat, stack}
 use Rattle.workspace.proofs.Readings.{vec-same, vec-part, length-stack, entry-stack, entry-mat}
 use Rattle.workspace.proofs.Parts.{back-part, back-get}
 

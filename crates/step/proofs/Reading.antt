@@ -8,7 +8,7 @@ use lib.Seq.{length-take-le, getD-take}
 use lib.Ieee.{Float, nan}
 use Rattle.numbers.specs.Numbers.{at, tab}
 use Rattle.numbers.proofs.Lists.{by-entries, tab-of}
-use Rattle.workspace.specs.inner.Readings.{vec, Block}
+use Rattle.workspace.specs.Readings.{vec, Block}
 use Rattle.workspace.proofs.Readings.{length-vec, at-vec, vec-same, vec-is}
 use Rattle.workspace.proofs.Writes.{block-vec}
 use Rattle.step_rows.specs.Problem.{byKind}

@@ -13,7 +13,7 @@ use Rattle.numbers.proofs.Lists.{by-entries, tab-of}
 use Rattle.workspace.specs.Tables.{outcomeOf}
 use Rattle.workspace.specs.declared.Refusal.{Refusal}
 use Rattle.workspace.specs.declared.Outcome.the-variants as Outcome
-use Rattle.workspace.specs.inner.Readings.{vec, mat, stack, Block, Loaded}
+use Rattle.workspace.specs.Readings.{vec, mat, stack, Block, Loaded}
 use Rattle.workspace.proofs.Readings.{length-vec, at-vec, vec-same, vec-part, mat-same, mat-part, stack-part}
 use Rattle.workspace.proofs.Writes.{block-vec}
 use Rattle.workspace.proofs.Parts.{lent-is}

@@ -10,7 +10,7 @@ use lib.Ieee.{Float, neg}
 use Rattle.numbers.specs.Numbers.{Σ, at, tab, entry, transposed, _⊖_, _⊗_, _⊘_}
 use Rattle.numbers.proofs.Lists.{tab-same, by-entries, entry-transposed}
 use Rattle.numbers.proofs.Sums.{Σ-same}
-use Rattle.workspace.specs.inner.Readings.{vec, Block}
+use Rattle.workspace.specs.Readings.{vec, Block}
 use Rattle.workspace.proofs.Readings.{at-vec, vec-set}
 use Rattle.workspace.proofs.Writes.{block-vec}
 use Rattle.householder.specs.Qr.{downward}

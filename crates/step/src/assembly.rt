@@ -7,7 +7,7 @@ ghost use lib.Dec.{leb};
 ghost use lib.ListN.{length};
 ghost use lib.Ieee.{neg};
 ghost use Rattle.numbers.specs.Numbers.{+0, Σ, at, transposed, _⊖_, _⊗_, _⊘_};
-ghost use Rattle.workspace.specs.inner.Readings.{vec, Block, Loaded};
+ghost use Rattle.workspace.specs.Readings.{vec, Block, Loaded};
 ghost use Rattle.householder.specs.Qr.{downward};
 ghost use Rattle.step_rows.specs.Problem.{byKind};
 ghost use Rattle.step.specs.Step.{inOrder, relaxedMatrix, paired, clamped};

@@ -8,7 +8,7 @@ ghost use Prim.Native.Nat.{ℕ, _+_, _*_, _≤_, _<_};
 ghost use lib.Dec.{eqb};
 ghost use lib.ListN.{length, take};
 ghost use Rattle.numbers.specs.Numbers.{at};
-ghost use Rattle.workspace.specs.inner.Readings.{vec};
+ghost use Rattle.workspace.specs.Readings.{vec};
 ghost use Rattle.nnls.specs.Counted.{Counted};
 ghost use Rattle.step.specs.Step.{inOrder, paired, clamped, exact, relaxed, stageNumber, stagePlace};
 ghost use Rattle.step_rows.specs.inner.Work.{equalitiesAmong, floorsAmong, relaxedAmong};

@@ -14,7 +14,7 @@ use Rattle.numbers.specs.Numbers.{+0, nth}
 use Rattle.workspace.specs.Tables.{Answer, done, refused, isLate, call, test, cleared, isDimension, isConstraints}
 use Rattle.workspace.specs.declared.Refusal.{Refusal}
 use Rattle.workspace.specs.declared.Refusal.the-variants.{Size, Length, Room, Kind, Width}
-use Rattle.workspace.specs.inner.Readings.{vec}
+use Rattle.workspace.specs.Readings.{vec}
 use Rattle.workspace.proofs.Parts.{vec-front, front-cleared}
 use Rattle.workspace.proofs.Tests.{and-true, dimension-le, constraints-le}
 use Rattle.nnls.specs.Counted.{Counted}

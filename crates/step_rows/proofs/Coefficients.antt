@@ -13,7 +13,7 @@ use borrow.Author.Tests.{eq-eqb, ne-eqb}
 use Rattle.numbers.specs.Numbers.{+0, at, tab, row}
 use Rattle.numbers.proofs.Cases.{eq-or-ne}
 use Rattle.numbers.proofs.Lists.{tab-same}
-use Rattle.workspace.specs.inner.Readings.{Block}
+use Rattle.workspace.specs.Readings.{Block}
 use Rattle.step_rows.specs.Problem.{unit}
 
 -- v at place i of n blank entries

@@ -9,7 +9,7 @@ use lib.Seq.{getD-set-same, getD-set-other, getD-at}
 use lib.Ieee.{Float, nan}
 use Rattle.numbers.specs.Numbers.{at, tab, rows}
 use Rattle.numbers.proofs.Lists.{length-tab, getD-tab, tab-same, tab-more, by-entries}
-use Rattle.workspace.specs.inner.Readings.{vec, stack, Block}
+use Rattle.workspace.specs.Readings.{vec, stack, Block}
 use Rattle.workspace.proofs.Readings.{vec-same, vec-is}
 use Rattle.workspace.proofs.Writes.{written-more, written-as}
 use Rattle.step_rows.specs.Problem.{Row, rowOf, matrixOf, sidesOf, each}

@@ -11,7 +11,7 @@ ghost use lib.Dec.{eqb};
 ghost use lib.ListN.{length};
 ghost use lib.Ieee.{neg};
 ghost use Rattle.numbers.specs.Numbers.{+0, _⊖_, at, nth, row};
-ghost use Rattle.workspace.specs.inner.Readings.{Block};
+ghost use Rattle.workspace.specs.Readings.{Block};
 ghost use Rattle.step_rows.specs.Problem.{problemOf, constraintOf, rowOf, unit, sideOf, lowerRow, upperRow, each, equationOf, floorsOf, deltaRows, inequalityRows, relaxedRows};
 ghost use Rattle.step_rows.specs.inner.Work.{Pushed, Lengths};
 

@@ -6,7 +6,7 @@ use native.Mathlib.Omega.{arith}
 use lib.Ieee.{Float}
 use Rattle.numbers.specs.Numbers.{at, tab, dot, Σ, _⊗_}
 use Rattle.numbers.proofs.Sums.{Σ-same}
-use Rattle.workspace.specs.inner.Readings.{vec, stack, Block}
+use Rattle.workspace.specs.Readings.{vec, stack, Block}
 use Rattle.workspace.proofs.Readings.{at-vec, vec-same, stack-same, entry-stack}
 use Rattle.workspace.proofs.Writes.{block-vec}
 use Rattle.suspect.specs.Suspect.{overlap, unseen, correction, shares, newSpreads, tests}

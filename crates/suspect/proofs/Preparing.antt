@@ -13,7 +13,7 @@ use Rattle.numbers.specs.Numbers.{+0, one, at, nth, tab, entry, rows, Σ, _⊗_
 use Rattle.numbers.proofs.Cases.{lt-or-ge}
 use Rattle.numbers.proofs.Lists.{tab-same, row-fits}
 use Rattle.numbers.proofs.Sums.{Σ-same}
-use Rattle.workspace.specs.inner.Readings.{vec, mat, nums, Block}
+use Rattle.workspace.specs.Readings.{vec, mat, nums, Block}
 use Rattle.workspace.proofs.Readings.{vec-is, vec-same, mat-is, length-mat, stack-is, nth-front}
 use Rattle.workspace.proofs.Writes.{block-vec}
 use Rattle.workspace.proofs.Copies.{Laid}

@@ -6,7 +6,7 @@ use Prim.Native.Nat.{ℕ, _+_, _≤_}
 use native.Mathlib.Omega.{arith}
 use lib.Ieee.{Float}
 use Rattle.numbers.specs.Numbers.{tab}
-use Rattle.workspace.specs.inner.Readings.{vec, stack, nums, Span}
+use Rattle.workspace.specs.Readings.{vec, stack, nums, Span}
 use Rattle.workspace.proofs.Readings.{nums-same}
 use Rattle.workspace.proofs.Writes.{span-nums}
 use Rattle.householder.specs.Qr.{factor}

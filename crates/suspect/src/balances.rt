@@ -4,7 +4,7 @@ ghost use Prim.Native.Nat.{ℕ, _+_, _*_, _<_, _≤_};
 ghost use lib.ListN.{length};
 ghost use lib.Ieee.{neg};
 ghost use Rattle.numbers.specs.Numbers.{at, nth, entry};
-ghost use Rattle.workspace.specs.inner.Readings.{mat, Block};
+ghost use Rattle.workspace.specs.Readings.{mat, Block};
 ghost use Rattle.householder.specs.inner.Places.{QR_MATRIX};
 ghost use Rattle.suspect.specs.Suspect.{weight, weights, gap, areFinite};
 ghost use Rattle.suspect.specs.inner.Places.{SUSPECT_GAPS, SUSPECT_ROOM, SUSPECT_WORDS};

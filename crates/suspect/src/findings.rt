@@ -2,7 +2,7 @@
 ghost use mathlib.Core.Path.{_≡_};
 ghost use Prim.Native.Nat.{ℕ, _<_, _≤_};
 ghost use lib.ListN.{length};
-ghost use Rattle.workspace.specs.inner.Readings.{vec, stack, Span};
+ghost use Rattle.workspace.specs.Readings.{vec, stack, Span};
 ghost use Rattle.suspect.specs.Suspect.{largest, areWithin, isTied, groupOf, markUnless, findingOf};
 ghost use Rattle.suspect.specs.inner.Places.{SUSPECT_GAPS, SUSPECT_DIRECTIONS, SUSPECT_SHARES, SUSPECT_TESTS, SUSPECT_GROUPS, SUSPECT_MARKS, SUSPECT_ROOM, SUSPECT_WORDS};
 use crate::Finding;

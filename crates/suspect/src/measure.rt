@@ -2,7 +2,7 @@
 ghost use mathlib.Core.Path.{_≡_};
 ghost use Prim.Native.Nat.{_*_, _<_, _≤_};
 ghost use lib.ListN.{length};
-ghost use Rattle.workspace.specs.inner.Readings.{vec, stack};
+ghost use Rattle.workspace.specs.Readings.{vec, stack};
 ghost use Rattle.suspect.specs.Suspect.{overlap, isOutside, share, unseen, correction, shares, newSpreads, tests};
 ghost use Rattle.suspect.specs.inner.Places.{SUSPECT_GAPS, SUSPECT_DIRECTIONS, SUSPECT_SHARES, SUSPECT_SPREADS, SUSPECT_TESTS, SUSPECT_ROOM};
 ghost use Rattle.suspect.specs.inner.Work.{VectorWritten, Measured};

@@ -6,7 +6,7 @@ use native.Mathlib.Omega.{arith}
 use lib.ListN.{length, drop}
 use lib.Ieee.{Float}
 use Rattle.numbers.specs.Numbers.{+0, rows}
-use Rattle.workspace.specs.inner.Readings.{vec, stack, Cleared}
+use Rattle.workspace.specs.Readings.{vec, stack, Cleared}
 use Rattle.workspace.proofs.Parts.{stack-front, nums-front, front-cleared}
 use Rattle.suspect.specs.Suspect.{Tests}
 use Rattle.suspect.specs.declared.Finding.{Finding}

@@ -1,18 +1,18 @@
 // The public tests of meters: tests of what is handed in, the kernel in the lent workspaces, and the answer out.
-mod tests;
+mod arguments;
 
 ghost use mathlib.Core.Path.{_≡_};
 ghost use Prim.Native.Nat.{_+_, _*_, _≤_};
 ghost use lib.ListN.{length};
-ghost use Rattle.workspace.specs.inner.Readings.{nums, stack};
+ghost use Rattle.workspace.specs.Readings.{nums, stack};
 ghost use Rattle.suspect.specs.Suspect.{suspect};
 ghost use Rattle.suspect.specs.inner.Work.{Sized};
 ghost use Rattle.suspect.specs.inner.Places.{SUSPECT_SHARES, SUSPECT_GROUPS, SUSPECT_MARKS, SUSPECT_ROOM, SUSPECT_WORDS};
 ghost use Rattle.suspect_call.specs.Promise.{suspectCall, Suspects};
 ghost use Rattle.suspect_call.specs.inner.Work.{Given, Left};
-use crate::tests::are_inputs;
-use crate::tests::are_outputs;
-use crate::tests::test_all;
+use crate::arguments::are_inputs;
+use crate::arguments::are_outputs;
+use crate::arguments::test_all;
 use workspace::Outcome;
 use workspace::Refusal;
 

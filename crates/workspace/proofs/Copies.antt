@@ -9,7 +9,7 @@ use lib.Ieee.{Float, nan}
 use Rattle.numbers.specs.Numbers.{at, entry, grid}
 use Rattle.numbers.proofs.Cases.{lt-or-ge}
 use Rattle.numbers.proofs.Lists.{grid-of, matrix-same, index-lt, row-fits}
-use Rattle.workspace.specs.inner.Readings.{vec, mat, stack, Block, Loaded, Stacked}
+use Rattle.workspace.specs.Readings.{vec, mat, stack, Block, Loaded, Stacked}
 use Rattle.workspace.proofs.Readings.{mat-is, length-mat, entry-mat, length-stack, entry-stack}
 
 -- ---- columns of height 18: after t turns the first t columns at o, of m entries each, are f 0, f 1, ..

@@ -9,7 +9,7 @@ use lib.Seq.{take-all, drop-at, length-take-le, getD-take}
 use lib.Ieee.{Float, nan}
 use borrow.Rule.Slice.PartMut.{midOf, putMid, take-put}
 use Rattle.workspace.specs.Tables.{cleared}
-use Rattle.workspace.specs.inner.Readings.{vec, mat, stack, nums}
+use Rattle.workspace.specs.Readings.{vec, mat, stack, nums}
 use Rattle.workspace.proofs.Readings.{vec-same, mat-same, stack-same, nums-same}
 use Rattle.workspace.proofs.Clears.{cleared-same}
 

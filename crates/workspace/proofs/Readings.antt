@@ -12,7 +12,7 @@ use lib.Ieee.{Float, nan, binary64, neg, ofBits, ofFields, units, odd, round, si
 use Rattle.numbers.specs.Numbers.{+0, -0, one, at, nth, tab, entry, rows, grid, row, column, transposed}
 use Rattle.numbers.proofs.Cases.{eq-or-ne}
 use Rattle.numbers.proofs.Lists.{length-tab, getD-tab, tab-same, tab-of, rows-same, grid-same, length-rows, length-grid, entry-rows, entry-grid, entry-transposed}
-use Rattle.workspace.specs.inner.Readings.{vec, mat, stack, nums}
+use Rattle.workspace.specs.Readings.{vec, mat, stack, nums}
 
 -- ---- the code's literals
 

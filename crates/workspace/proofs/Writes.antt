@@ -11,7 +11,7 @@ use lib.Ieee.{Float, nan}
 use Rattle.numbers.specs.Numbers.{at, nth, tab}
 use Rattle.numbers.proofs.Cases.{lt-or-ge}
 use Rattle.numbers.proofs.Lists.{tab-of}
-use Rattle.workspace.specs.inner.Readings.{vec, nums, Written, Block, Span}
+use Rattle.workspace.specs.Readings.{vec, nums, Written, Block, Span}
 use Rattle.workspace.proofs.Readings.{vec-is, nums-is}
 
 -- nothing is written yet

@@ -6,7 +6,7 @@ ghost use lib.Dec.{leb};
 ghost use lib.ListN.{length};
 ghost use Rattle.numbers.specs.Numbers.{+0, at};
 ghost use Rattle.workspace.specs.Tables.{numberOf, placeOf, outcomeNumber, cleared, isDimension, isMatrix, isConstraints, isTolerance};
-ghost use Rattle.workspace.specs.inner.Readings.{vec, mat, stack, nums, Block, Span, Loaded, Stacked, Cleared};
+ghost use Rattle.workspace.specs.Readings.{vec, mat, stack, nums, Block, Span, Loaded, Stacked, Cleared};
 
 // ---- answers
 

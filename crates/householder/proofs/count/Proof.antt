@@ -3,7 +3,7 @@ use mathlib.Core.Path.{_≡_, refl, ap, ap₂, _∙_}
 use Prim.Native.Nat.{ℕ, _+_, _*_, _-_, _≤_, _<_}
 use native.Mathlib.Omega.{arith}
 use lib.ListN.{length, length-set}
-use Rattle.workspace.specs.inner.Readings.{nums, Span}
+use Rattle.workspace.specs.Readings.{nums, Span}
 use Rattle.workspace.proofs.Writes.{written-none, written-front, span-nums}
 use Rattle.householder.proofs.count.Statement.{statement}
 use Rattle.householder.proofs.count.Tie as tie

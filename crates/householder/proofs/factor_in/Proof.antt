@@ -3,7 +3,7 @@ use mathlib.Core.Path.{_≡_, refl, sym, ap, _∙_}
 use Prim.Native.Nat.{_+_, _*_, _-_, _≤_, _<_, min}
 use native.Mathlib.Omega.{arith}
 use lib.ListN.{length}
-use Rattle.workspace.specs.inner.Readings.{mat}
+use Rattle.workspace.specs.Readings.{mat}
 use Rattle.workspace.proofs.Readings.{lit-+0, mat-same}
 use Rattle.householder.specs.Qr.{steps, start, factor, advance}
 use Rattle.householder.specs.inner.Work.{held, Unmade}

@@ -11,7 +11,7 @@ use Rattle.numbers.specs.Numbers.{+0, -1, _⊗_, Σ, at}
 use Rattle.numbers.specs.Root.{sqrtOf}
 use Rattle.numbers.specs.Ordered.{gap}
 use Rattle.norms.specs.inner.Sums.{mostSum}
-use Rattle.workspace.specs.inner.Readings.{mat}
+use Rattle.workspace.specs.Readings.{mat}
 use Rattle.householder.specs.Qr.{pivot, better, columnNorm}
 use Rattle.householder.specs.declared.Candidate.{Candidate}
 use Rattle.householder.specs.declared.search.Lead.{Lead}

@@ -6,7 +6,7 @@ use Prim.Native.Nat.{ℕ, _+_, _*_, _<_, _≤_, min}
 use lib.Dec.{ltb, eqb}
 use lib.Ieee.{Float}
 use Rattle.numbers.specs.Numbers.{+0, _⊕_, _⊖_, _⊗_, at, scatter}
-use Rattle.workspace.specs.inner.Readings.{vec, mat, stack, nums}
+use Rattle.workspace.specs.Readings.{vec, mat, stack, nums}
 use Rattle.householder.specs.Qr.{Factors, image, signed, applyQt, applyQ, solveR, solveRt}
 use Rattle.householder.specs.declared.Four.{Four}
 use Rattle.householder.specs.inner.Places.{QR_B, QR_MATRIX, QR_SIDE, QR_SOLUTION}

@@ -5,7 +5,7 @@ use native.Mathlib.Omega.{arith}
 use lib.ListN.{length, length-set}
 use lib.Ieee.{Float, nan}
 use Rattle.numbers.specs.Numbers.{+0, at, Σ, _⊕_, _⊖_, _⊗_, _⊘_}
-use Rattle.workspace.specs.inner.Readings.{Block}
+use Rattle.workspace.specs.Readings.{Block}
 use Rattle.workspace.proofs.Writes.{written-none, written-more}
 use Rattle.lsei.proofs.divide.Statement.{statement}
 use Rattle.lsei.proofs.divide.Tie as tie

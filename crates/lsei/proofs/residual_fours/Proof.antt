@@ -4,7 +4,7 @@ use Prim.Native.Nat.{ℕ, _+_, _*_, _-_, _/_, _≤_}
 use native.Mathlib.Omega.{arith}
 use lib.ListN.{length}
 use lib.Ieee.{nan}
-use Rattle.workspace.specs.inner.Readings.{Block}
+use Rattle.workspace.specs.Readings.{Block}
 use Rattle.workspace.proofs.Writes.{written-none}
 use Rattle.nnls.proofs.Fours.{fours-more}
 use Rattle.lsei.specs.inner.Work.{residualIn}

@@ -5,7 +5,7 @@ use Prim.Native.Nat.{ℕ, _+_, _*_, _<_, _≤_}
 use lib.Ieee.{Float}
 use Rattle.numbers.specs.Numbers.{at, nth, tab, gather, Σ, _⊖_, _⊗_}
 use Rattle.workspace.specs.Tables.{Answer, done, rankDeficient, dependent, infeasible, iterationCap}
-use Rattle.workspace.specs.inner.Readings.{vec, mat, stack, nums}
+use Rattle.workspace.specs.Readings.{vec, mat, stack, nums}
 use Rattle.householder.specs.Qr.{Factors, factor, applyQt, solveRt}
 use Rattle.householder.specs.inner.Work.{held}
 use Rattle.nnls.specs.Counted.{Counted}

@@ -2,7 +2,7 @@
 use mathlib.Core.List.{_++_}
 use native.Mathlib.Omega.{arith}
 use borrow.Author.Needs.{needs}
-use Rattle.workspace.specs.inner.Readings.{vec}
+use Rattle.workspace.specs.Readings.{vec}
 use Rattle.lsei_call.proofs.Giving.{given-none, given-all}
 use Rattle.lsei_call.proofs.give.Statement.{statement}
 use Rattle.lsei_call.proofs.give.Tie as tie

@@ -5,7 +5,7 @@ use mathlib.Core.List.{_++_}
 use native.Mathlib.Omega.{arith}
 use lib.ListN.{length, take, drop, length-append}
 use lib.Seq.{length-take-le}
-use Rattle.workspace.specs.inner.Readings.{vec}
+use Rattle.workspace.specs.Readings.{vec}
 use Rattle.lsei.specs.Lsei as Definition
 use Rattle.lsei.specs.inner.Work.{endedSolution}
 use Rattle.lsei_call.proofs.Giving.{solved, one-read}

@@ -7,7 +7,7 @@ use lib.Ieee.{Float}
 use Rattle.numbers.specs.Numbers.{at}
 use Rattle.workspace.specs.Tables.{Answer, outcomeOf, output}
 use Rattle.workspace.specs.declared.Outcome.{Outcome}
-use Rattle.workspace.specs.inner.Readings.{vec, mat, stack}
+use Rattle.workspace.specs.Readings.{vec, mat, stack}
 use Rattle.lsei.specs.Lsei.{Solution}
 use Rattle.lsei.specs.inner.Work.{sides}
 use Rattle.lsei.specs.inner.Places.{LSI_E, LSI_F, LSI_G}

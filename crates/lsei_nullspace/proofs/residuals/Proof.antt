@@ -6,7 +6,7 @@ use lib.ListN.{length, length-set}
 use lib.Ieee.{nan}
 use Rattle.numbers.specs.Numbers.{+0, at, Σ, _⊕_, _⊖_, _⊗_, _⊘_}
 use Rattle.numbers.proofs.Sums.{Σ-same}
-use Rattle.workspace.specs.inner.Readings.{Block}
+use Rattle.workspace.specs.Readings.{Block}
 use Rattle.workspace.proofs.Writes.{written-none, written-more}
 use Rattle.lsei_nullspace.proofs.residuals.Statement.{statement}
 use Rattle.lsei_nullspace.proofs.residuals.Tie as tie

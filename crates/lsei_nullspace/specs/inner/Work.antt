@@ -5,7 +5,7 @@ use Prim.Native.Nat.{ℕ, _+_, _-_, _*_, _<_, _≤_}
 use lib.ListN.{length}
 use lib.Ieee.{Float}
 use Rattle.numbers.specs.Numbers.{at, nth, dot, Σ, _⊖_, _⊗_}
-use Rattle.workspace.specs.inner.Readings.{vec, mat, stack}
+use Rattle.workspace.specs.Readings.{vec, mat, stack}
 use Rattle.householder.specs.Qr.{Factors, applyQt, applyQ}
 use Rattle.householder.specs.inner.Work.{held}
 use Rattle.lsei.specs.Lsei.{Solution, fixed, turned, tailOf, shifted, gradient, equalityMultipliers}

@@ -3,7 +3,7 @@ use mathlib.Core.Path.{refl}
 use Prim.Native.Nat.{_-_, _≤_}
 use native.Mathlib.Omega.{arith}
 use borrow.Author.Needs.{needs}
-use Rattle.workspace.specs.inner.Readings.{vec, nums}
+use Rattle.workspace.specs.Readings.{vec, nums}
 use Rattle.nnls.proofs.Choosing.{Stands, chosen-none, chosen-more, chosen-some, chosen-nothing}
 use Rattle.nnls.proofs.choose.Statement.{statement}
 use Rattle.nnls.proofs.choose.Tie as tie

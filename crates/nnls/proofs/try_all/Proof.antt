@@ -4,7 +4,7 @@ use Prim.Native.Nat.{_-_}
 use native.Mathlib.Omega.{arith}
 use lib.ListN.{length}
 use borrow.Author.Needs.{needs}
-use Rattle.workspace.specs.inner.Readings.{vec, nums}
+use Rattle.workspace.specs.Readings.{vec, nums}
 use Rattle.nnls.specs.inner.State.{read}
 use Rattle.nnls.specs.inner.Work.{trialOf}
 use Rattle.workspace.proofs.Readings.{nth-front}

@@ -6,7 +6,7 @@ use Prim.Native.Nat.{ℕ, zero, suc, _+_}
 use lib.Dec.{eqb}
 use lib.Ieee.{Float}
 use Rattle.numbers.specs.Numbers.{at, nth}
-use Rattle.workspace.specs.inner.Readings.{Span}
+use Rattle.workspace.specs.Readings.{Span}
 use Rattle.nnls.specs.Nnls.{above0}
 use Rattle.nnls_passive.specs.inner.Places.{NNLS_DUAL, NNLS_REJECTED}
 

@@ -4,7 +4,7 @@ use mathlib.Core.List.{List}
 use Prim.Native.Nat.{ℕ}
 use lib.Ieee.{Float}
 use Rattle.workspace.specs.Tables.{iterationCap}
-use Rattle.workspace.specs.inner.Readings.{vec, mat, nums}
+use Rattle.workspace.specs.Readings.{vec, mat, nums}
 use Rattle.nnls_passive.specs.Passive.{Solved, solveOf}
 use Rattle.nnls.specs.Counted.{Counted}
 use Rattle.nnls.specs.Nnls as Nnls

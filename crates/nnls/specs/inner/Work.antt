@@ -8,7 +8,7 @@ use lib.Dec.{eqb}
 use lib.ListN.{set}
 use lib.Ieee.{Float, lt}
 use Rattle.numbers.specs.Numbers.{at, nth}
-use Rattle.workspace.specs.inner.Readings.{vec, nums}
+use Rattle.workspace.specs.Readings.{vec, nums}
 use Rattle.nnls.specs.Nnls.{above0, upTo0, Obstacle, free, block, ratioOf, ranksBefore, moveX, moveP, keeps, PassEnd, kept, ended, Settled}
 use Rattle.nnls.specs.inner.State.{State, put, solveIn}
 use Rattle.nnls.specs.declared.Candidate.{Candidate}

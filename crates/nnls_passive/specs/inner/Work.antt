@@ -6,7 +6,7 @@ use Prim.Native.Nat.{ℕ, _+_, _*_, _<_, _≤_}
 use lib.ListN.{drop, length, set}
 use lib.Ieee.{Float}
 use Rattle.numbers.specs.Numbers.{at, nth, scatter}
-use Rattle.workspace.specs.inner.Readings.{vec, mat, nums}
+use Rattle.workspace.specs.Readings.{vec, mat, nums}
 use Rattle.householder.specs.Qr.{factor, solve}
 use Rattle.householder.specs.inner.Work.{held}
 use Rattle.nnls_passive.specs.Passive.{members, solveOf}

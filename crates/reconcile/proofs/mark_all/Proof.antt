@@ -4,7 +4,7 @@ use Prim.Native.Nat.{ℕ, _+_, _*_, _-_, _≤_, _<_}
 use native.Mathlib.Omega.{arith}
 use lib.ListN.{length, length-set}
 use Rattle.numbers.specs.Numbers.{at}
-use Rattle.workspace.specs.inner.Readings.{Span}
+use Rattle.workspace.specs.Readings.{Span}
 use Rattle.workspace.proofs.Writes.{written-none, written-front, written-all}
 use Rattle.reconcile.specs.Day.{mark, named}
 use Rattle.reconcile.proofs.mark_all.Statement.{statement}

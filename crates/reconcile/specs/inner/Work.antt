@@ -5,7 +5,7 @@ use mathlib.Core.List.{List}
 use lib.ListN.{length, replicate}
 use lib.Ieee.{Float}
 use Rattle.numbers.specs.Numbers.{+0, at, nth}
-use Rattle.workspace.specs.inner.Readings.{vec, stack}
+use Rattle.workspace.specs.Readings.{vec, stack}
 use Rattle.totaliser.specs.Volume.{largest}
 use Rattle.lsei.specs.inner.Work.{sides}
 use Rattle.lsei_nullspace.specs.inner.Places.{LSEI_C, LSEI_X, LSEI_E, LSEI_F, LSEI_G}

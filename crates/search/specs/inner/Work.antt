@@ -6,7 +6,7 @@ use mathlib.Core.List.{List, [], _∷_}
 use lib.ListN.{length}
 use lib.Ieee.{Float}
 use Rattle.numbers.specs.Numbers.{one, nth}
-use Rattle.workspace.specs.inner.Readings.{nums}
+use Rattle.workspace.specs.Readings.{nums}
 use Rattle.search.specs.Places.{SEARCH_ALPHA, SEARCH_CONSTRAINTS, SEARCH_D, SEARCH_FRESH, SEARCH_KINDS, SEARCH_MACHINE, SEARCH_VARIABLES, SEARCH_WORDS}
 use Rattle.search.specs.Setup.{Setup, areKinds}
 use Rattle.search.specs.Turn.{Iterate, Line, Opened, stop, go}

@@ -4,7 +4,7 @@ use Prim.Native.Nat.{ℕ, suc, _+_, _-_, _*_, _≤_}
 use native.Mathlib.Omega.{arith}
 use Rattle.numbers.specs.Numbers.{_⊖_}
 use Rattle.numbers.proofs.Fills.{Fill, fill-none, fill-more, fill-all}
-use Rattle.workspace.specs.inner.Readings.{vec}
+use Rattle.workspace.specs.Readings.{vec}
 use Rattle.search.specs.Turn.{lagrangianAt}
 use Rattle.search.proofs.Parts.{slopes-few}
 use Rattle.search_move.specs.inner.Work.{changeIn}

@@ -3,7 +3,7 @@ use mathlib.Core.Path.{_≡_, refl, sym, ap, _∙_}
 use Prim.Native.Nat.{ℕ, suc, _+_, _*_, _-_, _≤_, _<_}
 use native.Mathlib.Omega.{arith}
 use Rattle.numbers.proofs.Lists.{index-lt}
-use Rattle.workspace.specs.inner.Readings.{vec}
+use Rattle.workspace.specs.Readings.{vec}
 use Rattle.search.specs.Turn.{lagrangianAt}
 use Rattle.search_move.proofs.Iterates.{lagrangian-none, lagrangian-more, lagrangian-done}
 use Rattle.search_move.proofs.lagrangian_at.Statement.{statement}

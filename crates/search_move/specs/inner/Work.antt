@@ -3,7 +3,7 @@ use Prim.Native.Nat.{ℕ, suc, _+_, _*_}
 use mathlib.Core.List.{List}
 use lib.Ieee.{Float}
 use Rattle.numbers.specs.Numbers.{at, tab, _⊖_}
-use Rattle.workspace.specs.inner.Readings.{vec}
+use Rattle.workspace.specs.Readings.{vec}
 use Rattle.search.specs.Places.{SEARCH_ALL_SLOPES, SEARCH_MULTIPLIERS, SEARCH_NEW_X, SEARCH_X}
 use Rattle.search.specs.Turn.{lagrangianAt}
 

@@ -8,7 +8,7 @@ use lib.Dec.{eqb}
 use lib.ListN.{length, set}
 use lib.Ieee.{Float}
 use Rattle.numbers.specs.Numbers.{at, nth}
-use Rattle.workspace.specs.inner.Readings.{vec}
+use Rattle.workspace.specs.Readings.{vec}
 use Rattle.search.specs.Places.{PHASE_LOWERED, PHASE_RAISED, PHASE_SLOPES, PHASE_START, PHASE_TRIAL, SEARCH_AFTER, SEARCH_AGAIN, SEARCH_ALPHA, SEARCH_ASKED, SEARCH_CONSTRAINTS, SEARCH_COORDINATES, SEARCH_LEFT, SEARCH_MACHINE, SEARCH_NEW_SLOPES, SEARCH_NEW_X, SEARCH_RAISED_VALUE, SEARCH_VARIABLES, SEARCH_WORDS}
 use Rattle.search.specs.Setup.{Setup, Point, Report, Ending, nonfinite, areFinite}
 use Rattle.search.specs.Turn.{pointOf, reportOf, blank, along, raise, lower, quotient}

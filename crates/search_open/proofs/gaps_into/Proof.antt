@@ -5,7 +5,7 @@ use Prim.Native.Nat.{_+_, _-_, _≤_}
 use lib.ListN.{length, length-set}
 use lib.Ieee.{nan}
 use Rattle.numbers.specs.Numbers.{at, _⊖_}
-use Rattle.workspace.specs.inner.Readings.{Block}
+use Rattle.workspace.specs.Readings.{Block}
 use Rattle.workspace.proofs.Writes.{written-none, written-front, written-all}
 use Rattle.search_open.proofs.gaps_into.Statement.{statement}
 use Rattle.search_open.proofs.gaps_into.Tie as tie

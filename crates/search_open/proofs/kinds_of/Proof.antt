@@ -4,7 +4,7 @@ use mathlib.Core.Path.{_≡_, refl, _∙_}
 use Prim.Native.Nat.{_+_, _-_, _≤_}
 use lib.ListN.{length, length-set}
 use Rattle.numbers.specs.Numbers.{nth}
-use Rattle.workspace.specs.inner.Readings.{Written}
+use Rattle.workspace.specs.Readings.{Written}
 use Rattle.workspace.proofs.Writes.{written-none, written-front}
 use Rattle.search_open.proofs.Steps.{kind-in, kinds-in}
 use Rattle.search_open.proofs.kinds_of.Statement.{statement}

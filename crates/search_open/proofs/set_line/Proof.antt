@@ -6,7 +6,7 @@ use mathlib.Core.Path.{ap, _∙_}
 use mathlib.Core.List.{List}
 use lib.ListN.{set, length-set}
 use lib.Ieee.{Float, ofBits, binary64}
-use Rattle.workspace.specs.inner.Readings.{vec}
+use Rattle.workspace.specs.Readings.{vec}
 use Rattle.search.specs.Turn.{merit}
 use Rattle.search.specs.Layout.{setupIn}
 use Rattle.search.proofs.Lent.{part-length}

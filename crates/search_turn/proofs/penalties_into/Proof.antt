@@ -6,7 +6,7 @@ use native.Mathlib.Omega.{arith}
 use lib.ListN.{length, length-set}
 use lib.Ieee.{Float, nan}
 use Rattle.numbers.specs.Numbers.{at, _⊕_, _⊘_}
-use Rattle.workspace.specs.inner.Readings.{Block}
+use Rattle.workspace.specs.Readings.{Block}
 use Rattle.workspace.proofs.Writes.{written-none, written-more}
 use Rattle.search.specs.Turn.{magnitude, larger, two}
 use Rattle.search.specs.Layout.{laid}

@@ -8,7 +8,7 @@ use lib.ListN.{length, replicate}
 use lib.Ieee.{Float}
 use Rattle.numbers.specs.Numbers.{+0, at, nth}
 use Rattle.workspace.specs.Tables.{Answer, done, rankDeficient, dependent, infeasible, iterationCap}
-use Rattle.workspace.specs.inner.Readings.{vec, stack, nums}
+use Rattle.workspace.specs.Readings.{vec, stack, nums}
 use Rattle.lsei.specs.Lsei.{Solution}
 use Rattle.lsei.specs.inner.Work.{sides}
 use Rattle.lsei.specs.declared.Ending.{Ending}

@@ -5,7 +5,7 @@ use Prim.Native.Nat.{ℕ, _+_, _*_, _-_, _≤_, _<_}
 use native.Mathlib.Omega.{arith}
 use lib.ListN.{length}
 use borrow.Rule.Slice.PartMut.{same-len-mid}
-use Rattle.workspace.specs.inner.Readings.{vec}
+use Rattle.workspace.specs.Readings.{vec}
 use Rattle.workspace.proofs.Readings.{lit-+0}
 use borrow.Author.Needs.{needs}
 use Rattle.step.proofs.Relaxed.{relaxed-refused, relaxed-done, relaxed-counts}

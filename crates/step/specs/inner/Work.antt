@@ -8,7 +8,7 @@ use lib.Ieee.{Float}
 use Rattle.numbers.specs.Numbers.{+0, transposed}
 use Rattle.workspace.specs.Tables.{Answer, done, refused, isLate}
 use Rattle.workspace.specs.declared.Refusal.{Refusal}
-use Rattle.workspace.specs.inner.Readings.{vec, mat, stack}
+use Rattle.workspace.specs.Readings.{vec, mat, stack}
 use Rattle.nnls.specs.Counted.{Counted}
 use Rattle.step_rows.specs.Problem.{Problem, matrixOf, sidesOf, equalityRows, inequalityRows, relaxedRows}
 use Rattle.step.specs.Step.{Step, rootWeight, relaxedMatrix, step, reportOf}

@@ -5,7 +5,7 @@ use native.Mathlib.Omega.{arith}
 use lib.ListN.{length, length-set}
 use lib.Ieee.{nan, neg}
 use Rattle.numbers.specs.Numbers.{at}
-use Rattle.workspace.specs.inner.Readings.{Block}
+use Rattle.workspace.specs.Readings.{Block}
 use Rattle.workspace.proofs.Writes.{written-none, written-more}
 use Rattle.step_rows.proofs.copy_negated.Statement.{statement}
 use Rattle.step_rows.proofs.copy_negated.Tie as tie

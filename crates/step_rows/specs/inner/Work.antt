@@ -5,7 +5,7 @@ use mathlib.Core.List.{List, [], _∷_, _++_}
 use lib.ListN.{length}
 use lib.Ieee.{Float}
 use Rattle.numbers.specs.Numbers.{at, tab}
-use Rattle.workspace.specs.inner.Readings.{vec}
+use Rattle.workspace.specs.Readings.{vec}
 use Rattle.step_rows.specs.Problem.{Row, rowOf, byKind}
 
 -- the c rows that begin at o, o + 18, ..: n coefficients each, and the side behind them

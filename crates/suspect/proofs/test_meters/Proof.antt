@@ -2,7 +2,7 @@
 use mathlib.Core.Path.{_∙_}
 use Prim.Native.Nat.{_-_}
 use native.Mathlib.Omega.{arith}
-use Rattle.workspace.specs.inner.Readings.{vec}
+use Rattle.workspace.specs.Readings.{vec}
 use Rattle.suspect.proofs.Decisions.{first-most, first-below}
 use Rattle.suspect.proofs.Whole.{suspect-is}
 use Rattle.suspect.proofs.test_meters.Statement.{statement}

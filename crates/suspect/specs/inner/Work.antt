@@ -5,7 +5,7 @@ use mathlib.Core.List.{List}
 use lib.ListN.{length}
 use lib.Ieee.{Float}
 use Rattle.numbers.specs.Numbers.{at, nth}
-use Rattle.workspace.specs.inner.Readings.{vec, mat, stack, nums}
+use Rattle.workspace.specs.Readings.{vec, mat, stack, nums}
 use Rattle.householder.specs.Qr.{Factors, factor, applyQt}
 use Rattle.householder.specs.inner.Work.{held}
 use Rattle.householder.specs.inner.Places.{QR_MATRIX}

@@ -6,7 +6,7 @@ use lib.Ieee.{Float}
 use Rattle.numbers.specs.Numbers.{+0}
 use Rattle.workspace.specs.Tables.{done, outcomeOf, cleared}
 use Rattle.workspace.specs.declared.Outcome.{Outcome}
-use Rattle.workspace.specs.inner.Readings.{stack, nums}
+use Rattle.workspace.specs.Readings.{stack, nums}
 use Rattle.suspect.specs.Suspect.{Tests}
 use Rattle.suspect.specs.declared.Finding.{Finding}
 use Rattle.suspect.specs.inner.Places.{SUSPECT_SHARES, SUSPECT_GROUPS, SUSPECT_MARKS}

@@ -6,7 +6,7 @@ use lib.ListN.{length, length-set}
 use lib.Ieee.{nan, ofBits}
 use Rattle.numbers.specs.Numbers.{+0}
 use Rattle.workspace.proofs.Readings.{lit-+0}
-use Rattle.workspace.specs.inner.Readings.{Block}
+use Rattle.workspace.specs.Readings.{Block}
 use Rattle.workspace.proofs.Writes.{written-none, written-more}
 use Rattle.workspace.proofs.blank.Statement.{statement}
 use Rattle.workspace.proofs.blank.Tie as tie

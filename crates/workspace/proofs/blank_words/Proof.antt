@@ -3,7 +3,7 @@ use mathlib.Core.Path.{_≡_, refl}
 use Prim.Native.Nat.{_+_, _*_, _-_, _≤_}
 use native.Mathlib.Omega.{arith}
 use lib.ListN.{length, length-set}
-use Rattle.workspace.specs.inner.Readings.{Span}
+use Rattle.workspace.specs.Readings.{Span}
 use Rattle.workspace.proofs.Writes.{written-none, written-more}
 use Rattle.workspace.proofs.blank_words.Statement.{statement}
 use Rattle.workspace.proofs.blank_words.Tie as tie

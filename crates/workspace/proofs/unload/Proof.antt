@@ -4,7 +4,7 @@ use Prim.Native.Nat.{ℕ, _+_, _*_}
 use native.Mathlib.Omega.{arith}
 use lib.Ieee.{nan}
 use Rattle.numbers.specs.Numbers.{at}
-use Rattle.workspace.specs.inner.Readings.{vec}
+use Rattle.workspace.specs.Readings.{vec}
 use Rattle.workspace.proofs.Writes.{written-as, written-all}
 use Rattle.workspace.proofs.unload.Statement.{statement}
 use Rattle.workspace.proofs.unload.Tie as tie

@@ -1,6 +1,6 @@
 -- `tell_float`: what is not a NaN has bits.
 use native.Mathlib.Omega.{arith}
-use Rattle.record_read.proofs.Bytes.{some-bits}
+use Rattle.problem_read.proofs.Bytes.{some-bits}
 use Rattle.cases.proofs.lines.tell_float.Statement.{statement}
 use Rattle.cases.proofs.lines.tell_float.Tie as tie
 

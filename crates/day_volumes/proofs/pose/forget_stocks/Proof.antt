@@ -3,7 +3,7 @@ use mathlib.Core.Bool.{cond}
 use lib.Dec.{eqb}
 use Prim.Native.Nat.{ℕ, _+_, _-_, _≤_}
 use lib.ListN.{length, length-set}
-use Rattle.workspace.specs.inner.Readings.{Written}
+use Rattle.workspace.specs.Readings.{Written}
 use Rattle.workspace.proofs.Writes.{written-none, written-front, written-all}
 use Rattle.numbers.specs.Numbers.{at, nth}
 use native.Mathlib.Omega.{arith}

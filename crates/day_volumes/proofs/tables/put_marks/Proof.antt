@@ -1,7 +1,7 @@
 use mathlib.Core.Path.{_≡_, refl}
 use Prim.Native.Nat.{_-_, _≤_}
 use lib.ListN.{length, length-set}
-use Rattle.workspace.specs.inner.Readings.{Written}
+use Rattle.workspace.specs.Readings.{Written}
 use Rattle.workspace.proofs.Writes.{written-none, written-front}
 use Rattle.numbers.specs.Numbers.{at, nth}
 use native.Mathlib.Omega.{arith}

@@ -5,7 +5,7 @@ use native.Mathlib.Omega.{arith}
 use lib.ListN.{length, length-set}
 use lib.Ieee.{nan, Float}
 use Rattle.numbers.specs.Numbers.{_⊕_, _⊗_, at}
-use Rattle.workspace.specs.inner.Readings.{Block}
+use Rattle.workspace.specs.Readings.{Block}
 use Rattle.workspace.proofs.Writes.{written-none, written-more}
 use Rattle.householder.proofs.vectors.lift.Statement.{statement}
 use Rattle.householder.proofs.vectors.lift.Tie as tie

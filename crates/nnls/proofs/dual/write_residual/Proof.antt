@@ -5,7 +5,7 @@ use Prim.Native.Nat.{_-_, _≤_}
 use native.Mathlib.Omega.{arith}
 use lib.ListN.{length, length-set}
 use lib.Ieee.{Float, nan}
-use Rattle.workspace.specs.inner.Readings.{Block}
+use Rattle.workspace.specs.Readings.{Block}
 use Rattle.workspace.proofs.Writes.{written-more}
 use Rattle.nnls.specs.inner.Dual.{residualAt}
 use Rattle.nnls.proofs.Fours.{residual-same}

@@ -1,5 +1,5 @@
 -- `pattern` meets its contract.
-use Rattle.record_read.proofs.Bytes.{some-bits}
+use Rattle.problem_read.proofs.Bytes.{some-bits}
 use Rattle.replay_list.proofs.Digests.{pattern-nan, pattern-bits}
 use borrow.Author.Needs.{needs}
 use Rattle.replay_list.proofs.digest.pattern.Statement.{statement}

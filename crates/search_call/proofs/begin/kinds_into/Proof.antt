@@ -4,7 +4,7 @@ use Prim.Native.Nat.{ℕ, suc, _+_, _*_, _-_, _≤_, _<_}
 use native.Mathlib.Omega.{arith}
 use lib.ListN.{length, length-set}
 use Rattle.numbers.specs.Numbers.{nth}
-use Rattle.workspace.specs.inner.Readings.{Span}
+use Rattle.workspace.specs.Readings.{Span}
 use Rattle.workspace.proofs.Writes.{written-none, written-more}
 use Rattle.search_call.proofs.Posing.{kinds-laid}
 use Rattle.search_call.proofs.begin.kinds_into.Statement.{statement}

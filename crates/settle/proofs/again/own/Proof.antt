@@ -4,7 +4,7 @@ use Prim.Native.Nat.{_-_, _≤_}
 use native.Mathlib.Omega.{arith}
 use Rattle.workspace.proofs.Copies.{rows-in}
 use Rattle.settle.proofs.Working.{own-none, own-more}
-use Rattle.workspace.specs.inner.Readings.{nums}
+use Rattle.workspace.specs.Readings.{nums}
 use Rattle.settle.specs.Settle.{owned}
 use borrow.Author.Needs.{needs}
 use Rattle.settle.proofs.again.own.Statement.{statement}

@@ -5,7 +5,7 @@ use native.Mathlib.Omega.{arith}
 use lib.ListN.{length, length-set}
 use lib.Ieee.{nan}
 use Rattle.numbers.specs.Numbers.{at}
-use Rattle.workspace.specs.inner.Readings.{nums, Block}
+use Rattle.workspace.specs.Readings.{nums, Block}
 use Rattle.workspace.proofs.Writes.{written-none, written-more}
 use Rattle.settle.specs.Settle.{owned}
 use Rattle.settle.proofs.again.store_x.Statement.{statement}

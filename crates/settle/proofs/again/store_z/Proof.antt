@@ -5,7 +5,7 @@ use native.Mathlib.Omega.{arith}
 use lib.ListN.{length, length-set}
 use mathlib.Core.List.{List}
 use lib.Ieee.{Float, nan}
-use Rattle.workspace.specs.inner.Readings.{vec, nums, Block}
+use Rattle.workspace.specs.Readings.{vec, nums, Block}
 use Rattle.workspace.proofs.Readings.{vec-same}
 use Rattle.workspace.proofs.Writes.{written-none, written-more}
 use Rattle.settle.specs.Settle as Definition

@@ -4,7 +4,7 @@ use Prim.Native.Nat.{_+_, _-_, _≤_}
 use native.Mathlib.Omega.{arith}
 use Rattle.settle.proofs.Tries.{tries-found, tries-stop, tries-out}
 use lib.ListN.{length}
-use Rattle.workspace.specs.inner.Readings.{nums}
+use Rattle.workspace.specs.Readings.{nums}
 use Rattle.settle.specs.Settle.{measured, tries}
 use Rattle.settle.specs.inner.Work.{Held, FirstStays}
 use borrow.Author.Needs.{needs}

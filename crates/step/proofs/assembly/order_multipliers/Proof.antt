@@ -6,7 +6,7 @@ use mathlib.Core.List.{_++_}
 use lib.ListN.{length, length-set}
 use lib.Ieee.{nan}
 use Rattle.numbers.specs.Numbers.{at, nth}
-use Rattle.workspace.specs.inner.Readings.{vec, Block}
+use Rattle.workspace.specs.Readings.{vec, Block}
 use Rattle.workspace.proofs.Writes.{written-none, written-more}
 use Rattle.step.specs.Step.{inOrder}
 use Rattle.step.proofs.Ordering.{Passed, passed-none, passed-more, placed, ordered-kept}

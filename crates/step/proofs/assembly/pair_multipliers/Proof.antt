@@ -5,7 +5,7 @@ use native.Mathlib.Omega.{arith}
 use lib.ListN.{length, length-set}
 use lib.Ieee.{nan}
 use Rattle.numbers.specs.Numbers.{at, nth}
-use Rattle.workspace.specs.inner.Readings.{vec, Block}
+use Rattle.workspace.specs.Readings.{vec, Block}
 use Rattle.workspace.proofs.Writes.{written-none, written-more}
 use Rattle.step.specs.Step.{paired}
 use Rattle.step.proofs.Ordering.{PassedRows, rows-none, rows-more, rows-left, paired-next, paired-kept}

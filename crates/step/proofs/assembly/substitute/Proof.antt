@@ -4,7 +4,7 @@ use Prim.Native.Nat.{ℕ, _+_, _*_, _-_, _≤_, _<_}
 use native.Mathlib.Omega.{arith}
 use lib.ListN.{length, length-set}
 use Rattle.numbers.specs.Numbers.{transposed}
-use Rattle.workspace.specs.inner.Readings.{vec}
+use Rattle.workspace.specs.Readings.{vec}
 use Rattle.householder.specs.Qr.{downward}
 use Rattle.step.proofs.Target.{forward-none, forward-more}
 use Rattle.step.proofs.assembly.substitute.Statement.{statement}

@@ -2,7 +2,7 @@
 use mathlib.Core.Path.{_≡_, refl, sym, ap, _∙_}
 use native.Mathlib.Omega.{arith}
 use lib.ListN.{length-set}
-use Rattle.workspace.specs.inner.Readings.{vec}
+use Rattle.workspace.specs.Readings.{vec}
 use Rattle.workspace.proofs.Readings.{lit-+0}
 use Rattle.step_rows.proofs.Pushing.{written-behind}
 use Rattle.step.proofs.assembly.write_side.Statement.{statement}

@@ -2,7 +2,7 @@
 use mathlib.Core.Path.{_∙_}
 use Prim.Native.Nat.{_-_}
 use native.Mathlib.Omega.{arith}
-use Rattle.workspace.specs.inner.Readings.{mat}
+use Rattle.workspace.specs.Readings.{mat}
 use Rattle.workspace.proofs.Readings.{length-mat}
 use Rattle.suspect.proofs.Preparing.{rank-few, perm-below, prepared-is}
 use Rattle.suspect.proofs.balances.prepare.Statement.{statement}

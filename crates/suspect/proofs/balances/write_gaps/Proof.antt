@@ -5,7 +5,7 @@ use native.Mathlib.Omega.{arith}
 use lib.ListN.{length, length-set}
 use lib.Ieee.{nan}
 use Rattle.numbers.specs.Numbers.{nth}
-use Rattle.workspace.specs.inner.Readings.{Block}
+use Rattle.workspace.specs.Readings.{Block}
 use Rattle.workspace.proofs.Writes.{written-none, written-more}
 use Rattle.suspect.specs.Suspect.{gap}
 use Rattle.workspace.proofs.Copies.{row-in}

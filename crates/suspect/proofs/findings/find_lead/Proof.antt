@@ -3,7 +3,7 @@ use mathlib.Core.Path.{_≡_, sym}
 use Prim.Native.Nat.{_-_, _≤_}
 use native.Mathlib.Omega.{arith}
 use Rattle.numbers.specs.Numbers.{at}
-use Rattle.workspace.specs.inner.Readings.{vec}
+use Rattle.workspace.specs.Readings.{vec}
 use Rattle.workspace.proofs.Readings.{at-vec}
 use Rattle.suspect.specs.Suspect.{largest}
 use Rattle.suspect.proofs.Decisions.{largest-none, largest-more}

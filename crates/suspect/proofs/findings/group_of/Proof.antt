@@ -2,7 +2,7 @@
 use mathlib.Core.Path.{_≡_, ap, _∙_}
 use Prim.Native.Nat.{ℕ, _+_, _-_, _≤_}
 use native.Mathlib.Omega.{arith}
-use Rattle.workspace.specs.inner.Readings.{vec, stack}
+use Rattle.workspace.specs.Readings.{vec, stack}
 use Rattle.suspect.specs.Suspect.{groupOf}
 use Rattle.suspect.proofs.Decisions.{group-none, group-more, joined-most}
 use Rattle.suspect.proofs.findings.group_of.Statement.{statement}

@@ -2,7 +2,7 @@
 use mathlib.Core.Path.{_≡_, subst, _∙_}
 use Prim.Native.Nat.{_≤_}
 use native.Mathlib.Omega.{arith}
-use Rattle.workspace.specs.inner.Readings.{vec}
+use Rattle.workspace.specs.Readings.{vec}
 use Rattle.suspect.proofs.Decisions.{lead-most, finding-is}
 use Rattle.suspect.proofs.Measures.{misfit-in}
 use Rattle.suspect.proofs.findings.judge.Statement.{statement}

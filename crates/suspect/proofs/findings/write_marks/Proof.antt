@@ -4,7 +4,7 @@ use Prim.Native.Nat.{_-_, _≤_}
 use native.Mathlib.Omega.{arith}
 use lib.ListN.{length, length-set}
 use Rattle.numbers.specs.Numbers.{at}
-use Rattle.workspace.specs.inner.Readings.{vec, stack, Span}
+use Rattle.workspace.specs.Readings.{vec, stack, Span}
 use Rattle.workspace.proofs.Writes.{written-none, written-more}
 use Rattle.suspect.specs.Suspect.{markUnless}
 use Rattle.suspect.proofs.findings.write_marks.Statement.{statement}

@@ -6,7 +6,7 @@ use native.Mathlib.Omega.{arith}
 use lib.ListN.{length, length-set}
 use lib.Ieee.{Float, nan}
 use Rattle.numbers.specs.Numbers.{at}
-use Rattle.workspace.specs.inner.Readings.{stack, Block}
+use Rattle.workspace.specs.Readings.{stack, Block}
 use Rattle.workspace.proofs.Writes.{written-none, written-more}
 use Rattle.suspect.specs.Suspect.{shares}
 use Rattle.suspect.proofs.Measures.{directions-stay, vector-written}

@@ -1,9 +1,0 @@
--- The first 9,504 bytes decide what the program writes.
-use mathlib.Core.Path.{ap}
-use Rattle.record_answer.specs.Program.{decodedText, programText}
-use Rattle.record_answer.specs.Claims.{FirstBytesDecide}
-use Rattle.record_read.proofs.Enough as input
-
-pub first-bytes : FirstBytesDecide
-unfolding programText
-first-bytes p q h = ap decodedText (input.first-bytes p q h)
