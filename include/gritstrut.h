@@ -237,7 +237,8 @@ uint32_t gritstrut_settle(size_t n, size_t m, size_t p, const double *values, si
 
 /* The bound of volumes and multipliers from anywhere, settled (n) and multipliers (m + p), which
  * are in: +infinity where one of them is not finite, or a limit's multiplier is below zero. What
- * gritstrut_settle stored gives its bound back. Refused as that, but by 10, 5, 6, 7 and 11. */
+ * gritstrut_settle stored gives its bound back. Refused as that, but
+ * without 5, 6, 7, 10 and 11. */
 uint32_t gritstrut_certify(size_t n, size_t m, size_t p, const double *values, size_t values_len,
                            const double *spreads, size_t spreads_len,
                            const double *balances, size_t balances_len,
@@ -391,8 +392,8 @@ enum {
     GRITSTRUT_EXACT_PLACE,    /* with 5 and 11, as LSEI's; else GRITSTRUT_NOWHERE */
     GRITSTRUT_RELAXED_NUMBER, /* 0 where the relaxed one was solved or not tried, else 5, 6 or 7 */
     GRITSTRUT_RELAXED_PLACE,  /* with 5 the variable, n being the relaxation; else NOWHERE */
-    GRITSTRUT_ROUNDS,         /* rounds of NNLS in both stages, as gritstrut_nnls counts them: one
-                                 refused by 7 is not counted */
+    GRITSTRUT_ROUNDS,         /* rounds of NNLS in both stages, as gritstrut_nnls counts them: the
+                                 one that ends in Capped (7) is not counted */
     GRITSTRUT_FACTORINGS,     /* QR factorings in both stages, of no columns too: at most 25,879 */
     GRITSTRUT_REPORT          /* how many entries a report has */
 };
@@ -448,7 +449,7 @@ uint32_t gritstrut_step(size_t n, size_t m, const double *factor, size_t factor_
                         double *w, size_t w_len, uint32_t *iw, size_t iw_len);
 
 /* The strict step: the step, but that a bound that is NaN, a lower bound of +infinity and an upper
- * bound of -infinity are refused by 15, directly after 14, and not taken as open; lower -infinity
+ * bound of -infinity are Bound (15), tested after Width (14), and not taken as open; lower -infinity
  * and upper +infinity are open. With 15 report has GRITSTRUT_BOUND in its exact number and the
  * lowest such variable in its exact place, 0 and GRITSTRUT_NOWHERE for the relaxed stage, and
  * counts of 0; nothing else is written, and the tally stays. With every other number all is as the
