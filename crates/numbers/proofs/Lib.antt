@@ -4,6 +4,7 @@ pub mod Lists
 pub mod Fills
 pub mod Order
 pub mod FloorRoot
+pub mod Int64
 pub mod RootAt
 pub mod Patterns
 pub mod Correct

@@ -70,28 +70,30 @@ pub fn dot_strided(xs: &[f64], a: usize, s: usize, ys: &[f64], b: usize, t: usiz
     part
 }
 
-// The root of m * 2^54, rounded down, one binary digit a pass, as docs/ROOT.md works it on paper: `rest`
-// is what the square of `root` leaves of the digits that have come down, `below` holds the others.
+// The root of m * 2^54, rounded down, one binary digit a pass, as docs/ROOT.md works it on paper: `trial`
+// is four times the root so far, plus one; `rest` is what the square of that root leaves of the digits
+// that have come down, and `below` holds the others. The sign of `left` chooses the digit, so that the
+// subtraction is the comparison too.
 fn floor_root(m: u64) -> u64
     requires { ⌜ m < 2 ^ 54 ⌝ }
     ensures { λ r. ⌜ r ≡ floorRoot 54 (m * 2 ^ 54) ⌝ }
 {
-    let mut root: u64 = 0;
-    let mut rest: u64 = 0;
+    let mut trial: i64 = 1;
+    let mut rest: i64 = 0;
     let mut below = m;
     let mut k: u64 = 0;
     while k < 54 {
         k += 1;
-        rest = 4 * rest + below / 0x10_0000_0000_0000;
+        rest = 4 * rest + (below / 0x10_0000_0000_0000) as i64;
         below = 4 * (below % 0x10_0000_0000_0000);
-        let trial = 4 * root + 1;
-        root = 2 * root;
-        if trial <= rest {
-            rest -= trial;
-            root += 1;
+        let left = rest - trial;
+        trial = 2 * trial - 1;
+        if left >= 0 {
+            rest = left;
+            trial += 4;
         }
     }
-    root
+    (trial / 4) as u64
 }
 
 // The root of m * 2^j units of 2^-1074, to the nearest f64. g zeros stand above m's 53 places; p / 2
