@@ -1,10 +1,10 @@
 -- Laws of LSI's inequalities: one row reduced, all of them, and how they read as the definition's.
-use mathlib.Core.Path.{_≡_, refl, sym, ap, ap₂, _∙_}
+use mathlib.Core.Path.{_≡_, refl, sym, ap, ap₂, _∙_, subst}
 use mathlib.Core.List.{List}
 use mathlib.Core.Logic.{⊎-elim}
 use Prim.Native.Nat.{ℕ, _+_, _*_, _<_, _≤_}
 use native.Mathlib.Omega.{arith}
-use lib.ListN.{length, set}
+use lib.ListN.{length, set, length-set}
 use lib.Seq.{getD-set-same, getD-set-other}
 use lib.Ieee.{Float, nan}
 use Rattle.numbers.specs.Numbers.{at, nth, tab, gather, row, dot, Σ, _⊖_, _⊗_}
@@ -15,6 +15,8 @@ use Rattle.workspace.specs.Readings.{vec, stack, nums, Block}
 use Rattle.workspace.proofs.Readings.{at-vec, vec-is, vec-same, nth-nums, row-stack, stack-is, stack-same}
 use Rattle.householder.specs.Qr.{Factors, applyQt, solveRt}
 use Rattle.householder.specs.inner.Work.{held, AppliedQt, SolvedRt, SolvedFour}
+use Rattle.nnls.specs.inner.Dual.{rowSum, fourRows}
+use Rattle.nnls.specs.declared.dual.Four.{Four}
 use Rattle.lsei.specs.Lsei.{reducedRows, reducedSides}
 use Rattle.lsei.specs.inner.Work.{sides, PermutedRow, Permuted, SolvedRows, Shifted, Reduced}
 use Rattle.householder.proofs.Held.{held-same}
@@ -126,20 +128,56 @@ module _ (n t : ℕ) (w₀ w w′ : List Float) (n17 : n ≤ 17) (r : SolvedRows
 pub shifted-none : (n : ℕ) (w : List Float) → Shifted n 0 w w
 shifted-none n w = record { sides = λ i h. absurd (omega arith); others = λ x h. refl }
 
+pub shifted-at : (n t u : ℕ) (w₀ w : List Float) → t ≡ u → Shifted n t w₀ w → Shifted n u w₀ w
+shifted-at n t u w₀ w e r = subst (λ (i : ℕ). Shifted n i w₀ w) e r
+
+-- side t, at the place x, less its row's product before all shifts
+shifted-next : (n t x : ℕ) (w₀ w : List Float) (d : Float) → n ≤ 17 → x ≡ 750 + t * 18 + n → x < length w → d ≡ Σ n (λ k. at w₀ (750 + t * 18 + k) ⊗ at w₀ (732 + k)) → Shifted n t w₀ w
+    → Shifted n (t + 1) w₀ (set w x (at w x ⊖ d))
+shifted-next n t x w₀ w d n17 z l D r = record {
+  sides = λ i h.
+      ⊎-elim (λ (q : i < t). getD-set-other w x (750 + i * 18 + n) _ nan (λ e. omega arith) ∙ r .sides i q)
+      (λ (q : t ≤ i).
+      let e : 750 + i * 18 + n ≡ x = omega arith in
+      let f : i ≡ t = omega arith in
+      rw (e, f) (getD-set-same w x _ nan l ∙ ap₂ _⊖_ (r .others x (λ j g y. omega arith)) D))
+      (lt-or-ge i t);
+  others = λ y g. getD-set-other w x y _ nan (λ e. g t (omega arith) (omega arith)) ∙ r .others y (λ j h. g j (omega arith));
+}
+
+-- a row's product is what it was before the sides ahead of it were shifted
+product-same : (n t i x : ℕ) (w₀ w : List Float) (d : Float) → n ≤ 17 → x ≡ 750 + i * 18 → d ≡ Σ n (λ k. at w (x + k) ⊗ at w (732 + k)) → Shifted n t w₀ w → d ≡ Σ n (λ k. at w₀ (750 + i * 18 + k) ⊗ at w₀ (732 + k))
+product-same n t i x w₀ w d n17 z D r =
+    D
+    ∙ Σ-same n _ _ (λ k g. ap₂ _⊗_ (ap (λ (y : ℕ). at w (y + k)) z ∙ r .others (750 + i * 18 + k) (λ j y e. omega arith)) (r .others (732 + k) (λ j y e. omega arith)))
+
 pub shifted-more : (n t : ℕ) (w₀ w : List Float) (d : Float) → n ≤ 17 → 750 + t * 18 + n < length w → d ≡ Σ n (λ k. at w (750 + t * 18 + k) ⊗ at w (732 + k)) → Shifted n t w₀ w
     → Shifted n (t + 1) w₀ (set w (750 + t * 18 + n) (at w (750 + t * 18 + n) ⊖ d))
-shifted-more n t w₀ w d n17 l D r = record {
-  sides = λ i h.
-      ⊎-elim (λ (q : i < t). getD-set-other w (750 + t * 18 + n) (750 + i * 18 + n) _ nan (λ e. omega arith) ∙ r .sides i q)
-      (λ (q : t ≤ i).
-      let e : i ≡ t = omega arith in
-      rw e
-      (getD-set-same w (750 + t * 18 + n) _ nan l
-      ∙ ap₂ _⊖_ (r .others (750 + t * 18 + n) (λ j g z. omega arith))
-      (D ∙ Σ-same n _ _ (λ k g. ap₂ _⊗_ (r .others (750 + t * 18 + k) (λ j y z. omega arith)) (r .others (732 + k) (λ j y z. omega arith))))))
-      (lt-or-ge i t);
-  others = λ x g. getD-set-other w (750 + t * 18 + n) x _ nan (g t (omega arith)) ∙ r .others x (λ j h. g j (omega arith));
-}
+shifted-more n t w₀ w d n17 l D r = shifted-next n t (750 + t * 18 + n) w₀ w d n17 refl l (product-same n t t (750 + t * 18) w₀ w d n17 refl D r) r
+
+-- a side less d
+abbrev less : (x : ℕ) (d : Float) (w : List Float) → List Float
+less x d w = set w x (at w x ⊖ d)
+
+-- four sides more
+pub shifted-four : (n t : ℕ) (w₀ w : List Float) (s : Four) → n ≤ 17 → 750 + t * 18 + 54 + n < length w → s ≡ fourRows (rowSum n 732 w) (750 + t * 18) → Shifted n t w₀ w
+    → Shifted n (t + 4) w₀ (less (750 + t * 18 + 54 + n) (s .d) (less (750 + t * 18 + 36 + n) (s .c) (less (750 + t * 18 + 18 + n) (s .b) (less (750 + t * 18 + n) (s .a) w))))
+unfolding rowSum
+shifted-four n t w₀ w s n17 l e r =
+    let o = 750 + t * 18 in
+    let w₁ = less (o + n) (s .a) w in
+    let w₂ = less (o + 18 + n) (s .b) w₁ in
+    let w₃ = less (o + 36 + n) (s .c) w₂ in
+    let l₁ : length w₁ ≡ length w = length-set w (o + n) _ in
+    let l₂ : length w₂ ≡ length w = length-set w₁ (o + 18 + n) _ ∙ l₁ in
+    let l₃ : length w₃ ≡ length w = length-set w₂ (o + 36 + n) _ ∙ l₂ in
+    let r₁ = shifted-next n t (o + n) w₀ w (s .a) n17 refl (omega arith) (product-same n t t o w₀ w (s .a) n17 refl (ap (λ (u : Four). u .a) e) r) r in
+    let r₂ =
+    shifted-next n (t + 1) (o + 18 + n) w₀ w₁ (s .b) n17 (omega arith) (omega (arith, l, l₁)) (product-same n t (t + 1) (o + 18) w₀ w (s .b) n17 (omega arith) (ap (λ (u : Four). u .b) e) r) r₁ in
+    let r₃ =
+    shifted-next n (t + 1 + 1) (o + 36 + n) w₀ w₂ (s .c) n17 (omega arith) (omega (arith, l, l₂)) (product-same n t (t + 1 + 1) (o + 36) w₀ w (s .c) n17 (omega arith) (ap (λ (u : Four). u .c) e) r) r₂ in
+    shifted-at n (t + 1 + 1 + 1 + 1) (t + 4) w₀ _ (omega arith)
+    (shifted-next n (t + 1 + 1 + 1) (o + 54 + n) w₀ w₃ (s .d) n17 (omega arith) (omega (arith, l, l₃)) (product-same n t (t + 1 + 1 + 1) (o + 54) w₀ w (s .d) n17 (omega arith) (ap (λ (u : Four). u .d) e) r) r₃)
 
 -- ---- all three, for every row
 

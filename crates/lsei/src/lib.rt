@@ -2,8 +2,10 @@
 // min ||E x - f|| with G x >= h, each in one part of each workspace.
 ghost use mathlib.Core.Path.{_≡_};
 ghost use mathlib.Core.Bool.{cond};
+ghost use mathlib.Core.List.{List};
 ghost use Prim.Native.Nat.{ℕ, _+_, _*_, _/_, _<_, _≤_};
 ghost use lib.Dec.{ltb};
+ghost use lib.Ieee.{Float};
 ghost use lib.ListN.{length};
 ghost use Rattle.numbers.specs.Numbers.{+0, one, at, nth, Σ, _⊕_, _⊖_, _⊗_, _⊘_};
 ghost use Rattle.workspace.specs.Readings.{vec, mat, stack, Block};
@@ -256,12 +258,37 @@ fn solve_rows(w: &mut [f64], n: usize, mg: usize)
     }
 }
 
+// Sides i to i + 3, each less its row's product with Q'f.
+fn shift_four(w: &mut [f64], n: usize, i: usize)
+    requires { ⌜ (n ≤ 17) × (i + 4 ≤ 66) × (LSI_ROOM ≤ length (now w)) ⌝ }
+    ensures { λ _. ⌜ ((w₀ : List Float) → Shifted n i w₀ (now (w .entry)) → Shifted n (i + 4) w₀ (now (w .exit))) ⌝ }
+{
+    let o = LSI_G + i * 18;
+    let s = nnls::row_sums_four(w, o, LSI_F, n);
+    w[o + n] = w[o + n] - s.a;
+    w[o + 18 + n] = w[o + 18 + n] - s.b;
+    w[o + 36 + n] = w[o + 36 + n] - s.c;
+    w[o + 54 + n] = w[o + 54 + n] - s.d;
+}
+
+// The sides by fours: up to three are left.
+fn shift_fours(w: &mut [f64], n: usize, mg: usize)
+    requires { ⌜ (n ≤ 17) × (mg ≤ 66) × (LSI_ROOM ≤ length (now w)) ⌝ }
+    ensures { λ _. ⌜ Shifted n (mg / 4 * 4) (now (w .entry)) (now (w .exit)) ⌝ }
+{
+    let c = mg / 4;
+    for q in 0..c {
+        shift_four(w, n, q * 4);
+    }
+}
+
 // Each side less its row's product with Q'f.
 fn shift_sides(w: &mut [f64], n: usize, mg: usize)
     requires { ⌜ (n ≤ 17) × (mg ≤ 66) × (LSI_ROOM ≤ length (now w)) ⌝ }
     ensures { λ _. ⌜ Shifted n mg (now (w .entry)) (now (w .exit)) ⌝ }
 {
-    for i in 0..mg {
+    shift_fours(w, n, mg);
+    for i in mg / 4 * 4..mg {
         let o = LSI_G + i * 18;
         let t = numbers::dot_within(w, o, LSI_F, n);
         w[o + n] = w[o + n] - t;

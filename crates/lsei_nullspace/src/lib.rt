@@ -10,7 +10,7 @@ ghost use Rattle.workspace.specs.Readings.{vec, stack, Block};
 ghost use Rattle.nnls.specs.inner.Dual.{fourOf};
 ghost use Rattle.lsei.specs.Lsei.{lsei};
 ghost use Rattle.lsei.specs.inner.Work.{endedSolution, sides, Spaced};
-ghost use Rattle.lsei_nullspace.specs.inner.Work.{solutionIn, LseiReady, Fixed, TurnedRow, TurnedRows, LaidE, LaidG, RowsOfE, RowsOfG, TailOfE, TailOfG, LseiReduced, slopeIn, Rejoined, Priced, Completed};
+ghost use Rattle.lsei_nullspace.specs.inner.Work.{solutionIn, LseiReady, Fixed, TurnedRow, TurnedRows, LaidE, LaidG, RowsOfE, RowsOfG, TailOfE, TailOfG, LseiReduced, residualIn, slopeIn, Rejoined, Priced, Completed};
 ghost use Rattle.householder.specs.inner.Places.{QR_MATRIX, QR_SIDE, QR_SOLUTION};
 ghost use Rattle.lsei_nullspace.specs.inner.Places.{LSEI_E, LSEI_F, LSEI_G, LSEI_ROOM, LSEI_WORDS, LSEI_X};
 
@@ -213,12 +213,39 @@ fn rejoin(w: &mut [f64], n: usize, mc: usize)
     householder::apply_q(w, n, mc, LSEI_X);
 }
 
+// Entries i to i + 3 of the residual E x - f, side by side: each is summed in its own order.
+fn residual_four(w: &[f64], n: usize, i: usize) -> nnls::Four
+    requires { ⌜ (n ≤ 17) × (i < 14) × (LSEI_ROOM ≤ length (now w)) ⌝ }
+    ensures { λ r. ⌜ r ≡ fourOf (λ k. residualIn n k (now (w .entry))) i ⌝ }
+{
+    let s = nnls::row_sums_four(w, LSEI_E + i * 18, LSEI_X, n);
+    nnls::Four {
+        a: s.a - w[LSEI_F + i],
+        b: s.b - w[LSEI_F + (i + 1)],
+        c: s.c - w[LSEI_F + (i + 2)],
+        d: s.d - w[LSEI_F + (i + 3)],
+    }
+}
+
+// The residual by fours: up to three entries are left.
+fn residual_fours(w: &mut [f64], n: usize, me: usize)
+    requires { ⌜ (n ≤ 17) × (me ≤ 17) × (LSEI_ROOM ≤ length (now w)) ⌝ }
+    ensures { λ _. ⌜ Block QR_SOLUTION (me / 4 * 4) (λ i. residualIn n i (now (w .entry))) (now (w .entry)) (now (w .exit)) ⌝ }
+{
+    let e = me / 4;
+    for q in 0..e {
+        let s = residual_four(w, n, q * 4);
+        nnls::put_four(w, householder::QR_SOLUTION + q * 4, s);
+    }
+}
+
 // The residual E x - f, in the place of a solution.
 fn residuals(w: &mut [f64], n: usize, me: usize)
     requires { ⌜ (n ≤ 17) × (me ≤ 17) × (LSEI_ROOM ≤ length (now w)) ⌝ }
-    ensures { λ _. ⌜ Block QR_SOLUTION me (λ i. Σ n (λ j. at (now (w .entry)) (LSEI_E + i * 18 + j) ⊗ at (now (w .entry)) (LSEI_X + j)) ⊖ at (now (w .entry)) (LSEI_F + i)) (now (w .entry)) (now (w .exit)) ⌝ }
+    ensures { λ _. ⌜ Block QR_SOLUTION me (λ i. residualIn n i (now (w .entry))) (now (w .entry)) (now (w .exit)) ⌝ }
 {
-    for i in 0..me {
+    residual_fours(w, n, me);
+    for i in me / 4 * 4..me {
         let t = numbers::dot_within(w, LSEI_E + i * 18, LSEI_X, n);
         w[householder::QR_SOLUTION + i] = t - w[LSEI_F + i];
     }

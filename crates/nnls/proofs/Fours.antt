@@ -9,7 +9,7 @@ use Rattle.numbers.specs.Numbers.{at, Σ, _⊖_, _⊗_}
 use Rattle.numbers.proofs.Sums.{Σ-same}
 use Rattle.workspace.specs.Readings.{Block}
 use Rattle.workspace.proofs.Writes.{written-more}
-use Rattle.nnls.specs.inner.Dual.{residualAt, dualAt, fourOf, setFour}
+use Rattle.nnls.specs.inner.Dual.{residualAt, dualAt, rowSum, fourOf, fourRows, setFour}
 use Rattle.nnls.specs.declared.dual.Four.{Four}
 
 -- the entries are the same before and after some are written
@@ -21,6 +21,13 @@ residual-same m n v w m18 n66 c l r i h =
 pub dual-same : (m n : ℕ) (v w : List Float) → m ≤ 18 → n ≤ 66 → (c : ℕ) → c ≤ n → Block 1338 c (dualAt m v) v w → (j : ℕ) → j < n → dualAt m w j ≡ dualAt m v j
 unfolding dualAt
 dual-same m n v w m18 n66 c l r j h = Σ-same m _ _ (λ i hi. ap₂ _⊗_ (r .before (j * 18 + i) (omega arith)) (r .after (1404 + i) (omega arith)))
+
+-- four columns' sums are four entries of the dual
+pub dual-four-is : (m j : ℕ) (w : List Float) (s : Four) → s ≡ fourRows (rowSum m 1404 w) (j * 18) → s ≡ fourOf (dualAt m w) j
+unfolding dualAt rowSum
+dual-four-is m j w s e =
+    let one : (x i : ℕ) → x ≡ i * 18 → rowSum m 1404 w x ≡ dualAt m w i = λ x i h. ap (rowSum m 1404 w) h in
+    e ∙ rw (one (j * 18 + 18) (j + 1) (omega arith), one (j * 18 + 36) (j + 2) (omega arith), one (j * 18 + 54) (j + 3) (omega arith))
 
 -- one entry more, at a place that is written another way
 entry-more : (o t x : ℕ) (f : ℕ → Float) (w w′ : List Float) (v : Float) → x ≡ o + t → x < length w′ → v ≡ f t → Block o t f w w′ → Block o (t + 1) f w (set w′ x v)

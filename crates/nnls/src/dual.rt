@@ -3,7 +3,7 @@ ghost use mathlib.Core.Path.{_≡_};
 ghost use Prim.Native.Nat.{_+_, _*_, _/_, _<_, _≤_};
 ghost use lib.ListN.{length};
 ghost use Rattle.workspace.specs.Readings.{Block};
-ghost use Rattle.nnls.specs.inner.Dual.{sumAt, residualAt, dualAt, fourOf, setFour};
+ghost use Rattle.nnls.specs.inner.Dual.{sumAt, rowSum, residualAt, dualAt, fourOf, fourRows, setFour};
 ghost use Rattle.nnls_passive.specs.inner.Places.{NNLS_DUAL, NNLS_RESIDUAL, NNLS_ROOM};
 
 // Four entries.
@@ -40,6 +40,26 @@ pub fn sums_four(w: &[f64], p: usize, q: usize, n: usize) -> Four
         b = b + w[p + 1 + j * 18] * x;
         c = c + w[p + 2 + j * 18] * x;
         d = d + w[p + 3 + j * 18] * x;
+    }
+    Four { a, b, c, d }
+}
+
+// The sums of the products of the n numbers from p on with the n from q on; and of those from p + 18, p + 36 and
+// p + 54 on.
+pub fn row_sums_four(w: &[f64], p: usize, q: usize, n: usize) -> Four
+    requires { ⌜ (p + 54 + n ≤ length (now w)) × (q + n ≤ length (now w)) ⌝ }
+    ensures { λ r. ⌜ r ≡ fourRows (rowSum n q (now (w .entry))) p ⌝ }
+{
+    let mut a = -0.0;
+    let mut b = -0.0;
+    let mut c = -0.0;
+    let mut d = -0.0;
+    for j in 0..n {
+        let x = w[q + j];
+        a = a + w[p + j] * x;
+        b = b + w[p + 18 + j] * x;
+        c = c + w[p + 36 + j] * x;
+        d = d + w[p + 54 + j] * x;
     }
     Four { a, b, c, d }
 }
@@ -100,18 +120,7 @@ fn dual_four(w: &[f64], j: usize, m: usize) -> Four
     requires { ⌜ (j < 63) × (m ≤ 18) × (NNLS_ROOM ≤ length (now w)) ⌝ }
     ensures { λ r. ⌜ r ≡ fourOf (dualAt m (now (w .entry))) j ⌝ }
 {
-    let mut a = -0.0;
-    let mut b = -0.0;
-    let mut c = -0.0;
-    let mut d = -0.0;
-    for i in 0..m {
-        let x = w[nnls_passive::NNLS_RESIDUAL + i];
-        a = a + w[j * 18 + i] * x;
-        b = b + w[(j + 1) * 18 + i] * x;
-        c = c + w[(j + 2) * 18 + i] * x;
-        d = d + w[(j + 3) * 18 + i] * x;
-    }
-    Four { a, b, c, d }
+    row_sums_four(w, j * 18, nnls_passive::NNLS_RESIDUAL, m)
 }
 
 // The dual by fours: up to three entries are left.

@@ -19,6 +19,7 @@ use crate::memory::Course;
 use crate::memory::look_back;
 pub use dual::Four;
 pub use dual::put_four;
+pub use dual::row_sums_four;
 pub use dual::sums_four;
 
 // ---- which column to try

@@ -101,6 +101,10 @@ pub record LseiReduced (n mc me mg : ℕ) (iw : List ℕ) (w w′ : List Float) 
   pub factors : held n mc mc w′ iw ≡ held n mc mc w iw
   pub problem : (x : ℕ) → LSEI_E ≤ x → x < LSEI_LSI → at w′ x ≡ at w x
 
+-- entry i of E x - f
+abbrev pub residualIn : (n i : ℕ) → List Float → Float
+residualIn n i w = Σ n (λ j. at w (LSEI_E + i * 18 + j) ⊗ at w (LSEI_X + j)) ⊖ at w (LSEI_F + i)
+
 -- entry j of E'r - G'lambda, for the residual r in the place of a solution
 abbrev pub slopeIn : (me mg j : ℕ) → List Float → Float
 slopeIn me mg j w = Σ me (λ i. at w (LSEI_E + j + i * 18) ⊗ at w (QR_SOLUTION + i * 1)) ⊖ Σ mg (λ k. at w (LSEI_G + j + k * 18) ⊗ at w (LSEI_MULTIPLIERS + k * 1))

@@ -18,9 +18,17 @@ dualAt m w j = Σ m (λ i. at w (j * 18 + i) ⊗ at w (NNLS_RESIDUAL + i))
 unfoldable pub sumAt : (n q : ℕ) (w : List Float) (i : ℕ) → Float
 sumAt n q w i = Σ n (λ j. at w (i + j * 18) ⊗ at w (q + j))
 
+-- and of n numbers from p on
+unfoldable pub rowSum : (n q : ℕ) (w : List Float) (p : ℕ) → Float
+rowSum n q w p = Σ n (λ j. at w (p + j) ⊗ at w (q + j))
+
 -- four entries of a rule, from i on
 abbrev pub fourOf : (ℕ → Float) → ℕ → Four
 fourOf f i = record { a = f i; b = f (i + 1); c = f (i + 2); d = f (i + 3) }
+
+-- and of one on rows that stand 18 apart, from p on
+abbrev pub fourRows : (ℕ → Float) → ℕ → Four
+fourRows f p = record { a = f p; b = f (p + 18); c = f (p + 36); d = f (p + 54) }
 
 -- four entries put in their places, from o on
 abbrev pub setFour : ℕ → Four → List Float → List Float

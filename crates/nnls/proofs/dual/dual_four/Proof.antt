@@ -1,137 +1,19 @@
--- `dual_four`: after i turns each sum has i terms.
-use mathlib.Core.Path.{_≡_}
-use Prim.Native.Nat.{_+_, _*_, _-_, _≤_}
+-- `dual_four`, by the sums.
 use native.Mathlib.Omega.{arith}
-use Rattle.numbers.specs.Numbers.{Σ, _⊗_, at}
-use Rattle.numbers.proofs.Sums.{Σ-none, Σ-more}
-use Rattle.nnls.specs.inner.Dual.{dualAt}
+use Rattle.nnls.proofs.Fours.{dual-four-is}
 use Rattle.nnls.proofs.dual.dual_four.Statement.{statement}
 use Rattle.nnls.proofs.dual.dual_four.Tie as tie
 
-abbrev Inv-loop : tie.InvT-loop
-Inv-loop w j m a₀ b₀ c₀ d₀ i₀ a b c d i =
-    (i ≤ m) × (a ≡ Σ i (λ t. at w (j * 18 + t) ⊗ at w (1404 + t))) × (b ≡ Σ i (λ t. at w ((j + 1) * 18 + t) ⊗ at w (1404 + t))) × (c ≡ Σ i (λ t. at w ((j + 2) * 18 + t) ⊗ at w (1404 + t))) × (d ≡ Σ i (λ t. at w ((j + 3) * 18 + t) ⊗ at w (1404 + t)))
+mul-row-sums-four : tie.Need-mul-row-sums-four
+mul-row-sums-four c = omega arith
 
-abbrev μ-loop : tie.MeasureT-loop
-μ-loop w j m a₀ b₀ c₀ d₀ i₀ a b c d i = m - i
+row-sums-four-requires : tie.Need-row-sums-four-requires
+row-sums-four-requires c κs = omega arith
 
-loop-holds : tie.Need-loop-holds Inv-loop μ-loop
-loop-holds c = (omega arith, Σ-none _, Σ-none _, Σ-none _, Σ-none _)
-
-add-x : tie.Need-add-x Inv-loop μ-loop
-add-x c = omega arith
-
-mul-x : tie.Need-mul-x Inv-loop μ-loop
-mul-x c = omega arith
-
-shared-slice-read-x : tie.Need-shared-slice-read-x Inv-loop μ-loop
-shared-slice-read-x c = omega arith
-
-mul-a : tie.Need-mul-a Inv-loop μ-loop
-mul-a c = omega arith
-
-add-a : tie.Need-add-a Inv-loop μ-loop
-add-a c = omega arith
-
-mul-a-2 : tie.Need-mul-a-2 Inv-loop μ-loop
-mul-a-2 c = omega arith
-
-shared-slice-read-a : tie.Need-shared-slice-read-a Inv-loop μ-loop
-shared-slice-read-a c = omega arith
-
-add-b : tie.Need-add-b Inv-loop μ-loop
-add-b c = omega arith
-
-mul-b : tie.Need-mul-b Inv-loop μ-loop
-mul-b c = omega arith
-
-add-b-2 : tie.Need-add-b-2 Inv-loop μ-loop
-add-b-2 c = omega arith
-
-mul-b-2 : tie.Need-mul-b-2 Inv-loop μ-loop
-mul-b-2 c = omega arith
-
-shared-slice-read-b : tie.Need-shared-slice-read-b Inv-loop μ-loop
-shared-slice-read-b c = omega arith
-
-add-c : tie.Need-add-c Inv-loop μ-loop
-add-c c = omega arith
-
-mul-c : tie.Need-mul-c Inv-loop μ-loop
-mul-c c = omega arith
-
-add-c-2 : tie.Need-add-c-2 Inv-loop μ-loop
-add-c-2 c = omega arith
-
-mul-c-2 : tie.Need-mul-c-2 Inv-loop μ-loop
-mul-c-2 c = omega arith
-
-shared-slice-read-c : tie.Need-shared-slice-read-c Inv-loop μ-loop
-shared-slice-read-c c = omega arith
-
-add-d : tie.Need-add-d Inv-loop μ-loop
-add-d c = omega arith
-
-mul-d : tie.Need-mul-d Inv-loop μ-loop
-mul-d c = omega arith
-
-add-d-2 : tie.Need-add-d-2 Inv-loop μ-loop
-add-d-2 c = omega arith
-
-mul-d-2 : tie.Need-mul-d-2 Inv-loop μ-loop
-mul-d-2 c = omega arith
-
-shared-slice-read-d : tie.Need-shared-slice-read-d Inv-loop μ-loop
-shared-slice-read-d c = omega arith
-
-add-i : tie.Need-add-i Inv-loop μ-loop
-add-i c = omega arith
-
-loop-less : tie.Need-loop-less Inv-loop μ-loop
-loop-less c = omega arith
-
-loop-again : tie.Need-loop-again Inv-loop μ-loop
-loop-again c =
-    let i = c .before .before .before .before .before .before .loop .inv in
-    (omega arith, Σ-more _ _ _ (i .1), Σ-more _ _ _ (i .2), Σ-more _ _ _ (i .3), Σ-more _ _ _ (i .4))
-
-returns : tie.Need-returns Inv-loop μ-loop
-unfolding dualAt
-returns c =
-    let i = c .before .loop .inv in
-    let e : c .before .loop .i ≡ c .before .before .args .m = omega arith in
-    rw (← e, i .1, i .2, i .3, i .4)
+returns : tie.Need-returns
+returns c = let a = c .before .before .args in dual-four-is (a .m) (a .j) (a .w .now) (c .row-sums-four .result) (c .row-sums-four .ensures)
 
 pub dual-four-spec : {M : Type 1} → statement M
 dual-four-spec =
     tie.close
-    (tie.spec
-    Inv-loop
-    μ-loop
-    loop-holds
-    add-x
-    mul-x
-    shared-slice-read-x
-    mul-a
-    add-a
-    mul-a-2
-    shared-slice-read-a
-    add-b
-    mul-b
-    add-b-2
-    mul-b-2
-    shared-slice-read-b
-    add-c
-    mul-c
-    add-c-2
-    mul-c-2
-    shared-slice-read-c
-    add-d
-    mul-d
-    add-d-2
-    mul-d-2
-    shared-slice-read-d
-    add-i
-    loop-less
-    loop-again
-    returns)
+    (tie.spec mul-row-sums-four row-sums-four-requires returns)
