@@ -2,7 +2,7 @@
 """Settled volumes beside LSEI's, NLopt's and SciPy's, against the distance to the bound that holds.
 
     /usr/bin/python3 bench/settled.py TABLE > docs/settled.svg     draws errors and bounds
-    /usr/bin/python3 bench/settled.py TABLE lines [STOP]           the lines of docs/ACCURACY.md, and the pinned vent by NLopt and SciPy,
+    /usr/bin/python3 bench/settled.py TABLE lines [STOP]           the lines of bench/ACCURACY.md, and the pinned vent by NLopt and SciPy,
                                                                    which stop at a change of STOP, 1e-15 where it is left out
     /usr/bin/python3 bench/settled.py drawn LIBRARY                drawn days of four meters, of which the balances hold one at zero
 
