@@ -1,4 +1,6 @@
 // Writes text at a place of a lent buffer, and answers the place after it; compares texts.
+#![tactic(auto)]
+
 ghost use Rattle.std.specs.Prelude.{◌≡◌, [], ◌∷◌, ◌+◌, ◌-◌, ◌≤◌, ◌<◌, length, replicate};
 ghost use Rattle.io.specs.Digits.{hex_digit_ascii, last_digits};
 ghost use Rattle.ascii.specs.Text.{decimal_text, padded, same_text};

@@ -2,6 +2,8 @@
 //
 // A bundle, on standard input: for each case the length of its name and the length of its file, two bytes each,
 // little-endian, then the name and the file. `tools/records.py bundle examples/cases.txt` writes it.
+#![tactic(auto)]
+
 mod calls;
 mod days;
 mod lines;

@@ -1,6 +1,8 @@
 // The bound of reported volumes: in any volumes that are as good, no meter is more than that many spreads off. And
 // whether volumes are kept within a tolerance. Every contract is an equation with a definition; what the two say of
 // exact numbers is in `specs/Claims.antt`.
+#![tactic(auto)]
+
 mod test;
 
 ghost use Rattle.std.specs.Prelude.{◌≡◌, ℕ, ◌+◌, ◌*◌, ◌<◌, ◌≤◌, length};

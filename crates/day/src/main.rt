@@ -1,5 +1,7 @@
 // The day's program: a sheet on standard input, its report on standard output. The first 65,537 bytes decide the report
 // (`FirstBytesDecide` of day_report's specs/Claims.antt), so no more is read. A read or a write that fails is told on standard error.
+#![tactic(auto)]
+
 ghost use Rattle.std.specs.Prelude.{◌≡◌, length};
 
 use input::Reading;

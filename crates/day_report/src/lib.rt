@@ -1,4 +1,6 @@
 // The day's report: from the bytes of a sheet to the bytes written, on slices alone.
+#![tactic(auto)]
+
 ghost use Rattle.std.specs.Prelude.{◌≡◌, ◌≤◌, length, take};
 ghost use Rattle.ascii.specs.inner.Work.{Wrote};
 ghost use Rattle.day_volumes.specs.Found.{found, no_figures, no_signs};

@@ -1,4 +1,6 @@
 // What the day's program writes: the report of a day, and the sentences of refusals.
+#![tactic(auto)]
+
 mod cells;
 mod faults;
 mod head;

@@ -1,5 +1,7 @@
 // What is found of a sheet's day: the volumes that it poses are settled, its meters are tested, and two tables are left
 // for the report (specs/Found.antt says what stands where).
+#![tactic(auto)]
+
 mod pose;
 mod tables;
 

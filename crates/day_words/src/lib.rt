@@ -1,4 +1,6 @@
 // A sheet's lines and words, and what a word may be: a name, a reading, a decimal number.
+#![tactic(auto)]
+
 ghost use Rattle.std.specs.Prelude.{◌≡◌, ◌+◌, ◌≤◌, length, take, drop};
 ghost use Rattle.day_words.specs.Words.{is_feed, is_blank as Words·isBlank, up_to, without_return, skip_blanks, word};
 ghost use Rattle.day_words.specs.Items.{filled, reading_of, decimal_of};

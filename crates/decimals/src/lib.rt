@@ -1,4 +1,6 @@
 // Decimal numbers in a text, read to the nearest f64; and f64s written with three decimals.
+#![tactic(auto)]
+
 mod print;
 
 ghost use Rattle.std.specs.Prelude.{◌≡◌, false, ◌+◌, ◌-◌, ◌*◌, ◌^◌, ◌≤◌, ◌<◌, get_or};

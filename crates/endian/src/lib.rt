@@ -1,5 +1,7 @@
 // Numbers of two, four and eight bytes at a place of a byte slice, little-endian: the lowest byte first. The bits of a
 // float are such a number.
+#![tactic(auto)]
+
 ghost use Rattle.std.specs.Prelude.{◌≡◌, ◌+◌, ◌^◌, ◌≤◌, ◌<◌, length};
 ghost use Rattle.endian.specs.Little.{bytes, number_at, placed};
 

@@ -1,4 +1,6 @@
 // The C interface: every public operation, each slice a pointer and a length. include/gritstrut.h declares it.
+#![tactic(auto)]
+
 mod check;
 mod day;
 mod meters;

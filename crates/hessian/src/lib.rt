@@ -1,4 +1,6 @@
 // The approximation B of the Hessian, n by n, row by row: the kernels of identity, product, Cholesky factor and damped BFGS update.
+#![tactic(auto)]
+
 ghost use Rattle.std.specs.Prelude.{◌≡◌, true, false, ◌&&◌, cond, ℕ, ◌+◌, ◌*◌, ◌≤◌, ◌<◌, eqb, length, take, drop, Float};
 ghost use Rattle.numbers.specs.Numbers.{+0, one, at, tab, ◌⊕◌, ◌⊖◌, ◌⊗◌, ◌⊘◌};
 ghost use Rattle.hessian.specs.Hessian.{identity, times, remainder, with_row, is_pivot, next_row, cholesky, theta, damped, revised, curved, update};

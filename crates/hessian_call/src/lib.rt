@@ -1,4 +1,6 @@
 // The public operations on B: tests, the kernel, and the workspaces cleared.
+#![tactic(auto)]
+
 ghost use Rattle.std.specs.Prelude.{◌≡◌, ◌&&◌, ◌+◌, ◌*◌, ◌≤◌, eqb, length};
 ghost use Rattle.workspace.specs.Readings.{Cleared};
 ghost use Rattle.hessian.specs.Hessian.{cholesky, update};

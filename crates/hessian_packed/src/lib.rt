@@ -1,4 +1,6 @@
 // The approximation B kept as its lower triangle, row by row: where its entries stand, the square that it stands for, and the square form's kernels on that.
+#![tactic(auto)]
+
 ghost use Rattle.std.specs.Prelude.{◌≡◌, ℕ, ◌+◌, ◌*◌, ◌-◌, ◌≤◌, ◌<◌, ◌++◌, length, take};
 ghost use Rattle.numbers.specs.Numbers.{Σ, at, tab, ◌⊗◌};
 ghost use Rattle.hessian.specs.inner.Work.{FactorMade};

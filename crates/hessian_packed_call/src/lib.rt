@@ -1,4 +1,6 @@
 // The public operations on B kept as its lower triangle: tests, the kernel with room for the square, and the workspaces cleared.
+#![tactic(auto)]
+
 ghost use Rattle.std.specs.Prelude.{◌≡◌, ◌&&◌, ◌*◌, ◌≤◌, eqb, length};
 ghost use Rattle.workspace.specs.Readings.{Cleared};
 ghost use Rattle.hessian.specs.inner.Work.{FactorMade};

@@ -1,4 +1,6 @@
 // Householder QR with column pivoting, in a lent part of the workspaces.
+#![tactic(auto)]
+
 mod fours;
 mod search;
 mod vectors;

@@ -1,4 +1,6 @@
 // The public QR: tests, the factoring in the lent workspaces, and the factors out.
+#![tactic(auto)]
+
 ghost use Rattle.std.specs.Prelude.{◌≡◌, ◌&&◌, ◌+◌, ◌*◌, ◌≤◌, min, eqb, length};
 ghost use Rattle.workspace.specs.Readings.{vec, mat, stack, nums};
 ghost use Rattle.householder.specs.Qr.{factor};

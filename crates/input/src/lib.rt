@@ -1,4 +1,6 @@
 // Reads a descriptor until a buffer is full or the input ends; a read that fails is not its end.
+#![tactic(auto)]
+
 ghost use Rattle.std.specs.Prelude.{length, ◌≡◌};
 ghost use Rattle.input.specs.Reading.{Read};
 

@@ -1,6 +1,8 @@
 // Interval arithmetic over f64: each end is rounded to the nearest and then moved one float outward, so no rounding
 // mode is needed. Every contract is an equation with a definition; that an interval holds the exact number is a claim
 // of `specs/Claims.antt`.
+#![tactic(auto)]
+
 ghost use Rattle.std.specs.Prelude.{◌≡◌, ℕ, ◌+◌, ◌*◌, ◌<◌, ◌≤◌, length};
 ghost use Rattle.numbers.specs.Numbers.{at};
 ghost use Rattle.interval.specs.Next.{next_up, next_down};

@@ -1,5 +1,7 @@
 // Least distance programming, min ||x|| with G x >= h, and least squares with inequalities,
 // min ||E x - f|| with G x >= h, each in one part of each workspace.
+#![tactic(auto)]
+
 ghost use Rattle.std.specs.Prelude.{◌≡◌, cond, List, ℕ, ◌+◌, ◌*◌, ◌/◌, ◌<◌, ◌≤◌, ltb, Float, length};
 ghost use Rattle.numbers.specs.Numbers.{+0, one, at, nth, Σ, ◌⊕◌, ◌⊖◌, ◌⊗◌, ◌⊘◌};
 ghost use Rattle.workspace.specs.Readings.{vec, mat, stack, Block};

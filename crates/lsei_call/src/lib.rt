@@ -1,4 +1,6 @@
 // The public LDP, LSI and LSEI: tests, the problem into the lent workspaces, and the answer out.
+#![tactic(auto)]
+
 mod arguments;
 mod inputs;
 

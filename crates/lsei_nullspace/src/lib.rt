@@ -1,5 +1,7 @@
 // Least squares with equalities and inequalities, min ||E x - f|| with C x = d and G x >= h, by the null
 // space of the equalities, in one part of each workspace.
+#![tactic(auto)]
+
 ghost use Rattle.std.specs.Prelude.{◌≡◌, List, ℕ, ◌+◌, ◌-◌, ◌*◌, ◌/◌, ◌<◌, ◌≤◌, Float, length};
 ghost use Rattle.numbers.specs.Numbers.{at, nth, Σ, ◌⊖◌, ◌⊗◌};
 ghost use Rattle.workspace.specs.Readings.{vec, stack, Block};

@@ -1,4 +1,6 @@
 // Nonnegative least squares in one part of each workspace.
+#![tactic(auto)]
+
 mod back;
 mod dual;
 mod memory;

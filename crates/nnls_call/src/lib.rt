@@ -1,4 +1,6 @@
 // The public nonnegative least squares: min ||A x - b|| with x >= 0.
+#![tactic(auto)]
+
 ghost use Rattle.std.specs.Prelude.{◌≡◌, ◌&&◌, ℕ, ◌+◌, ◌*◌, ◌≤◌, leb, eqb, length};
 ghost use Rattle.workspace.specs.Tables.{is_matrix};
 ghost use Rattle.nnls.specs.Nnls as Definition;

@@ -1,4 +1,6 @@
 // The solve on the passive columns of nonnegative least squares, in one part of each workspace.
+#![tactic(auto)]
+
 ghost use Rattle.std.specs.Prelude.{◌≡◌, false, cond, not, ℕ, ◌+◌, ◌*◌, ◌<◌, ◌≤◌, eqb, length, drop};
 ghost use Rattle.numbers.specs.Numbers.{nth};
 ghost use Rattle.workspace.specs.Readings.{nums};

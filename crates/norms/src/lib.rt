@@ -1,5 +1,7 @@
 // The norm of a slice: the root of the sum of its squares, taken of entries that a power of two has brought
 // near 1, so that small units lose no square and large ones overflow in none.
+#![tactic(auto)]
+
 ghost use Rattle.std.specs.Prelude.{◌≡◌, ℕ, ◌≤◌, ◌+◌, ◌-◌, ◌*◌, ◌<◌, ◌^◌, max, length, true, T};
 ghost use Rattle.std.specs.Float.{binary64};
 ghost use Rattle.std.specs.Float.Ieee.{size, fits, le};

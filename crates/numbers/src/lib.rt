@@ -1,4 +1,6 @@
 // The numeric leaves: sums of f64s, left to right from -0, and the square root.
+#![tactic(auto)]
+
 ghost use Rattle.std.specs.Prelude.{◌≡◌, ℕ, ◌≤◌, ◌+◌, ◌*◌, ◌<◌, ◌^◌, length};
 ghost use Rattle.numbers.specs.Numbers.{Σ, at, dot, ◌⊗◌};
 ghost use Rattle.numbers.specs.Root.{floor_root, root_of, sqrt_of, sum_of};

@@ -1,4 +1,5 @@
 // The sheet of a day from its kept records and a plant file: what it is (specs/Plant.antt), and what was expected in a plant file.
+#![tactic(auto)]
 
 // What was expected where the first fault of a plant file is.
 #[derive(Drop)]

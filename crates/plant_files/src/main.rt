@@ -1,6 +1,8 @@
 // The program of the sheet from the loggers: KEPT and PLANT name files. The sheet goes to standard output; where there is none,
 // why is told on standard error, in a line that begins with `refused`, and nothing goes to standard output. The first 524,289
 // bytes of KEPT and 65,537 of PLANT decide (`EnoughBytes` of plant's specs/Claims.antt), so no more is read.
+#![tactic(auto)]
+
 ghost use Rattle.std.specs.Prelude.{◌≡◌, length};
 ghost use Rattle.input.specs.Reading.{Read};
 

@@ -1,4 +1,6 @@
 // The lines of a plant file: meters by number, told by places, and a table of them.
+#![tactic(auto)]
+
 ghost use Rattle.std.specs.Prelude.{◌≡◌, false, List, [], ◌+◌, ◌≤◌, ◌<◌, length, drop};
 ghost use Rattle.day_words.specs.Words.{lines_of, rest};
 ghost use Rattle.sheet_words.specs.Lines.{Lies};

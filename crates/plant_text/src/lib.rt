@@ -1,4 +1,6 @@
 // What is written of a plant's day: a meter's line, doubts, refusals.
+#![tactic(auto)]
+
 ghost use Rattle.std.specs.Prelude.{◌≡◌, ◌+◌, ◌≤◌, ◌<◌, length};
 ghost use Rattle.ascii.specs.inner.Work.{Wrote};
 ghost use Rattle.plant.specs.Texts.{minutes_text, after_blank, meter_text, begins_text, ends_text, still_text, parts, doubt_of, wanted_text, is_last, found_text, fault_text, record_text, missing_text, turned_text, no_day_text};

@@ -1,4 +1,6 @@
 // The record program's answer: from the bytes read to the bytes written, on slices alone.
+#![tactic(auto)]
+
 mod text;
 
 ghost use Rattle.std.specs.Prelude.{◌≡◌, [], ◌∷◌, ◌++◌, ◌+◌, ◌≤◌, ◌<◌, length, take};

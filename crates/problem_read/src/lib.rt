@@ -1,5 +1,7 @@
 // Decodes the record program's input into two tables, a mark and a value for each entry that a problem can have, on slices
 // alone.
+#![tactic(auto)]
+
 mod floats;
 pub mod tables;
 

@@ -1,5 +1,7 @@
 // Writes a problem as the record program's input: its records in one order, entries left out whose bits are those of a
 // missing one. The numbers are bits, so that a NaN's payload is written as it is.
+#![tactic(auto)]
+
 pub mod count;
 
 ghost use Rattle.std.specs.Prelude.{◌≡◌, ◌+◌, ◌*◌, ◌≤◌, ◌<◌, length};

@@ -1,4 +1,6 @@
 // The public operation that writes a problem file: tests, then the records into the lent output.
+#![tactic(auto)]
+
 mod arguments;
 
 ghost use Rattle.std.specs.Prelude.{◌≡◌, true, ◌≤◌, length};

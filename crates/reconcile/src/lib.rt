@@ -1,4 +1,6 @@
 // The day's reconciliation: the meters' volumes as a problem for LSEI, and the marks of its answer.
+#![tactic(auto)]
+
 ghost use Rattle.std.specs.Prelude.{◌≡◌, ◌+◌, ◌*◌, ◌≤◌, length};
 ghost use Rattle.workspace.specs.Readings.{Block};
 ghost use Rattle.lsei.specs.inner.Work.{ended_solution};

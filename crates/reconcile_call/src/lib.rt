@@ -1,4 +1,6 @@
 // The public reconciliation of a day: tests, the problem into the lent workspaces, and the answer out.
+#![tactic(auto)]
+
 mod arguments;
 
 ghost use Rattle.std.specs.Prelude.{◌≡◌, ◌+◌, ◌*◌, ◌≤◌, length};

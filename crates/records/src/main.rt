@@ -1,5 +1,7 @@
 // The record program: standard input to standard output. The first 9,504 bytes decide the answer (`FirstBytesDecide` of
 // problem_answer's specs/Claims.antt), so no more is read. A read or a write that fails is told on standard error.
+#![tactic(auto)]
+
 ghost use Rattle.std.specs.Prelude.{◌≡◌, length};
 
 use input::Reading;

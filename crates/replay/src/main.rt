@@ -1,5 +1,7 @@
 // Replays the stored calls that standard input holds, and writes a line for each: its operation, its number, and the
 // digest of all that it left. The stored lines are the answers of the Rust.
+#![tactic(auto)]
+
 mod check;
 mod day;
 mod meters;

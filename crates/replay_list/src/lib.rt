@@ -1,5 +1,7 @@
 // The stored calls: where their parts stand in the list, the memory that they are lent, and the digest of what they left
 // (oracle/README.md, "The stored calls").
+#![tactic(auto)]
+
 mod call;
 mod check;
 mod day;

@@ -1,5 +1,7 @@
 // A root that was worked out before is tried first: it is checked in whole numbers, exactly, so that it may be
 // any number whatever, and where it is not the root, the digits are worked out.
+#![tactic(auto)]
+
 ghost use Rattle.std.specs.Prelude.{◌≡◌, true, ◌+◌, ◌*◌, ◌<◌, ◌≤◌, ◌^◌};
 ghost use Rattle.std.specs.Float.{binary64};
 ghost use Rattle.std.specs.Float.Ieee.{of_bits};

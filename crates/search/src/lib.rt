@@ -1,4 +1,5 @@
 // The search around the step: definitions and theorems, and the names of what stands in the machine's two slices.
+#![tactic(auto)]
 
 // ---- the machine's f64
 

@@ -1,4 +1,6 @@
 // The public operations of the search: tests, then the machine in its two slices, and the workspaces cleared.
+#![tactic(auto)]
+
 mod arguments;
 mod begin;
 

@@ -1,4 +1,6 @@
 // The search around the step: the iterate that a run begins with, and the next one, with B updated.
+#![tactic(auto)]
+
 ghost use Rattle.std.specs.Prelude.{◌≡◌, true, false, suc, ◌+◌, ◌*◌, ◌≤◌, ◌<◌, length};
 ghost use Rattle.workspace.specs.Readings.{vec};
 ghost use Rattle.hessian.specs.Hessian.{identity, update};

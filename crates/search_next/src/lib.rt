@@ -1,4 +1,6 @@
 // The search as a machine in two slices: what each answer makes of its state.
+#![tactic(auto)]
+
 mod differences;
 mod ends;
 mod trials;

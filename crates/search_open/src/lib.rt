@@ -1,4 +1,6 @@
 // The search around the step: how a turn opens, with a factor of B and the step from the accepted point.
+#![tactic(auto)]
+
 ghost use Rattle.std.specs.Prelude.{◌≡◌, true, [], ◌∷◌, suc, ◌+◌, ◌*◌, ◌≤◌, length, Float};
 ghost use Rattle.numbers.specs.Numbers.{one, at, tab, ◌⊖◌};
 ghost use Rattle.workspace.specs.Tables.{done};

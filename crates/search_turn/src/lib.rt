@@ -1,4 +1,6 @@
 // The search around the step: what a turn computes between its questions.
+#![tactic(auto)]
+
 ghost use Rattle.std.specs.Prelude.{◌≡◌, ◌&&◌, List, ℕ, ◌+◌, ◌≤◌, length, Float};
 ghost use Rattle.std.specs.Float.Ieee.{lt};
 ghost use Rattle.numbers.specs.Numbers.{at, nth, tab, dot, ◌⊕◌, ◌⊗◌, ◌⊘◌};

@@ -2,6 +2,8 @@
 // that is not, and of two alike the one with the smaller bound.
 //
 // LSEI's part stands in front of both workspaces. Behind it the answers are stored: LSEI's own, and the one worked again.
+#![tactic(auto)]
+
 mod again;
 mod problem;
 

@@ -1,5 +1,7 @@
 // The public settling of a day's volumes and the certifying of volumes from anywhere: tests, the kernel in the lent
 // workspaces, and the answer out.
+#![tactic(auto)]
+
 mod arguments;
 
 ghost use Rattle.std.specs.Prelude.{◌≡◌, ◌+◌, ◌*◌, ◌≤◌, length, take, drop};

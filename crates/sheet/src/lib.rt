@@ -1,4 +1,6 @@
 // The day's sheet by names, read into three tables: texts, whole numbers and numbers (specs/Sheet says what stands where).
+#![tactic(auto)]
+
 ghost use Rattle.std.specs.Prelude.{◌≡◌, ◌≤◌, length, drop};
 ghost use Rattle.day_words.specs.Words.{lines_of, without_return};
 ghost use Rattle.sheet_words.specs.Lines.{between, Lies};

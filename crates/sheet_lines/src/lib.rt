@@ -1,4 +1,6 @@
 // The lines of a sheet by names, each kind from the place after its first word on, which stands from `at` to `from`.
+#![tactic(auto)]
+
 ghost use Rattle.std.specs.Prelude.{◌≡◌, ◌||◌, ◌+◌, ◌≤◌, ◌<◌, eqb, length, drop, set};
 ghost use Rattle.sheet_words.specs.Lines.{between, Lies};
 ghost use Rattle.sheet_lines.specs.Lines.{item_line, limit_line};

@@ -1,4 +1,6 @@
 // The parts of a line: a name, a text, what stands after an item's name; and a found word as a fault shows it.
+#![tactic(auto)]
+
 ghost use Rattle.std.specs.Prelude.{◌≡◌, List, ◌+◌, ◌-◌, ◌*◌, ◌≤◌, ◌<◌, length, take, drop};
 ghost use Rattle.day_words.specs.Words.{word, rest};
 ghost use Rattle.ascii.specs.inner.Work.{Wrote};

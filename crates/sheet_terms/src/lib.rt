@@ -1,4 +1,6 @@
 // The terms of a balance, a floor or a ceiling, into a row of numbers.
+#![tactic(auto)]
+
 ghost use Rattle.std.specs.Prelude.{◌≡◌, not, ◌&&◌, ◌||◌, ◌+◌, ◌≤◌, ◌<◌, ltb, length, drop};
 ghost use Rattle.ascii.specs.Text.{ascii as Text·ascii, same_text};
 ghost use Rattle.day_words.specs.Items.{filled};

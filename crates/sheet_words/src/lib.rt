@@ -1,4 +1,6 @@
 // The words of a sheet by names: what may be a name, where it stands in the table of names, what a remark is.
+#![tactic(auto)]
+
 ghost use Rattle.std.specs.Prelude.{◌≡◌, ◌&&◌, eqb, ◌+◌, ◌*◌, ◌≤◌, length, take, drop};
 ghost use Rattle.sheet_words.specs.Names.{is_capital, is_letter, is_numeric, begins_letter, begins_number, small as Names·small, same_small, has_equals, are_name_bytes, is_name_byte, is_taken, place_of, name_judged, above_zero, not_below_zero, not_zero, Inside, ShortIf};
 ghost use Rattle.sheet_words.specs.Lines.{after_mark, unremarked};

@@ -1,4 +1,6 @@
 // The step of one SQP iteration: the exact problem through LSEI, and where it fails the relaxed one through LSI.
+#![tactic(auto)]
+
 mod assembly;
 
 ghost use Rattle.std.specs.Prelude.{◌≡◌, ◌&&◌, [], ◌++◌, map, ℕ, ◌+◌, ◌*◌, ◌≤◌, ◌<◌, eqb, length, take};

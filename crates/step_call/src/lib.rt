@@ -1,4 +1,6 @@
 // The public step and the strict step: tests, the kernel in the front of the lent workspaces, and its answer out.
+#![tactic(auto)]
+
 pub mod strict;
 
 ghost use Rattle.std.specs.Prelude.{◌≡◌, ◌&&◌, ◌*◌, ◌≤◌, eqb, length};

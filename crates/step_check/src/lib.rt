@@ -1,4 +1,6 @@
 // Five tests on a step that may come from anywhere: is it plausible?
+#![tactic(auto)]
+
 mod bounds;
 mod constraints;
 mod slopes;

@@ -1,4 +1,6 @@
 // The public check: tests, the verdict, and the clearing of the lent workspaces, which it does not need.
+#![tactic(auto)]
+
 ghost use Rattle.std.specs.Prelude.{◌≡◌, ◌&&◌, eqb};
 ghost use Rattle.workspace.specs.Tables.{done};
 ghost use Rattle.step_rows.specs.Problem.{problem_of};

@@ -1,6 +1,8 @@
 // The rows of the step's two problems, exact and relaxed, written into a workspace.
 //
 // A row has 18 slots: its coefficients, and behind them its side. Row k of those at o begins at o + 18 k.
+#![tactic(auto)]
+
 mod relaxed;
 
 ghost use Rattle.std.specs.Prelude.{◌≡◌, cond, [], ◌∷◌, ◌++◌, map, ℕ, ◌+◌, ◌*◌, ◌≤◌, ◌<◌, eqb, length};

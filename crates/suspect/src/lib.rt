@@ -1,4 +1,6 @@
 // The tests of meters: which meter may be wrong, by the factors of the balances in spreads, in one part of each workspace.
+#![tactic(auto)]
+
 mod balances;
 mod decide;
 mod findings;

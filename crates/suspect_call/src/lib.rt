@@ -1,4 +1,6 @@
 // The public tests of meters: tests of what is handed in, the kernel in the lent workspaces, and the answer out.
+#![tactic(auto)]
+
 mod arguments;
 
 ghost use Rattle.std.specs.Prelude.{◌≡◌, ◌+◌, ◌*◌, ◌≤◌, length};

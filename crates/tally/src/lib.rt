@@ -1,4 +1,6 @@
 // A running tally of what steps took: two counts that a caller lends and each step raises.
+#![tactic(auto)]
+
 ghost use Rattle.std.specs.Prelude.{◌≡◌};
 ghost use Rattle.tally.specs.Tally.{saturated, raised};
 

@@ -1,4 +1,6 @@
 // Totalisers of six digits.
+#![tactic(auto)]
+
 ghost use Rattle.std.specs.Prelude.{◌≡◌, ◌≤◌};
 ghost use Rattle.totaliser.specs.Volume.{largest, volume};
 

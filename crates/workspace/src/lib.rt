@@ -1,4 +1,6 @@
 // The copies, the clearing and the tests that all operations share.
+#![tactic(auto)]
+
 ghost use Rattle.std.specs.Prelude.{◌≡◌, ◌&&◌, ℕ, ◌+◌, ◌*◌, ◌≤◌, ◌<◌, leb, length};
 ghost use Rattle.numbers.specs.Numbers.{+0, at};
 ghost use Rattle.workspace.specs.Tables.{number_of, place_of, outcome_number, cleared, is_dimension, is_matrix, is_constraints, is_tolerance};
