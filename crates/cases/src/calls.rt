@@ -4,7 +4,7 @@ ghost use Rattle.std.specs.Prelude.{◌≤◌, ◌≡◌, length};
 use problem_answer::{float_room, word_room};
 
 // What NNLS answers.
-#[derive(Drop)]
+#[derive(Clone, Copy)]
 pub struct NnlsAnswer {
     pub number: u32,
     pub rounds: u32,
@@ -12,7 +12,7 @@ pub struct NnlsAnswer {
 }
 
 // What the step answers, with the number and the place of its exact stage.
-#[derive(Drop)]
+#[derive(Clone, Copy)]
 pub struct StepAnswer {
     pub number: u32,
     pub exact: u32,

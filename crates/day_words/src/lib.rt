@@ -7,21 +7,21 @@ ghost use Rattle.day_words.specs.Items.{filled, reading_of, decimal_of};
 ghost use Rattle.day_words.specs.inner.Work.{IsWord};
 
 // A decimal number, or none.
-#[derive(Drop)]
+#[derive(Clone, Copy)]
 pub enum Number {
     Is(f64),
     Missing,
 }
 
 // A reading, or none.
-#[derive(Drop)]
+#[derive(Clone, Copy)]
 pub enum Count {
     Shows(u32),
     Unread,
 }
 
 // A word of a line by its places.
-#[derive(Drop)]
+#[derive(Clone, Copy)]
 pub struct Word {
     pub start: usize,
     pub end: usize,

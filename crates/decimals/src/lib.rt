@@ -12,14 +12,14 @@ ghost use Rattle.decimals.specs.inner.Work.{capped, run_from};
 pub use print::put_fixed;
 
 // A number with the place after it, or the place of what is no number.
-#[derive(Drop)]
+#[derive(Clone, Copy)]
 pub enum Reading {
     Number(f64, usize),
     Fault(usize),
 }
 
 // The value of digits, and the place after them.
-#[derive(Drop)]
+#[derive(Clone, Copy)]
 pub struct Run {
     pub value: u64,
     pub end: usize,

@@ -9,7 +9,7 @@ ghost use Rattle.hessian.specs.inner.Work.{made_of, is_whole, FactorMade};
 use workspace::{Outcome, Refusal};
 
 // The curvature fraction below which the update of B is damped.
-#[derive(Drop)]
+#[derive(Clone, Copy)]
 pub struct Hessian {}
 
 impl Hessian {
@@ -109,7 +109,7 @@ fn next_row(n: usize, b: &[f64], l: &mut [f64], i: usize) -> bool
 }
 
 // A factor that is whole, or one whose pivot was not good.
-#[derive(Drop)]
+#[derive(Clone, Copy)]
 enum Made {
     Whole,
     Broken,

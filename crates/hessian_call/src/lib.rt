@@ -11,7 +11,7 @@ ghost use Rattle.hessian_call.specs.inner.Work.{UpdateReady};
 use workspace::{Outcome, Refusal};
 
 // The operations on B.
-#[derive(Drop)]
+#[derive(Clone, Copy)]
 pub struct Hessian {}
 
 // ---- tests

@@ -12,7 +12,7 @@ ghost use Rattle.hessian_packed_call.specs.inner.Work.{Ready};
 use workspace::{Outcome, Refusal};
 
 // The operations on B as its lower triangle.
-#[derive(Drop)]
+#[derive(Clone, Copy)]
 pub struct Packed {}
 
 // ---- tests

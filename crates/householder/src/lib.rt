@@ -35,14 +35,14 @@ pub const QR_ROOTS: usize = QR_MATRIX + 18 * 18;
 // ---- shared by the search for the pivot and the step
 
 // A column and its norm.
-#[derive(Drop)]
+#[derive(Clone, Copy)]
 pub struct Candidate {
     pub index: usize,
     pub norm: f64,
 }
 
 // Four sums, one for each of four columns.
-#[derive(Drop)]
+#[derive(Clone, Copy)]
 struct Four {
     a: f64,
     b: f64,

@@ -14,7 +14,7 @@ use crate::{Candidate, Four, QR_MATRIX, QR_ROOTS, products_four};
 
 // The best column so far by its sum of squares, where there is one that has a norm; or by its norm, in
 // the sum's place, where the sum does not decide it.
-#[derive(Drop)]
+#[derive(Clone, Copy)]
 struct Lead {
     index: usize,
     sum: f64,

@@ -11,11 +11,11 @@ ghost use Rattle.householder.specs.inner.Places.{QR_B, QR_MATRIX};
 use workspace::Refusal;
 
 // Householder QR with column pivoting.
-#[derive(Drop)]
+#[derive(Clone, Copy)]
 pub struct Qr {}
 
 // What a call answers: the rank, or why it is refused.
-#[derive(Drop)]
+#[derive(Clone, Copy)]
 pub enum Outcome {
     Done(usize),
     Refused(Refusal),

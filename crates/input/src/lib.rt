@@ -5,7 +5,7 @@ ghost use Rattle.std.specs.Prelude.{length, ◌≡◌};
 ghost use Rattle.input.specs.Reading.{Read};
 
 // What reading gave: so many bytes before the end, or a read that failed.
-#[derive(Drop)]
+#[derive(Clone, Copy)]
 pub enum Reading {
     Bytes(usize),
     Failed,

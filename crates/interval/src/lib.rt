@@ -8,7 +8,7 @@ ghost use Rattle.numbers.specs.Numbers.{at};
 ghost use Rattle.interval.specs.Next.{next_up, next_down};
 ghost use Rattle.interval.specs.Intervals as Definition;
 
-#[derive(Drop)]
+#[derive(Clone, Copy)]
 pub struct Interval {
     pub lo: f64,
     pub hi: f64,

@@ -55,7 +55,7 @@ pub const LSI_LDP_WORDS: usize = 18;
 pub const LSI_WORDS: usize = LSI_LDP_WORDS + LDP_WORDS;
 
 // How a solve ends.
-#[derive(Drop)]
+#[derive(Clone, Copy)]
 pub enum Ending {
     Done,
     // E is short of rank: the column that could not be taken.
@@ -82,7 +82,7 @@ impl Ending {
 }
 
 // With the rounds and the factorings that it took.
-#[derive(Drop)]
+#[derive(Clone, Copy)]
 pub struct Ended {
     pub ending: Ending,
     pub rounds: usize,
@@ -92,7 +92,7 @@ pub struct Ended {
 // ---- least distance programming
 
 // The solver of least distance programming.
-#[derive(Drop)]
+#[derive(Clone, Copy)]
 pub struct Ldp {}
 
 impl Ldp {

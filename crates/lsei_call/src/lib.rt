@@ -97,7 +97,7 @@ fn solve_all_ldp(
 }
 
 // The solver of min ||x|| with G x >= h.
-#[derive(Drop)]
+#[derive(Clone, Copy)]
 pub struct Ldp {}
 
 impl Ldp {
@@ -184,7 +184,7 @@ fn solve_all_lsi(
 }
 
 // The solver of min ||E x - f|| with G x >= h.
-#[derive(Drop)]
+#[derive(Clone, Copy)]
 pub struct Lsi {}
 
 impl Lsi {
@@ -303,7 +303,7 @@ fn solve_all_lsei(
 }
 
 // The solver of min ||E x - f|| with C x = d and G x >= h.
-#[derive(Drop)]
+#[derive(Clone, Copy)]
 pub struct Lsei {}
 
 impl Lsei {

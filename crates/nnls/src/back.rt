@@ -5,7 +5,7 @@ ghost use Rattle.nnls.specs.inner.Back.{open_to, TurnedBack};
 ghost use Rattle.nnls_passive.specs.inner.Places.{NNLS_ROOM, NNLS_WORDS};
 
 // What becomes of a column's mark, and how many tries that is.
-#[derive(Drop)]
+#[derive(Clone, Copy)]
 pub struct Tried {
     pub mark: u32,
     pub count: usize,

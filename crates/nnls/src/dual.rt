@@ -5,7 +5,7 @@ ghost use Rattle.nnls.specs.inner.Dual.{sum_at, row_sum, residual_at, dual_at, f
 ghost use Rattle.nnls_passive.specs.inner.Places.{NNLS_DUAL, NNLS_RESIDUAL, NNLS_ROOM};
 
 // Four entries.
-#[derive(Drop)]
+#[derive(Clone, Copy)]
 pub struct Four {
     pub a: f64,
     pub b: f64,

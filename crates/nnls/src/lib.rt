@@ -21,7 +21,7 @@ pub use dual::{Four, put_four, row_sums_four, sums_four};
 // ---- which column to try
 
 // The best column so far, with its dual.
-#[derive(Drop)]
+#[derive(Clone, Copy)]
 pub struct Candidate {
     pub index: usize,
     pub dual: f64,
@@ -29,7 +29,7 @@ pub struct Candidate {
 }
 
 // A column to try, or none.
-#[derive(Drop)]
+#[derive(Clone, Copy)]
 pub enum Trial {
     Column(usize),
     Nothing,
@@ -90,7 +90,7 @@ fn choose(w: &[f64], iw: &[u32], n: usize) -> Trial
 // ---- which column blocks
 
 // The nearest blocking column so far, with its ratio.
-#[derive(Drop)]
+#[derive(Clone, Copy)]
 pub struct Nearest {
     pub index: usize,
     pub ratio: f64,
@@ -98,7 +98,7 @@ pub struct Nearest {
 }
 
 // The column that blocks, with its ratio, or none.
-#[derive(Drop)]
+#[derive(Clone, Copy)]
 pub enum Blocker {
     At(usize, f64),
     Free,
@@ -178,7 +178,7 @@ fn blocking(w: &[f64], iw: &[u32], n: usize) -> Blocker
 // ---- a move
 
 // What becomes of a column and its mark.
-#[derive(Drop)]
+#[derive(Clone, Copy)]
 pub struct Next {
     pub x: f64,
     pub mark: u32,
@@ -240,7 +240,7 @@ fn try_column(w: &mut [f64], iw: &mut [u32], m: usize, n: usize, t: usize) -> bo
 }
 
 // How a pass ended: whether a column was kept, and the factorings so far.
-#[derive(Drop)]
+#[derive(Clone, Copy)]
 pub struct Pass {
     pub kept: bool,
     pub factorings: usize,
@@ -320,7 +320,7 @@ fn turn_all(w: &mut [f64], iw: &mut [u32], m: usize, n: usize, f: usize) -> usiz
 // ---- the rounds
 
 // How the rounds ended, accepted or at their limit, with the rounds and the factorings that were taken.
-#[derive(Drop)]
+#[derive(Clone, Copy)]
 pub enum RoundsEnd {
     Accepted(usize, usize),
     Capped(usize, usize),

@@ -7,7 +7,7 @@ ghost use Rattle.nnls_passive.specs.inner.Places.{NNLS_WORDS};
 
 // Rounds and factorings so far, how many sets are remembered, the two numbers of the set from round 4 on, and
 // whether these are the counts of the last pass, which keeps a column.
-#[derive(Drop)]
+#[derive(Clone, Copy)]
 pub struct Course {
     pub past: usize,
     pub factorings: usize,
@@ -18,14 +18,14 @@ pub struct Course {
 }
 
 // Rounds and factorings.
-#[derive(Drop)]
+#[derive(Clone, Copy)]
 pub struct Counts {
     pub past: usize,
     pub factorings: usize,
 }
 
 // Where a set is put down, and how many are remembered then.
-#[derive(Drop)]
+#[derive(Clone, Copy)]
 pub struct Place {
     pub index: usize,
     pub held: usize,

@@ -11,7 +11,7 @@ ghost use Rattle.nnls_passive.specs.inner.Places.{NNLS_ROOM, NNLS_WORDS};
 use workspace::Refusal;
 
 // What a call answers: its rounds and factorings, or why it is refused.
-#[derive(Drop)]
+#[derive(Clone, Copy)]
 pub enum Outcome {
     Done(usize, usize),
     Refused(Refusal),
@@ -84,7 +84,7 @@ fn solve_all(
 }
 
 // The solver.
-#[derive(Drop)]
+#[derive(Clone, Copy)]
 pub struct Nnls {}
 
 impl Nnls {

@@ -139,7 +139,7 @@ pub fn known_within(l: &[f64], p: usize, n: usize)
 }
 
 // Where a sum of at most 18 squares settles the norm alone.
-#[derive(Drop)]
+#[derive(Clone, Copy)]
 pub struct Deciding {}
 
 impl Deciding {

@@ -6,7 +6,7 @@ ghost use Rattle.numbers.specs.Numbers.{Σ, at, dot, ◌⊗◌};
 ghost use Rattle.numbers.specs.Root.{floor_root, root_of, sqrt_of, sum_of};
 
 // The f64 type's own numbers.
-#[derive(Drop)]
+#[derive(Clone, Copy)]
 pub struct Binary64 {}
 
 impl Binary64 {

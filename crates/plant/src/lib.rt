@@ -2,7 +2,7 @@
 #![tactic(auto)]
 
 // What was expected where the first fault of a plant file is.
-#[derive(Drop)]
+#[derive(Clone, Copy)]
 pub enum Wanted {
     Number,
     NewNumber,

@@ -14,7 +14,7 @@ use plant::Wanted;
 use sheet_words::Judged;
 
 // A meter's number, and the places of its name and spread in its line; for how many minutes it may stand still, where that is limited.
-#[derive(Drop)]
+#[derive(Clone, Copy)]
 pub struct Given {
     pub number: u32,
     pub name: usize,
@@ -26,7 +26,7 @@ pub struct Given {
 }
 
 // What a line is: copied, a meter's, or wrong at a word.
-#[derive(Drop)]
+#[derive(Clone, Copy)]
 pub enum Step {
     Copied,
     Metered(Given),
@@ -34,7 +34,7 @@ pub enum Step {
 }
 
 // What the lines are: sound, or wrong at a line's word.
-#[derive(Drop)]
+#[derive(Clone, Copy)]
 pub enum Reading {
     Sound,
     Fault(usize, Wanted, usize, usize),

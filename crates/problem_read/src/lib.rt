@@ -29,7 +29,7 @@ const WIDTHS: usize = UPPER + 16;
 const PLACES: usize = WIDTHS + 16;
 
 // An area of the tables: where it starts, and its shape.
-#[derive(Drop)]
+#[derive(Clone, Copy)]
 pub struct Area {
     pub base: usize,
     pub rows: usize,
@@ -37,14 +37,14 @@ pub struct Area {
 }
 
 // The place of an entry.
-#[derive(Drop)]
+#[derive(Clone, Copy)]
 pub enum Spot {
     Outside,
     At(usize),
 }
 
 // What the first record says.
-#[derive(Drop)]
+#[derive(Clone, Copy)]
 pub enum Head {
     Unsound,
     TooLarge,
@@ -52,7 +52,7 @@ pub enum Head {
 }
 
 // What the input says: a fault at a record, sizes outside the table, or a problem of m constraints and n variables.
-#[derive(Drop)]
+#[derive(Clone, Copy)]
 pub enum Input {
     Fault(usize),
     Large,

@@ -13,11 +13,11 @@ ghost use Rattle.problem_write_call.specs.Promise.{write_call, WritesFile};
 use workspace::Refusal;
 
 // The operations on problem files.
-#[derive(Drop)]
+#[derive(Clone, Copy)]
 pub struct Problems {}
 
 // How many bytes were written, or why none.
-#[derive(Drop)]
+#[derive(Clone, Copy)]
 pub enum Outcome {
     Done(usize),
     Refused(Refusal),

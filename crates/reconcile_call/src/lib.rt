@@ -70,7 +70,7 @@ fn solve_all(
 }
 
 // A day's meters under its balances.
-#[derive(Drop)]
+#[derive(Clone, Copy)]
 pub struct Day {}
 
 impl Day {

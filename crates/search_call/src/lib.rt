@@ -24,7 +24,7 @@ use search::{PHASE_NONE, PHASE_NONFINITE, SEARCH_ASKED};
 use workspace::{Outcome, Refusal};
 
 // The search around the step.
-#[derive(Drop)]
+#[derive(Clone, Copy)]
 pub struct Search {}
 
 // The outcome of a state whose first word is `phase`.

@@ -27,7 +27,7 @@ use step::{STEP_D, STEP_MULTIPLIERS, Stepped};
 use workspace::Outcome;
 
 // How a turn opens: there is a line to search along, or the run ends.
-#[derive(Drop)]
+#[derive(Clone, Copy)]
 pub enum Opening {
     Go,
     Converged,

@@ -17,7 +17,7 @@ use search::{
 };
 
 // The fixed fractions of a turn.
-#[derive(Drop)]
+#[derive(Clone, Copy)]
 pub struct Fractions {}
 
 impl Fractions {

@@ -40,14 +40,14 @@ pub const SETTLE_HELD: usize = lsei_nullspace::LSEI_WORDS;
 pub const SETTLE_WORDS: usize = SETTLE_HELD + 48;
 
 // What an answer is worth: its bound, and whether it is kept within the tolerance.
-#[derive(Drop)]
+#[derive(Clone, Copy)]
 pub struct Standing {
     pub far: f64,
     pub kept: bool,
 }
 
 // What a try comes to: an answer, a limit to let go, or none.
-#[derive(Drop)]
+#[derive(Clone, Copy)]
 pub enum Step {
     Found,
     Let(usize),
@@ -173,7 +173,7 @@ fn is_better(kept: bool, again: bool, far: f64, other: f64) -> bool
 // ---- the whole
 
 // How LSEI ended, and the bound of the volumes that are settled.
-#[derive(Drop)]
+#[derive(Clone, Copy)]
 pub struct Settlement {
     pub ending: lsei::Ending,
     pub far: f64,

@@ -17,7 +17,7 @@ use crate::arguments::test_call;
 use workspace::{Outcome, Refusal};
 
 // What a call answers: the bound in spreads, or why it refuses.
-#[derive(Drop)]
+#[derive(Clone, Copy)]
 pub enum Bounded {
     Done(f64),
     Refused(Refusal),
@@ -94,7 +94,7 @@ pub fn settle_all(
 }
 
 // A day's volumes.
-#[derive(Drop)]
+#[derive(Clone, Copy)]
 pub struct Volumes {}
 
 impl Volumes {

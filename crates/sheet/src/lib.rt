@@ -13,7 +13,7 @@ use sheet_lines::{Counts, Step};
 use sheet_words::Expected;
 
 // A whole sheet with its numbers of items, balances, limits and doubts, or its first fault: the line, what was expected there, and the places of the word found.
-#[derive(Drop)]
+#[derive(Clone, Copy)]
 pub enum Sheet {
     Whole(usize, usize, usize, usize),
     Fault(usize, Expected, usize, usize),

@@ -12,7 +12,7 @@ use sheet_terms::Row;
 use sheet_words::Expected;
 
 // How many there are so far, and what was given.
-#[derive(Drop)]
+#[derive(Clone, Copy)]
 pub struct Counts {
     pub items: usize,
     pub balances: usize,
@@ -24,7 +24,7 @@ pub struct Counts {
 }
 
 // The counts after a line, or what was expected in it, and the places of the word found.
-#[derive(Drop)]
+#[derive(Clone, Copy)]
 pub enum Step {
     Next(Counts),
     Wrong(Expected, usize, usize),

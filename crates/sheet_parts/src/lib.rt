@@ -13,14 +13,14 @@ use day_words::{Count, Number, Word};
 use sheet_words::{Expected, Judged};
 
 // The place after a part of a line, or what was expected, and the places of the word there.
-#[derive(Drop)]
+#[derive(Clone, Copy)]
 pub enum Part {
     At(usize),
     Not(Expected, usize, usize),
 }
 
 // What stands after an item's name: readings, spread or capacity, content before and after; or what was expected.
-#[derive(Drop)]
+#[derive(Clone, Copy)]
 pub enum Item {
     Is(u32, u32, f64, f64, f64),
     Not(Expected, usize, usize),

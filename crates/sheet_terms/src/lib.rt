@@ -13,7 +13,7 @@ use day_words::Number;
 use sheet_words::{Expected, Place};
 
 // What a word is among terms.
-#[derive(Drop)]
+#[derive(Clone, Copy)]
 pub enum Term {
     Sign,
     Times(f64),
@@ -22,7 +22,7 @@ pub enum Term {
 }
 
 // Whether `=` was passed, whether this side has a term, and the number that waits for its name.
-#[derive(Drop)]
+#[derive(Clone, Copy)]
 struct Turn {
     equals: bool,
     here: bool,
@@ -30,14 +30,14 @@ struct Turn {
 }
 
 // The turn after a word, or what was expected.
-#[derive(Drop)]
+#[derive(Clone, Copy)]
 enum Next {
     Go(Turn),
     Stop(Expected),
 }
 
 // A row is full, or what was expected, and the places of the word that stands there.
-#[derive(Drop)]
+#[derive(Clone, Copy)]
 pub enum Row {
     Full,
     Not(Expected, usize, usize),

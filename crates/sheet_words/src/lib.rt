@@ -8,7 +8,7 @@ ghost use Rattle.sheet_words.specs.Lines.{after_mark, unremarked};
 use day_words::Number;
 
 // What was expected where the first fault is.
-#[derive(Drop)]
+#[derive(Clone, Copy)]
 pub enum Expected {
     Kind,
     SmallKind,
@@ -48,14 +48,14 @@ pub enum Expected {
 }
 
 // Whether a word may stand, or what was expected.
-#[derive(Drop)]
+#[derive(Clone, Copy)]
 pub enum Judged {
     Fine,
     Not(Expected),
 }
 
 // Where a name stands in the table.
-#[derive(Drop)]
+#[derive(Clone, Copy)]
 pub enum Place {
     At(usize),
     Nowhere,

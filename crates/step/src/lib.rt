@@ -53,7 +53,7 @@ pub const STEP_ROOM: usize = STEP_LENT + lsei_nullspace::LSEI_ROOM;
 pub const STEP_WORDS: usize = lsei_nullspace::LSEI_WORDS;
 
 // The relaxation's weight.
-#[derive(Drop)]
+#[derive(Clone, Copy)]
 pub struct Step {}
 
 impl Step {
@@ -62,14 +62,14 @@ impl Step {
 }
 
 // How one of its problems ended, done with its relaxation or refused, with the rounds and the factorings that it took.
-#[derive(Drop)]
+#[derive(Clone, Copy)]
 pub enum Tried {
     Done(f64, usize, usize),
     Refused(Refusal, usize, usize),
 }
 
 // How a stage ended: it answered, or was not tried; or why it failed.
-#[derive(Drop)]
+#[derive(Clone, Copy)]
 pub enum Stage {
     Passed,
     Failed(Refusal),
@@ -98,7 +98,7 @@ impl Stage {
 }
 
 // What a step says of itself: how its two problems ended, and the rounds and factorings that both took.
-#[derive(Drop)]
+#[derive(Clone, Copy)]
 pub struct Report {
     pub exact: Stage,
     pub relaxed: Stage,
@@ -107,7 +107,7 @@ pub struct Report {
 }
 
 // How the step ended, done with its relaxation or refused, with its report.
-#[derive(Drop)]
+#[derive(Clone, Copy)]
 pub enum Stepped {
     Done(f64, Report),
     Refused(Refusal, Report),
@@ -116,7 +116,7 @@ pub enum Stepped {
 // ---- the exact problem
 
 // How many equalities and inequalities a problem has.
-#[derive(Drop)]
+#[derive(Clone, Copy)]
 pub struct Sizes {
     pub equalities: usize,
     pub inequalities: usize,

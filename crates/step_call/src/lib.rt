@@ -16,12 +16,12 @@ use crate::strict::test_bounds;
 use workspace::Refusal;
 
 // The solver of the step.
-#[derive(Drop)]
+#[derive(Clone, Copy)]
 pub struct Step {}
 
 // What a call answers: the relaxation with the step's report; why the step failed, with its report; or
 // why a test before it refuses.
-#[derive(Drop)]
+#[derive(Clone, Copy)]
 pub enum Outcome {
     Done(f64, step::Report),
     Failed(Refusal, step::Report),

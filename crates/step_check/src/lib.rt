@@ -15,7 +15,7 @@ use crate::constraints::{check_equalities, check_floors};
 use crate::slopes::check_slopes;
 
 // The five tests, in their order.
-#[derive(Drop)]
+#[derive(Clone, Copy)]
 pub enum Test {
     Stationarity,
     Residual,
@@ -40,7 +40,7 @@ impl Test {
 }
 
 // What the index of a row counts: variables, constraints, or the bands' ceilings or variables' sides by these.
-#[derive(Drop)]
+#[derive(Clone, Copy)]
 pub enum Part {
     Variable,
     Constraint,
@@ -65,7 +65,7 @@ impl Part {
 }
 
 // Yes, or the first failed test with its row.
-#[derive(Drop)]
+#[derive(Clone, Copy)]
 pub enum Verdict {
     Yes,
     Fails(Test, Part, u32),

@@ -12,11 +12,11 @@ use step_check::Verdict;
 use workspace::Refusal;
 
 // The check of a step.
-#[derive(Drop)]
+#[derive(Clone, Copy)]
 pub struct Check {}
 
 // What a call answers: the verdict, or why it refuses.
-#[derive(Drop)]
+#[derive(Clone, Copy)]
 pub enum Outcome {
     Done(Verdict),
     Refused(Refusal),

@@ -13,7 +13,7 @@ ghost use Rattle.step_rows.specs.Problem.{problem_of, constraint_of, row_of, uni
 ghost use Rattle.step_rows.specs.inner.Work.{Pushed, Lengths};
 
 // A side of a step's bounds: open, or closed at a number.
-#[derive(Drop)]
+#[derive(Clone, Copy)]
 pub enum Side {
     Open,
     At(f64),
@@ -34,7 +34,7 @@ impl Side {
 }
 
 // A constraint: an equality, a floor, or a band that carries its width.
-#[derive(Drop)]
+#[derive(Clone, Copy)]
 pub enum Constraint {
     Equality,
     Floor,

@@ -41,14 +41,14 @@ pub const SUSPECT_WORDS: usize = SUSPECT_MARKS + 18;
 // ---- what is told of all meters together
 
 // A meter and the square of its test.
-#[derive(Drop)]
+#[derive(Clone, Copy)]
 pub struct Lead {
     pub index: usize,
     pub square: f64,
 }
 
 // The degrees of freedom, the misfit, the meter of the largest test with its square, whether the meters agree, and whether one of them explains it where they do not.
-#[derive(Drop)]
+#[derive(Clone, Copy)]
 pub struct Finding {
     pub freedom: u32,
     pub misfit: f64,

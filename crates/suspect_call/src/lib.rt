@@ -15,7 +15,7 @@ use crate::arguments::{are_inputs, are_outputs, test_all};
 use workspace::{Outcome, Refusal};
 
 // What a call tells: what is found of all meters together, or why it is refused.
-#[derive(Drop)]
+#[derive(Clone, Copy)]
 pub enum Tested {
     Done(suspect::Finding),
     Refused(Refusal),
@@ -64,7 +64,7 @@ pub fn solve_all(
 }
 
 // A day's meters under its balances.
-#[derive(Drop)]
+#[derive(Clone, Copy)]
 pub struct Meters {}
 
 impl Meters {

@@ -5,7 +5,7 @@ ghost use Rattle.std.specs.Prelude.{◌≡◌};
 ghost use Rattle.tally.specs.Tally.{saturated, raised};
 
 // Rounds and factorings.
-#[derive(Drop)]
+#[derive(Clone, Copy)]
 pub struct Tally {
     pub rounds: u64,
     pub factorings: u64,

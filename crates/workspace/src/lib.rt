@@ -12,7 +12,7 @@ ghost use Rattle.workspace.specs.Readings.{vec, mat, stack, nums, Block, Span, L
 pub const NOWHERE: u32 = 4294967295;
 
 // Why a call is refused, some with a place: a column, an equality, a meter or a variable.
-#[derive(Drop)]
+#[derive(Clone, Copy)]
 pub enum Refusal {
     Size,
     Length,
@@ -92,7 +92,7 @@ impl Refusal {
 }
 
 // What an operation answers that tells nothing beside its outputs.
-#[derive(Drop)]
+#[derive(Clone, Copy)]
 pub enum Outcome {
     Done,
     Refused(Refusal),
