@@ -1,11 +1,10 @@
 -- `run_rounds`: after each look back what is left of the rounds gives the answer.
 use mathlib.Core.Path.{refl, sym, ◌∙◌}
 use native.Mathlib.Omega.{arith}
-use borrow.Author.Tests.{not-false}
 use Rattle.nnls.specs.inner.State.{read}
 use Rattle.nnls.proofs.States.{read-copied}
 use Rattle.nnls.proofs.Rounding.{running_none, round-accept, round-capped, look-asked, look-ended, look-again, look-further}
-use borrow.Author.Tests.{not-true}
+use borrow.Author.Tests.{not-true, not-false}
 use Rattle.nnls.proofs.run_rounds.Goals as goal
 
 pub loop-c-init : goal.loop-c-init
