@@ -9,7 +9,6 @@ use Rattle.reconcile_call.proofs.give.Goals as goal
 pub returns-in_default : goal.returns-in_default
 returns-in_default c = let a = c.args in
     given-none a.n a.ending (solution_in a.n a.m a.n a.w.now) c.outcome.result a.volumes.now a.named.now (opened c.in_default.in_default-own.keys2) (c.outcome.ensures _)
-    given-none a.n a.ending (solution_in a.n a.m a.n a.w.now) c.outcome.result a.volumes.now a.named.now c.in_default.in_default-own.keys2 (c.outcome.ensures _)
 
 pub unload-requires : goal.unload-requires
 unload-requires c = let p = c.requires in (omega (arith, p.0, p.1), p.2)
