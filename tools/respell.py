@@ -42,7 +42,7 @@ def files(root):
 
 def snake(word):
     """Each part between dashes and arrows by itself: a part that begins with a capital is a fact or a type."""
-    parts = re.split(r"(-|→)", word)
+    parts = re.split(r"(-|→|◌)", word)
     return "".join(HUMP.sub(lambda m: "_" + m[0].lower(), p) if p[:1].islower() else p for p in parts)
 
 
@@ -65,7 +65,8 @@ def table(root):
     names = {}
     for path in files(root):
         for word in WORD.findall(open(path, encoding="utf-8").read()):
-            if re.search(r"(?:^|[-→])[a-z][a-z0-9₀-₉_']*[A-Z]", word) and "'E'" not in word:
+            # a byte of src/, as b'S', is no name
+            if re.search(r"(?:^|[-→◌])[a-z][a-z0-9₀-₉_']*[A-Z]", word) and not re.match(r"b'", word):
                 names[word] = snake(word)
     taken = set(names.values())
     for old in sorted(dashed(root)):

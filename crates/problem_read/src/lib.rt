@@ -88,14 +88,14 @@ fn area_of(m: usize, n: usize, tag: u8) -> Area
     ensures { result ≡ area_of m n tag }
 {
     match tag {
-        b'_l' => make_area(0, n, n),
-        b'_g' => make_area(GRADIENT, 1, n),
+        b'L' => make_area(0, n, n),
+        b'G' => make_area(GRADIENT, 1, n),
         b'E' => make_area(VALUES, m, 1),
-        b'_i' => make_area(VALUES, m, 1),
-        b'_w' => make_area(WIDTHS, m, 1),
-        b'_a' => make_area(JACOBIAN, m, n),
-        b'_b' => make_area(LOWER, 1, n),
-        b'_t' => make_area(UPPER, 1, n),
+        b'I' => make_area(VALUES, m, 1),
+        b'W' => make_area(WIDTHS, m, 1),
+        b'A' => make_area(JACOBIAN, m, n),
+        b'B' => make_area(LOWER, 1, n),
+        b'T' => make_area(UPPER, 1, n),
         _ => make_area(0, 0, 0),
     }
 }
@@ -104,7 +104,7 @@ fn area_of(m: usize, n: usize, tag: u8) -> Area
 fn mark(tag: u8) -> u8
     ensures { result ≡ tag_mark tag }
 {
-    if tag == b'_i' { 2 } else { 1 }
+    if tag == b'I' { 2 } else { 1 }
 }
 
 // The place of (row, col) in an area that lies in the tables.
@@ -127,7 +127,7 @@ fn spot_of(m: usize, n: usize, tag: u8, row: usize, col: usize) -> Spot
     requires { (m ≤ 16) × (n ≤ 16) }
     ensures { result ≡ spot_of m n tag row col }
 {
-    if tag == b'_l' {
+    if tag == b'L' {
         if row < col {
             return Spot::Outside;
         }
@@ -180,7 +180,7 @@ fn first(r: &[u8]) -> Head
     requires { length r.now ≡ 16 }
     ensures { result ≡ head_of r.now }
 {
-    if r[0] != b'_d' {
+    if r[0] != b'D' {
         return Head::Unsound;
     }
     if !spare_zero(r) {

@@ -75,11 +75,11 @@ pub fn count_records(
     requires { Sized (lent_of n m factor.now gradient.now kinds.now values.now widths.now jacobian.now lower.now upper.now) }
     ensures { result ≡ length (records_of (problem_in (lent_of n m factor.now gradient.now kinds.now values.now widths.now jacobian.now lower.now upper.now))) }
 {
-    let a = count_table(b'_l', n, n, factor);
-    let b = count_table(b'_g', 1, n, gradient);
+    let a = count_table(b'L', n, n, factor);
+    let b = count_table(b'G', 1, n, gradient);
     let c = count_constraints(kinds);
-    let d = count_table(b'_a', m, n, jacobian);
-    let e = count_table(b'_b', 1, n, lower);
-    let f = count_table(b'_t', 1, n, upper);
+    let d = count_table(b'A', m, n, jacobian);
+    let e = count_table(b'B', 1, n, lower);
+    let f = count_table(b'T', 1, n, upper);
     1 + a + b + c + d + e + f
 }

@@ -24,16 +24,16 @@ const HIGH: u64 = 0x7ff0_0000_0000_0000;
 fn missing_bits(tag: u8, row: usize, column: usize) -> u64
     ensures { result ≡ missing tag row column }
 {
-    if tag == b'_l' {
+    if tag == b'L' {
         if row == column {
             return ONE;
         }
         return 0;
     }
-    if tag == b'_b' {
+    if tag == b'B' {
         return LOW;
     }
-    if tag == b'_t' {
+    if tag == b'T' {
         return HIGH;
     }
     0
@@ -44,7 +44,7 @@ fn row_length(tag: u8, row: usize, columns: usize) -> usize
     requires { row ≤ 16 }
     ensures { result ≡ row_length tag row columns }
 {
-    if tag == b'_l' { row + 1 } else { columns }
+    if tag == b'L' { row + 1 } else { columns }
 }
 
 // One record at a place.
@@ -115,11 +115,11 @@ fn write_constraint(out: &mut [u8], at: usize, i: usize, kind: u8, value: u64, w
         return at + RECORD;
     }
     if kind == 1 {
-        write_record(out, at, b'_i', i, 0, value);
+        write_record(out, at, b'I', i, 0, value);
         return at + RECORD;
     }
-    write_record(out, at, b'_i', i, 0, value);
-    write_record(out, at + RECORD, b'_w', i, 0, width);
+    write_record(out, at, b'I', i, 0, value);
+    write_record(out, at + RECORD, b'W', i, 0, width);
     at + 2 * RECORD
 }
 
@@ -159,11 +159,11 @@ pub fn write_file(
     requires { Sized (lent_of n m factor.now gradient.now kinds.now values.now widths.now jacobian.now lower.now upper.now) × Room 0 (records_of (problem_in (lent_of n m factor.now gradient.now kinds.now values.now widths.now jacobian.now lower.now upper.now))) out.old }
     ensures { Wrote 0 (records_of (problem_in (lent_of n m factor.now gradient.now kinds.now values.now widths.now jacobian.now lower.now upper.now))) result out.old out.new }
 {
-    write_record(out, 0, b'_d', m, n, 0);
-    let a = write_table(out, RECORD, b'_l', n, n, factor);
-    let b = write_table(out, a, b'_g', 1, n, gradient);
+    write_record(out, 0, b'D', m, n, 0);
+    let a = write_table(out, RECORD, b'L', n, n, factor);
+    let b = write_table(out, a, b'G', 1, n, gradient);
     let c = write_constraints(out, b, m, kinds, values, widths);
-    let d = write_table(out, c, b'_a', m, n, jacobian);
-    let e = write_table(out, d, b'_b', 1, n, lower);
-    write_table(out, e, b'_t', 1, n, upper)
+    let d = write_table(out, c, b'A', m, n, jacobian);
+    let e = write_table(out, d, b'B', 1, n, lower);
+    write_table(out, e, b'T', 1, n, upper)
 }

@@ -15,7 +15,7 @@ use Rattle.step_check.specs.declared.Test.{Test}
 use Rattle.step_check.specs.declared.Part.{Part}
 use Rattle.step_check.specs.declared.Verdict.{Verdict}
 use Rattle.step_check.specs.declared.Verdict.TheVariants.{Yes, Fails}
-use Rattle.step_check.specs.Check.{Margin, margin_of, holds, first_failed, ◌orElse◌}
+use Rattle.step_check.specs.Check.{Margin, margin_of, holds, first_failed, ◌or_else◌}
 
 -- ---- one row
 

@@ -10,7 +10,7 @@ use Rattle.step_rows.specs.Problem.{Problem, each}
 use Rattle.step_check.specs.declared.Test.TheVariants.{Stationarity, Residual, Violation, Sign, Product}
 use Rattle.step_check.specs.declared.Part.TheVariants.{Variable}
 use Rattle.step_check.specs.declared.Verdict.{Verdict}
-use Rattle.step_check.specs.Check.{Pasted, halfway, curved, slope, Margin, margin_of, slopes, equalities, inequalities, first_failed, ◌orElse◌, verdict}
+use Rattle.step_check.specs.Check.{Pasted, halfway, curved, slope, Margin, margin_of, slopes, equalities, inequalities, first_failed, ◌or_else◌, verdict}
 use Rattle.step_check.specs.Claims.{with_factor, ReadsLower}
 
 same-halfway : (n : ℕ) (a b d : List Float) → SameLower n a b → (k : ℕ) → k < n → halfway n b d k ≡ halfway n a d k

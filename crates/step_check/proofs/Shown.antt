@@ -14,7 +14,7 @@ use Rattle.step_check.specs.declared.Part.TheVariants.{Variable}
 use Rattle.step_check.specs.declared.Verdict.{Verdict}
 use Rattle.step_check.specs.declared.Verdict.TheVariants.{Yes, Fails}
 use Rattle.numbers.specs.Numbers.{+0}
-use Rattle.step_check.specs.Check.{Pasted, slope, Margin, margin_of, slopes, equalities, inequalities, rows_of, within, holds, first_failed, ◌orElse◌, verdict, test_number}
+use Rattle.step_check.specs.Check.{Pasted, slope, Margin, margin_of, slopes, equalities, inequalities, rows_of, within, holds, first_failed, ◌or_else◌, verdict, test_number}
 use Rattle.step_check.specs.Claims.{All, Five, YesIsFive, Holds, FirstFailed, NamesFirst}
 
 -- a verdict is yes or it fails, and never both

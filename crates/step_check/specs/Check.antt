@@ -137,8 +137,8 @@ holds Product tol l v = within tol (l ⊗ v)
 -- ---- the verdict
 
 -- where one says yes, what the next says
-infixr 20 ◌orElse◌
-abbrev pub ◌orElse◌ : Verdict → Verdict → Verdict
+infixr 20 ◌or_else◌
+abbrev pub ◌or_else◌ : Verdict → Verdict → Verdict
 Yes or_else v = v
 Fails t p i or_else v = Fails t p i
 

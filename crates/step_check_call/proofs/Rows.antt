@@ -21,7 +21,7 @@ use Rattle.step_rows.specs.declared.Side.TheVariants.{Open, At}
 use Rattle.step_rows.specs.declared.Constraint.{Constraint}
 use Rattle.step_rows.specs.declared.Constraint.TheVariants.{Equality, Floor, Band}
 use Rattle.step_call.specs.Promise.{are_kinds, are_widths, are_lengths}
-use Rattle.step_check.specs.Check.{Pasted, halfway, curved, terms, less_lower, plus_upper, slope, Margin, margin_of, value_at, ceiling_at, positive, negative, equality_row, floor_rows, lower_row, upper_row, slopes, equalities, inequalities, within, first_failed, ◌orElse◌, verdict}
+use Rattle.step_check.specs.Check.{Pasted, halfway, curved, terms, less_lower, plus_upper, slope, Margin, margin_of, value_at, ceiling_at, positive, negative, equality_row, floor_rows, lower_row, upper_row, slopes, equalities, inequalities, within, first_failed, ◌or_else◌, verdict}
 use Rattle.step_check.specs.Claims.{All, Stationary, Five}
 use Rattle.step_check.specs.declared.Test.TheVariants.{Stationarity, Residual, Violation, Sign, Product}
 use Rattle.step_check.specs.declared.Part.TheVariants as part

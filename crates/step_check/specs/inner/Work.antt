@@ -2,7 +2,7 @@
 use Rattle.std.specs.Prelude.{ℕ, ◌*◌, ◌≤◌, ◌≡◌, List, length, Float}
 use Rattle.step_check.specs.declared.Test.TheVariants.{Violation, Sign, Product}
 use Rattle.step_check.specs.declared.Verdict.{Verdict}
-use Rattle.step_check.specs.Check.{Margin, first_failed, ◌orElse◌}
+use Rattle.step_check.specs.Check.{Margin, first_failed, ◌or_else◌}
 
 -- the lengths of what each test reads
 pub record Sloped (n m : ℕ) (factor gradient jacobian lower upper d multipliers lowers uppers : List Float) : Type 0 where
