@@ -1,9 +1,13 @@
-// Reads an input until a buffer is full or the input ends; a read that fails is not its end.
+// Reads an input until a buffer is full or the input ends; a read that fails is not its end. Tells of files that cannot be used.
 #![tactic(auto)]
+
+mod names;
 
 ghost use Rattle.std.specs.Prelude.{length, ◌≡◌};
 ghost use Rattle.std.specs.Io.{ReadsAtMost};
 ghost use Rattle.input.specs.Reading.{Read};
+
+pub use names::{complain, path, tell};
 
 use std::io;
 use std::io::{Error, ErrorKind};
