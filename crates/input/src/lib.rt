@@ -7,8 +7,7 @@ ghost use Rattle.std.specs.Prelude.{length, ◌≡◌};
 ghost use Rattle.std.specs.Io.{ReadsAtMost};
 ghost use Rattle.input.specs.Reading.{Read};
 
-pub use names::{complain, path, tell};
-
+pub use names::{complain, path, tell_error};
 use std::io;
 use std::io::{Error, ErrorKind};
 

@@ -11,7 +11,7 @@ pub fn path(name: &[u8]) -> io::Result<&str> {
 }
 
 // Writes to standard error. Where that cannot be written nothing more can be told.
-pub fn tell(rt: &HostRuntime, text: &[u8]) {
+pub fn tell_error(rt: &HostRuntime, text: &[u8]) {
     let _ = Print::write_all(&rt.stderr(), text);
 }
 
@@ -25,9 +25,9 @@ fn words(error: &str) -> &str {
 
 // Tells what cannot be done with a file, and why.
 pub fn complain(rt: &HostRuntime, what: &[u8], name: &[u8], why: Error) {
-    tell(rt, what);
-    tell(rt, name);
-    tell(rt, b": ");
+    tell_error(rt, what);
+    tell_error(rt, name);
+    tell_error(rt, b": ");
     let _ = match format!(in rt.alloc(); "{why}") {
         Ok(error) => rt.eprintln(words(error.as_str())),
         Err(_) => rt.eprintln(why),
