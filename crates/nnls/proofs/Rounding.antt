@@ -13,7 +13,7 @@ use Rattle.workspace.proofs.Readings.{nth-front}
 use Rattle.nnls.specs.Nnls.{kept, ended, tries, Settled, turns, accept, pass, rounds, active_set, nnls}
 use Rattle.nnls.specs.inner.State.{State, put, solve_in, dual_in, Rounded}
 use Rattle.nnls.specs.inner.Work.{pass_end_of, Passed, TurnsTaken}
-use Rattle.nnls.specs.inner.Memory.{Digits, MayLook, onward, ended, LookedBack, goes_on, came_back}
+use Rattle.nnls.specs.inner.Memory.{Digits, MayLook, CameBack, onward, ended, LookedBack, goes_on, came_back}
 use Rattle.nnls.specs.declared.memory.Course.{Course}
 use Rattle.nnls.proofs.States.{states}
 use Rattle.nnls.proofs.Solves.{solver}
@@ -241,11 +241,16 @@ module _ (m n k : ℕ) (s₀ s : State) (memory : List ℕ) (c : Course) (n66 : 
         trail = K.trail;
       }
 
+-- where rounds are left to run, no round that is past comes back
+came-further : (h : List ℕ) (held i low high past f k : ℕ) (r : Course) → CameBack h held i low high past f k r → r.ended ≡ false → past ≤ r.past
+came-further h held i low high past f k _ (onward r Q) b = let e = Q.rounds in omega (arith, e)
+came-further h held i low high past f k _ (ended r Q t lt et) b = absurd (true≢false b)
+
 -- it comes further
 pub look-further : (n k : ℕ) (p : List ℕ) (c : Course) (g f : ℕ) (h h' : List ℕ) (r : Course) → LookedBack n k p c g f h h' r → r.ended ≡ false → c.past < r.past
 look-further n k p c g f h h' _ (goes_on held R low high E) b = omega arith
-look-further n k p c g f h h' _ (came_back held R i l D low high E _ (onward r Q)) b = let e = Q.rounds in omega (arith, e)
-look-further n k p c g f h h' _ (came_back held R i l D low high E _ (ended r Q t lt et)) b = absurd (true≢false b)
+look-further n k p c g f h h' _ (came_back held R i l D low high E r came) b =
+    omega (arith, came-further h' held i low high (c.past + 1) f k r came b)
 
 -- ---- the whole
 

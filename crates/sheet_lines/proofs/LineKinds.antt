@@ -1,11 +1,11 @@
 -- The kinds of line: each way out of the code is one law.
-use mathlib.Core.Path.{◌≡◌, refl, sym, ap, ◌∙◌}
-use mathlib.Core.Bool.{Bool, true, false, cond, not, ◌||◌}
+use mathlib.Core.Path.{◌≡◌, refl, ap, ◌∙◌}
+use mathlib.Core.Bool.{Bool, true, false, ◌||◌}
 use mathlib.Core.List.{List, [], ◌∷◌}
-use Prim.Native.Nat.{ℕ, zero, suc, ◌+◌, ◌-◌, ◌*◌, ◌≤◌, ◌<◌}
+use Prim.Native.Nat.{ℕ, ◌+◌, ◌*◌, ◌≤◌, ◌<◌}
 use native.Mathlib.Omega.{arith}
 use borrow.Author.Tests.{lt-ltb, le-ltb, le-leb, lt-leb}
-use lib.Dec.{ltb, leb, eqb}
+use lib.Dec.{eqb}
 use lib.ListN.{length, set}
 use lib.Ieee.{Float}
 use Rattle.day_words.specs.declared.Number.{Number}
@@ -18,8 +18,8 @@ use Rattle.sheet_words.specs.Names.{begins_letter, not_below_zero}
 use Rattle.sheet_words.specs.Lines.{words_of}
 use Rattle.sheet_terms.specs.Terms.{Listed, listed, unlisted, terms}
 use Rattle.sheet_parts.specs.Texts.{text_in}
-use Rattle.sheet_parts.specs.Parts.{Named, named, unnamed, name_at, Texted, texted, untexted, text_at, Itemed, itemed, unitemed, item_of}
-use Rattle.sheet_lines.specs.Lines.{State, Line, taken, wrong, ended, with_title, with_doubt, title_read, doubt_read, title_line, doubt_line, with_item, item_read, item_named, item_line, with_balance, balance_named, balance_line, with_limit, limit_read, limit_named, limit_line, tolerance_read, tolerance_line}
+use Rattle.sheet_parts.specs.Parts.{Named, named, unnamed, name_at, texted, untexted, text_at, itemed, unitemed, item_of}
+use Rattle.sheet_lines.specs.Lines.{State, Line, taken, wrong, ended, with_title, with_doubt, title_line, doubt_line, with_item, item_read, item_named, item_line, with_balance, balance_named, balance_line, with_limit, limit_named, limit_line, tolerance_line}
 
 -- ---- titles and doubts
 

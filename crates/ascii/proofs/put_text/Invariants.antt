@@ -1,0 +1,12 @@
+-- `put_text`: after i turns i bytes of the text are written.
+use mathlib.Core.Path.{◌≡◌}
+use Prim.Native.Nat.{◌+◌, ◌-◌, ◌≤◌}
+use lib.ListN.{length, drop}
+use Rattle.ascii.proofs.Writing.{Writing}
+use Rattle.ascii.proofs.put_text.Given as goal
+
+abbrev pub invariant-loop-i : goal.invariant-loop-i
+invariant-loop-i l = (l.i ≤ length l.text) × Writing l.initial.out l.at l.text l.out (l.at + l.i) (drop l.i l.text) × (length l.out ≡ length l.initial.out)
+
+abbrev pub decreases-loop-i : goal.decreases-loop-i
+decreases-loop-i l = length l.text - l.i

@@ -1,0 +1,48 @@
+-- `update`: the tests in their order, then the answer and the clearing.
+use mathlib.Core.Path.{sym, ◌∙◌}
+use native.Mathlib.Omega.{arith}
+use borrow.Author.Tests.{not-true, not-false}
+use Rattle.workspace.proofs.Tests.{dimension-le}
+use Rattle.hessian_call.proofs.Calls.{size-refused, length-refused, room-refused, made}
+use Rattle.hessian_packed_call.proofs.Tests.{ready}
+use Rattle.hessian_packed_call.proofs.Packed.update.Goals as goal
+
+pub is_dimension-requires : goal.is_dimension-requires
+is_dimension-requires c = tt
+
+pub returns-then-not-is_dimension : goal.returns-then-not-is_dimension
+returns-then-not-is_dimension c = size-refused _ _ _ _ _ _ _ (sym c.is_dimension.ensures ∙ not-true _ c.if-not-is_dimension.true-raw)
+
+pub are_lengths-requires : goal.are_lengths-requires
+are_lengths-requires c = dimension-le _ (sym c.is_dimension.ensures ∙ not-false _ c.if-not-is_dimension.false-raw)
+
+pub returns-then-not-are_lengths : goal.returns-then-not-are_lengths
+returns-then-not-are_lengths c = length-refused _ _ _ _ _ _ _ (sym c.is_dimension.ensures ∙ not-false _ c.if-not-is_dimension.false-raw) (sym c.are_lengths.ensures ∙ not-true _ c.if-not-are_lengths.true-raw)
+
+pub is_room-requires : goal.is_room-requires
+is_room-requires c = tt
+
+pub returns-then-not-is_room : goal.returns-then-not-is_room
+returns-then-not-is_room c = room-refused _ _ _ _ _ _ _ (sym c.is_dimension.ensures ∙ not-false _ c.if-not-is_dimension.false-raw) (sym c.are_lengths.ensures ∙ not-false _ c.if-not-are_lengths.false-raw) (sym c.is_room.ensures ∙ not-true _ c.if-not-is_room.true-raw)
+
+pub update_all-requires : goal.update_all-requires
+update_all-requires c = let a = c.args in
+    ready a.n a.p.now a.s.now a.y.now a.w.now a.iw.now
+    (sym c.is_dimension.ensures ∙ not-false _ c.if-not-is_dimension.false-raw)
+    (sym c.are_lengths.ensures ∙ not-false _ c.if-not-are_lengths.false-raw)
+    (sym c.is_room.ensures ∙ not-false _ c.if-not-is_room.false-raw)
+
+pub shape_of-p : goal.shape_of-p
+shape_of-p c = omega arith
+
+pub shape_of-w : goal.shape_of-w
+shape_of-w c = omega arith
+
+pub shape_of-iw : goal.shape_of-iw
+shape_of-iw c = omega arith
+
+pub returns : goal.returns
+returns c = made _ _ _ _ _ _ _ _ _ _ (sym c.is_dimension.ensures ∙ not-false _ c.if-not-is_dimension.false-raw)
+    (sym c.are_lengths.ensures ∙ not-false _ c.if-not-are_lengths.false-raw)
+    (sym c.is_room.ensures ∙ not-false _ c.if-not-is_room.false-raw)
+    c.update_all.ensures.0 c.update_all.ensures.1

@@ -1,0 +1,4 @@
+use Rattle.interval.proofs.add_up.Goals as goal
+
+pub returns : goal.returns
+returns c = c.next_up.ensures

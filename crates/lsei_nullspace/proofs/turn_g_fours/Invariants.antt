@@ -1,0 +1,12 @@
+-- `turn_g_fours`: after q turns 4 q rows are laid.
+use mathlib.Core.Path.{◌≡◌}
+use Prim.Native.Nat.{◌*◌, ◌/◌, ◌≤◌, ◌-◌}
+use lib.ListN.{length}
+use Rattle.lsei_nullspace.specs.inner.Work.{RowsOfG}
+use Rattle.lsei_nullspace.proofs.turn_g_fours.Given as goal
+
+abbrev pub invariant-loop-q : goal.invariant-loop-q
+invariant-loop-q l = (l.c ≡ l.mg / 4) × (l.q ≤ l.c) × (length l.w ≡ length l.initial.w) × RowsOfG l.n l.mc (l.q * 4) l.initial.w l.w
+
+abbrev pub decreases-loop-q : goal.decreases-loop-q
+decreases-loop-q l = l.c - l.q

@@ -1,0 +1,9 @@
+-- `seek`: the first place where both numbers stand.
+use Prim.Native.Nat.{◌-◌, ◌≤◌}
+use Rattle.nnls.proofs.memory.seek.Given as goal
+
+abbrev pub invariant-loop-i : goal.invariant-loop-i
+invariant-loop-i l = l.i ≤ l.held
+
+abbrev pub decreases-loop-i : goal.decreases-loop-i
+decreases-loop-i l = l.held - l.i

@@ -1,0 +1,9 @@
+-- `seek_round`: the first place where the rounds stand.
+use Prim.Native.Nat.{◌-◌, ◌≤◌}
+use Rattle.nnls.proofs.memory.seek_round.Given as goal
+
+abbrev pub invariant-loop-i : goal.invariant-loop-i
+invariant-loop-i l = l.i ≤ l.held
+
+abbrev pub decreases-loop-i : goal.decreases-loop-i
+decreases-loop-i l = l.held - l.i

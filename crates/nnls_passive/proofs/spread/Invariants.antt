@@ -1,0 +1,12 @@
+-- `spread`: after t turns t entries stand in z.
+use mathlib.Core.Path.{◌≡◌}
+use Prim.Native.Nat.{◌-◌, ◌≤◌}
+use lib.ListN.{length}
+use Rattle.nnls_passive.specs.inner.Work.{Spread}
+use Rattle.nnls_passive.proofs.spread.Given as goal
+
+abbrev pub invariant-loop-t : goal.invariant-loop-t
+invariant-loop-t l = (l.t ≤ l.c) × (length l.w ≡ length l.initial.w) × Spread l.n l.t l.c l.iw l.initial.w l.w
+
+abbrev pub decreases-loop-t : goal.decreases-loop-t
+decreases-loop-t l = l.c - l.t
