@@ -3,7 +3,7 @@
 // bytes of KEPT and 65,537 of PLANT decide (`EnoughBytes` of plant's specs/Claims.antt), so no more is read.
 #![tactic(auto)]
 
-ghost use Rattle.std.specs.Prelude.{◌≡◌, length};
+ghost use Rattle.std.specs.Prelude.{◌≡◌, ◌≤◌, length};
 ghost use Rattle.input.specs.Reading.{Read};
 
 use input::{Reading, complain, path, tell_error};
@@ -108,7 +108,7 @@ fn run(rt: &HostRuntime, kept_name: &[u8], plant_name: &[u8]) {
 
 // An argument, and how long it is: 0 where it is missing, or longer than there is room.
 fn argument(rt: &HostRuntime, i: usize, buf: &mut [u8]) -> usize
-    ensures { IsPrefixLen result buf.new }
+    ensures { result ≤ length buf.new }
 {
     rt.arg(i, buf).unwrap_or(0)
 }
