@@ -14,7 +14,10 @@ mod volumes;
 
 ghost use Rattle.std.specs.Prelude.{◌≤◌, ◌<◌, ◌≡◌, length};
 
-use libc::{STDIN_FILENO, STDOUT_FILENO};
+use crate::lines::STDOUT;
+
+// The descriptor of standard input.
+const STDIN: i32 = 0;
 
 // 2,048 zeros, for what the record program writes.
 fn output_room() -> [u8; 2048]
@@ -27,9 +30,9 @@ fn output_room() -> [u8; 2048]
 fn answer(name: &[u8], file: &[u8]) {
     let mut out = output_room();
     let n = problem_answer::respond(file, &mut out);
-    io::write_all(STDOUT_FILENO, name);
-    io::write_all(STDOUT_FILENO, b":\n");
-    io::write_all(STDOUT_FILENO, &out[..n]);
+    io::write_all(STDOUT, name);
+    io::write_all(STDOUT, b":\n");
+    io::write_all(STDOUT, &out[..n]);
 }
 
 // Answers the first case of a bundle, and tells where the next one starts; a case that is cut off is the last.
@@ -38,13 +41,13 @@ fn answer_first(bundle: &[u8]) -> usize
     ensures { (0 < result) × (result ≤ length bundle.now) }
 {
     if bundle.len() < 4 {
-        io::write_all(STDOUT_FILENO, b"cut off\n");
+        io::write_all(STDOUT, b"cut off\n");
         return bundle.len();
     }
     let start = 4 + endian::read_u16(bundle, 0) as usize;
     let end = start + endian::read_u16(bundle, 2) as usize;
     if bundle.len() < end {
-        io::write_all(STDOUT_FILENO, b"cut off\n");
+        io::write_all(STDOUT, b"cut off\n");
         return bundle.len();
     }
     answer(&bundle[4..start], &bundle[start..end]);
@@ -66,6 +69,6 @@ fn main() {
     volumes::tell_volumes();
     searches::tell_searches();
     let mut input = io::large_buffer();
-    let n = io::read_full(STDIN_FILENO, &mut input);
+    let n = io::read_full(STDIN, &mut input);
     answer_all(&input[..n]);
 }

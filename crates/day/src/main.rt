@@ -5,7 +5,6 @@
 ghost use Rattle.std.specs.Prelude.{◌≡◌, length};
 
 use input::Reading;
-use libc::{STDERR_FILENO, STDIN_FILENO, STDOUT_FILENO};
 
 // 65,537 zeros, for the sheet.
 fn sheet_room() -> [u8; 65537]
@@ -22,23 +21,20 @@ fn report_room() -> [u8; 81920]
 }
 
 // Writes the report on a sheet.
-fn report(sheet: &[u8]) {
+fn report(rt: &(impl Print + Eprint), sheet: &[u8]) {
     let mut out = report_room();
     let n = day_report::respond(sheet, &mut out);
-    if !io::write_all(STDOUT_FILENO, &out[..n]) {
-        io::write_all(
-            STDERR_FILENO,
-            b"gritstrut: standard output cannot be written\n",
-        );
+    if rt.write_all(&out[..n]).is_err() {
+        let _ = rt.eprintln("gritstrut: standard output cannot be written");
     }
 }
 
-fn main() {
+fn main(rt: HostRuntime) {
     let mut bytes = sheet_room();
-    match input::fill(STDIN_FILENO, &mut bytes) {
-        Reading::Failed => {
-            io::write_all(STDERR_FILENO, b"gritstrut: standard input cannot be read\n");
+    match input::fill(&mut rt.stdin(), &mut bytes) {
+        Reading::Failed(_) => {
+            let _ = rt.eprintln("gritstrut: standard input cannot be read");
         }
-        Reading::Bytes(n) => report(&bytes[..n]),
+        Reading::Bytes(n) => report(&rt, &bytes[..n]),
     }
 }

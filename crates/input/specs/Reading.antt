@@ -7,4 +7,4 @@ use Rattle.input.specs.declared.Reading.TheVariants.{Bytes, Failed}
 -- where it did not fail, it put so many bytes at the start of the buffer
 abbrev pub Read : Reading → List ℕ → Type 0
 Read (Bytes n) buf = IsPrefixLen n buf
-Read Failed buf = Unit
+Read (Failed e) buf = Unit

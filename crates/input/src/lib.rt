@@ -1,49 +1,50 @@
-// Reads a descriptor until a buffer is full or the input ends; a read that fails is not its end.
+// Reads an input until a buffer is full or the input ends; a read that fails is not its end. Tells of files that cannot be used.
 #![tactic(auto)]
 
+mod names;
+
 ghost use Rattle.std.specs.Prelude.{length, ◌≡◌};
+ghost use Rattle.std.specs.Io.{ReadsAtMost};
 ghost use Rattle.input.specs.Reading.{Read};
+
+pub use names::{complain, path, tell_error};
+use std::io;
+use std::io::{Error, ErrorKind};
 
 // What reading gave: so many bytes before the end, or a read that failed.
 #[derive(Clone, Copy)]
 pub enum Reading {
     Bytes(usize),
-    Failed,
+    Failed(Error),
 }
 
 // How often a read that a signal interrupts is tried again.
 const TRIES: usize = 64;
 
 // One read, tried again where a signal interrupts it.
-fn read_some(fd: i32, buf: &mut [u8]) -> isize {
-    let mut got = libc::read(fd, buf);
+fn read_some<R: io::Read>(reader: &mut R, buf: &mut [u8]) -> io::Result<usize>
+    ensures { ReadsAtMost result buf.new }
+{
     for _ in 0..TRIES {
-        if got >= 0 {
-            return got;
+        match reader.read(buf) {
+            Err(e) if e.kind() == ErrorKind::Interrupted => {}
+            got => return got,
         }
-        if os::errno() != libc::EINTR {
-            return got;
-        }
-        got = libc::read(fd, buf);
     }
-    got
+    reader.read(buf)
 }
 
 // Reads until `buf` is full or the input ends.
-pub fn fill(fd: i32, buf: &mut [u8]) -> Reading
+pub fn fill<R: io::Read>(reader: &mut R, buf: &mut [u8]) -> Reading
     ensures { Read result buf.new }
 {
     let mut done = 0;
     while done < buf.len() {
-        let got = read_some(fd, &mut buf[done..]);
-        if got < 0 {
-            return Reading::Failed;
+        match read_some(reader, &mut buf[done..]) {
+            Err(e) => return Reading::Failed(e),
+            Ok(0) => return Reading::Bytes(done),
+            Ok(more) => done += more,
         }
-        let more = io::count(got, &buf[done..]);
-        if more == 0 {
-            return Reading::Bytes(done);
-        }
-        done += more;
     }
     Reading::Bytes(done)
 }

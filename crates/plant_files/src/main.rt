@@ -3,17 +3,26 @@
 // bytes of KEPT and 65,537 of PLANT decide (`EnoughBytes` of plant's specs/Claims.antt), so no more is read.
 #![tactic(auto)]
 
-ghost use Rattle.std.specs.Prelude.{◌≡◌, length};
+ghost use Rattle.std.specs.Prelude.{◌≡◌, ◌≤◌, length};
 ghost use Rattle.input.specs.Reading.{Read};
 
-use input::Reading;
-use libc::{STDERR_FILENO, STDOUT_FILENO};
+use input::{Reading, complain, path, tell_error};
 use plant_sheet::Answer;
+use std::env::{Env, FillError};
+use std::fs::File;
+use std::io;
 
 // How many bytes of each file are read: one more than it may have.
 const KEPT_READ: usize = 524289;
 
 const PLANT_READ: usize = 65537;
+
+// Zeros, for the name of a file.
+fn name_room() -> [u8; 4096]
+    ensures { 4096 ≡ length result }
+{
+    [0; 4096]
+}
 
 // Zeros, for the kept records.
 fn kept_room() -> [u8; KEPT_READ]
@@ -50,67 +59,74 @@ fn sheet_room() -> [u8; plant_sheet::ROOM]
     [0; plant_sheet::ROOM]
 }
 
-// Tells what cannot be done with a file, just after a call that failed.
-fn complain(what: &[u8], name: &[u8]) {
-    io::write_all(STDERR_FILENO, what);
-    os::fail(name);
+// Opens a file to read it.
+fn open_read(rt: &HostRuntime, name: &[u8]) -> io::Result<File> {
+    File::open(rt, path(name)?)
 }
 
 // Reads a file, as far as there is room; what fails is told by its name.
-fn read_file(name: &[u8], buf: &mut [u8]) -> Reading
+fn read_file(rt: &HostRuntime, name: &[u8], buf: &mut [u8]) -> Reading
     ensures { Read result buf.new }
 {
-    let from = os::open_read(name);
-    if from < 0 {
-        complain(b"cannot read ", name);
-        return Reading::Failed;
+    let got = match open_read(rt, name) {
+        Ok(mut from) => input::fill(&mut from, buf),
+        Err(e) => Reading::Failed(e),
+    };
+    if let Reading::Failed(e) = got {
+        complain(rt, b"cannot read ", name, e);
     }
-    let got = input::fill(from, buf);
-    if let Reading::Failed = got {
-        complain(b"cannot read ", name);
-    }
-    libc::close(from);
     got
 }
 
 // Writes the sheet, or why there is none.
-fn tell(kept: &[u8], plant: &[u8]) {
+fn tell(rt: &HostRuntime, kept: &[u8], plant: &[u8]) {
     let mut room = mend_room();
     let mut reasons = reasons_room();
     let mut out = sheet_room();
     match plant_sheet::write_sheet(kept, plant, &mut room, &mut reasons, &mut out) {
         Answer::Sheet(n) => {
-            if !io::write_all(STDOUT_FILENO, &out[..n]) {
-                complain(b"cannot write ", b"standard output");
+            if let Err(e) = Print::write_all(rt, &out[..n]) {
+                complain(rt, b"cannot write ", b"standard output", e);
             }
         }
-        Answer::Refused(n) => {
-            io::write_all(STDERR_FILENO, &out[..n]);
-        }
+        Answer::Refused(n) => tell_error(rt, &out[..n]),
     }
 }
 
 // Reads both files, and tells what they come to.
-fn run(kept_name: &[u8], plant_name: &[u8]) {
+fn run(rt: &HostRuntime, kept_name: &[u8], plant_name: &[u8]) {
     let mut kept = kept_room();
     let mut plant = plant_room();
-    let Reading::Bytes(k) = read_file(kept_name, &mut kept) else {
+    let Reading::Bytes(k) = read_file(rt, kept_name, &mut kept) else {
         return;
     };
-    let Reading::Bytes(p) = read_file(plant_name, &mut plant) else {
+    let Reading::Bytes(p) = read_file(rt, plant_name, &mut plant) else {
         return;
     };
-    tell(&kept[..k], &plant[..p]);
+    tell(rt, &kept[..k], &plant[..p]);
 }
 
-fn main() {
-    let mut kept = io::buffer();
-    let mut plant = io::buffer();
-    let k = os::arg(1, &mut kept);
-    let p = os::arg(2, &mut plant);
-    if os::arg_count() != 3 || k == 0 || p == 0 {
-        io::write_all(STDERR_FILENO, b"usage: sheet KEPT PLANT\n");
+// An argument, and how long it is: 0 where it is missing, or longer than there is room.
+fn argument(rt: &HostRuntime, i: usize, buf: &mut [u8]) -> usize
+    ensures { result ≤ length buf.new }
+{
+    rt.arg(i, buf).unwrap_or(0)
+}
+
+// Whether there is an argument, however long.
+fn has_argument(rt: &HostRuntime, i: usize) -> bool {
+    let mut buf = [0u8; 1];
+    !matches!(rt.arg(i, &mut buf), Err(FillError::NotPresent))
+}
+
+fn main(rt: HostRuntime) {
+    let mut kept = name_room();
+    let mut plant = name_room();
+    let k = argument(&rt, 1, &mut kept);
+    let p = argument(&rt, 2, &mut plant);
+    if has_argument(&rt, 3) || k == 0 || p == 0 {
+        tell_error(&rt, b"usage: sheet KEPT PLANT\n");
         return;
     }
-    run(&kept[..k], &plant[..p]);
+    run(&rt, &kept[..k], &plant[..p]);
 }

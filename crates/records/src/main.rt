@@ -5,7 +5,6 @@
 ghost use Rattle.std.specs.Prelude.{◌≡◌, length};
 
 use input::Reading;
-use libc::{STDERR_FILENO, STDIN_FILENO, STDOUT_FILENO};
 
 // 9,504 zeros, for the input.
 fn input_room() -> [u8; 9504]
@@ -22,23 +21,20 @@ fn output_room() -> [u8; 2048]
 }
 
 // Writes the answer to the input.
-fn answer(input: &[u8]) {
+fn answer(rt: &(impl Print + Eprint), input: &[u8]) {
     let mut out = output_room();
     let n = problem_answer::respond(input, &mut out);
-    if !io::write_all(STDOUT_FILENO, &out[..n]) {
-        io::write_all(
-            STDERR_FILENO,
-            b"gritstrut: standard output cannot be written\n",
-        );
+    if rt.write_all(&out[..n]).is_err() {
+        let _ = rt.eprintln("gritstrut: standard output cannot be written");
     }
 }
 
-fn main() {
+fn main(rt: HostRuntime) {
     let mut bytes = input_room();
-    match input::fill(STDIN_FILENO, &mut bytes) {
-        Reading::Failed => {
-            io::write_all(STDERR_FILENO, b"gritstrut: standard input cannot be read\n");
+    match input::fill(&mut rt.stdin(), &mut bytes) {
+        Reading::Failed(_) => {
+            let _ = rt.eprintln("gritstrut: standard input cannot be read");
         }
-        Reading::Bytes(n) => answer(&bytes[..n]),
+        Reading::Bytes(n) => answer(&rt, &bytes[..n]),
     }
 }

@@ -12,13 +12,15 @@ mod volumes;
 
 ghost use Rattle.std.specs.Prelude.{◌≡◌, length};
 
-use crate::run::run;
-use libc::{STDIN_FILENO, STDOUT_FILENO};
+use crate::run::{STDOUT, run};
 use replay_list::{Call, is_whole, values_of, word};
+
+// The descriptor of standard input.
+const STDIN: i32 = 0;
 
 // Reads `bytes` full from standard input.
 fn read(bytes: &mut [u8]) -> bool {
-    io::read_full(STDIN_FILENO, bytes) == bytes.len()
+    io::read_full(STDIN, bytes) == bytes.len()
 }
 
 // The next word of the list, or 0 where it ends.
@@ -31,21 +33,21 @@ fn next_word() -> u64 {
 }
 
 fn write_space() {
-    io::write_all(STDOUT_FILENO, b" ");
+    io::write_all(STDOUT, b" ");
 }
 
 fn end_line() {
-    io::write_all(STDOUT_FILENO, b"\n");
+    io::write_all(STDOUT, b"\n");
 }
 
 // Runs a call and writes its line.
 fn replay(operation: u64, call: &Call) {
-    io::print_decimal(STDOUT_FILENO, operation);
+    io::print_decimal(STDOUT, operation);
     write_space();
     let values = values_of(call);
     let digest = run(operation as usize, call, &values);
     write_space();
-    io::print_hex(STDOUT_FILENO, digest, 16);
+    io::print_hex(STDOUT, digest, 16);
     end_line();
 }
 
@@ -105,6 +107,6 @@ fn replay_all() -> bool {
 
 fn main() {
     if !replay_all() {
-        io::write_all(STDOUT_FILENO, b"the list is cut or faulty\n");
+        io::write_all(STDOUT, b"the list is cut or faulty\n");
     }
 }

@@ -5,11 +5,13 @@ use crate::meters::run_suspect;
 use crate::runs::{run_begin, run_tell};
 use crate::step::run_step;
 use crate::volumes::{run_certify, run_settle};
-use libc::STDOUT_FILENO;
 use replay_list::{
     Call, Values, digest_of, first_output, length_at, lent_output, mark, mix_float, mix_mark,
     mix_output, mix_places, mix_room, mix_values, part, places, room, size,
 };
+
+// The descriptor of standard output.
+pub const STDOUT: i32 = 1;
 
 // A u32 as a word.
 fn long(x: u32) -> u64 {
@@ -18,7 +20,7 @@ fn long(x: u32) -> u64 {
 
 // Writes a call's number, with which its digest starts.
 pub fn told(number: u32) -> u64 {
-    io::print_decimal(STDOUT_FILENO, long(number));
+    io::print_decimal(STDOUT, long(number));
     digest_of(number)
 }
 

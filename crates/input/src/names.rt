@@ -1,0 +1,35 @@
+// Files by the bytes of their names, and what is told where one cannot be used.
+use std::io::{Error, ErrorKind};
+use std::{io, str};
+
+// A name as text. A file whose name is not UTF-8 cannot be used.
+pub fn path(name: &[u8]) -> io::Result<&str> {
+    match str::from_utf8(name) {
+        Ok(text) => Ok(text),
+        Err(_) => Err(Error::new(ErrorKind::InvalidFilename, "not UTF-8")),
+    }
+}
+
+// Writes to standard error. Where that cannot be written nothing more can be told.
+pub fn tell_error(rt: &HostRuntime, text: &[u8]) {
+    let _ = Print::write_all(&rt.stderr(), text);
+}
+
+// The words of an error without its number, which stands after those of the system's errors.
+fn words(error: &str) -> &str {
+    match error.split_once(" (os error ") {
+        Some((words, _)) => words,
+        None => error,
+    }
+}
+
+// Tells what cannot be done with a file, and why.
+pub fn complain(rt: &HostRuntime, what: &[u8], name: &[u8], why: Error) {
+    tell_error(rt, what);
+    tell_error(rt, name);
+    tell_error(rt, b": ");
+    let _ = match format!(in rt.alloc(); "{why}") {
+        Ok(error) => rt.eprintln(words(error.as_str())),
+        Err(_) => rt.eprintln(why),
+    };
+}
