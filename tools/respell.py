@@ -95,6 +95,8 @@ def main():
         call = re.compile(r"(?<=\.)" + WORD.pattern) if path.endswith("/Proof.antt") else None
 
         def turn(text):
+            # a definition beside a parameter or a function of its name, as `at as Numbers·at`
+            text = re.sub(r"(?<![\w·])([A-Z]\w*)·(\w+)", lambda m: snake(m[1][0].lower() + m[1][1:]) + "_" + snake(m[2]), text)
             if call:
                 text = call.sub(lambda m: m[0].replace("-", "_") if names.get(m[0], "").endswith("_holds") else m[0], text)
             return WORD.sub(lambda m: names.get(m[0], m[0]), text)

@@ -16,7 +16,7 @@ use Rattle.exact.proofs.Laws as laws
 use Rattle.exact.proofs.Values.{above_zero, at-most-is-at-most, and_left, and_right}
 use Rattle.interval.specs.Next.{next_up}
 use Rattle.interval.specs.Held.{AtMost, Holds}
-use Rattle.interval.specs.Intervals.{is_finite, is_positive, larger, div_up, point, plus, minus, times, magnitude, product, sum_within, add_up, mul_up}
+use Rattle.interval.specs.Intervals.{is_finite, is_positive, larger, div_up, point, minus, times, magnitude, product, sum_within, add_up, mul_up}
 use Rattle.interval.specs.declared.Interval.{Interval}
 use Rattle.interval.proofs.Ends.{Higher}
 use Rattle.interval.proofs.Least.{up_is}

@@ -1,6 +1,6 @@
 // What stands between the verdict and the tables.
 ghost use Rattle.std.specs.Prelude.{◌≡◌, ◌+◌, ◌≤◌, ◌<◌, length};
-ghost use Rattle.numbers.specs.Numbers.{at as Numbers·at};
+ghost use Rattle.numbers.specs.Numbers.{at as numbers_at};
 ghost use Rattle.suspect.specs.Suspect.{limits};
 ghost use Rattle.ascii.specs.inner.Work.{Wrote};
 ghost use Rattle.day_text.specs.Report.{title_text, doubt_text, doubts_text, large_powers, middle_powers, certain_text, misfit_text, head_text};
@@ -118,7 +118,7 @@ fn put_certain(out: &mut [u8], at: usize, bound: f64) -> usize
 
 // The limit of so many degrees of freedom; past the table NaN.
 fn limit(freedom: usize) -> f64
-    ensures { result ≡ Numbers·at limits freedom }
+    ensures { result ≡ numbers_at limits freedom }
 {
     if 17 <= freedom {
         return 0.0 / 0.0;

@@ -1,7 +1,7 @@
 // The tables of the day's report, with their headings.
 ghost use Rattle.std.specs.Prelude.{◌≡◌, ◌+◌, ◌≤◌, ◌<◌, length};
 ghost use Rattle.ascii.specs.inner.Work.{Wrote};
-ghost use Rattle.day_text.specs.Tables.{item_rows, item_table, balance_row, balance_rows, balance_table, limit_kind_text, slack as Tables·slack, amounts_text, limit_row, limit_rows, limit_table};
+ghost use Rattle.day_text.specs.Tables.{item_rows, item_table, balance_row, balance_rows, balance_table, limit_kind_text, slack as tables_slack, amounts_text, limit_row, limit_rows, limit_table};
 ghost use Rattle.day_text.specs.Report.{tables_text};
 ghost use Rattle.day_text.specs.inner.Work.{Tables};
 
@@ -140,7 +140,7 @@ fn put_limit_kind(out: &mut [u8], at: usize, kind: u32) -> usize
 
 // What is left to a limit: above a floor, below a ceiling.
 fn slack(kind: u32, amount: f64, sum: f64) -> f64
-    ensures { result ≡ Tables·slack kind amount sum }
+    ensures { result ≡ tables_slack kind amount sum }
 {
     if kind == 0 {
         return sum - amount;

@@ -3,7 +3,7 @@ ghost use Rattle.std.specs.Prelude.{◌≡◌, cond, ◌+◌, ◌*◌, ◌≤◌
 ghost use Rattle.numbers.specs.Numbers.{+0, at, nth, tab};
 ghost use Rattle.workspace.specs.Readings.{Block};
 ghost use Rattle.totaliser.specs.Volume.{volume};
-ghost use Rattle.day_volumes.specs.Posed.{is_stock, value_of, values as Posed·values, balances as Posed·balances, is_limit, turned, limit_entry, least_of};
+ghost use Rattle.day_volumes.specs.Posed.{is_stock, value_of, values as posed_values, balances as posed_balances, is_limit, turned, limit_entry, least_of};
 ghost use Rattle.day_volumes.specs.inner.Work.{Tables, Limiting, LimitsIn};
 
 // ---- where things stand in a sheet's tables
@@ -59,7 +59,7 @@ fn value_of(kind: u32, old: u32, new: u32, spread: f64, before: f64, after: f64)
 // The values of n items.
 pub fn fill_values(z: &[u32], f: &[f64], v: &mut [f64], n: usize)
     requires { (n ≤ 16) × Tables z.now f.now × (length v.old ≡ n) }
-    ensures { v.new ≡ Posed·values n z.now f.now }
+    ensures { v.new ≡ posed_values n z.now f.now }
 {
     for i in 0..n {
         v[i] = value_of(
@@ -78,7 +78,7 @@ pub fn fill_values(z: &[u32], f: &[f64], v: &mut [f64], n: usize)
 // The rows of m balances.
 pub fn fill_balances(f: &[f64], out: &mut [f64], n: usize, m: usize)
     requires { (n ≤ 16) × (m ≤ 16) × (length f.now ≡ 577) × (length out.old ≡ m * n) }
-    ensures { out.new ≡ Posed·balances n m f.now }
+    ensures { out.new ≡ posed_balances n m f.now }
 {
     for j in 0..m {
         workspace::copy_strided(f, out, BALANCES + 16 * j, 1, j * n, n);

@@ -5,7 +5,7 @@ ghost use Rattle.numbers.specs.Numbers.{at, nth};
 ghost use Rattle.interval.specs.Intervals.{is_finite};
 ghost use Rattle.certain.specs.Bound as Bound;
 ghost use Rattle.workspace.specs.Readings.{Block, Span};
-ghost use Rattle.day_volumes.specs.Found.{flag as Found·flag, row_times};
+ghost use Rattle.day_volumes.specs.Found.{flag as found_flag, row_times};
 ghost use Rattle.day_volumes.specs.inner.Work.{Counts, Limited, item_figures, sum_figures, all_figures, test_signs, within_signs};
 
 use crate::pose::{BALANCES, LIMITS};
@@ -109,7 +109,7 @@ pub fn put_figures(
 // ---- signs
 
 fn flag(b: bool) -> u32
-    ensures { result ≡ Found·flag b }
+    ensures { result ≡ found_flag b }
 {
     if b {
         return 1;
@@ -130,7 +130,7 @@ fn put_marks(marks: &[u32], out: &mut [u32], n: usize)
 // Whether each balance is within the tolerance.
 fn put_closed(balances: &[f64], x: &[f64], out: &mut [u32], n: usize, m: usize, tolerance: f64)
     requires { (n ≤ 16) × (m ≤ 16) × (length balances.now ≡ m * n) × (length x.now ≡ n) × (length out.old ≡ 51) }
-    ensures { Span 16 m (λ j. Found·flag (Bound.closes n j balances.now x.now tolerance)) out.old out.new }
+    ensures { Span 16 m (λ j. found_flag (Bound.closes n j balances.now x.now tolerance)) out.old out.new }
 {
     for j in 0..m {
         out[CLOSED + j] = flag(certain::closes(n, j, balances, x, tolerance));
@@ -149,7 +149,7 @@ fn put_kept(
     tolerance: f64,
 )
     requires { (n ≤ 16) × (p ≤ 48) × (q ≤ 16) × (q ≤ p) × Limited n p limits.now least.now × (length x.now ≡ n) × (length out.old ≡ 51) }
-    ensures { Span 32 q (λ j. Found·flag (Bound.keeps n (p - q + j) limits.now least.now x.now tolerance)) out.old out.new }
+    ensures { Span 32 q (λ j. found_flag (Bound.keeps n (p - q + j) limits.now least.now x.now tolerance)) out.old out.new }
 {
     let first = p - q;
     for j in 0..q {

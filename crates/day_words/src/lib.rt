@@ -2,7 +2,7 @@
 #![tactic(auto)]
 
 ghost use Rattle.std.specs.Prelude.{◌≡◌, ◌+◌, ◌≤◌, length, take, drop};
-ghost use Rattle.day_words.specs.Words.{is_feed, is_blank as Words·isBlank, up_to, without_return, skip_blanks, word};
+ghost use Rattle.day_words.specs.Words.{is_feed, is_blank as words_is_blank, up_to, without_return, skip_blanks, word};
 ghost use Rattle.day_words.specs.Items.{filled, reading_of, decimal_of};
 ghost use Rattle.day_words.specs.inner.Work.{IsWord};
 
@@ -58,7 +58,7 @@ pub fn trimmed(line: &[u8]) -> usize
 
 // Whether a byte is a blank.
 pub fn is_blank(c: u8) -> bool
-    ensures { result ≡ Words·isBlank c }
+    ensures { result ≡ words_is_blank c }
 {
     if c == b' ' {
         return true;
@@ -84,7 +84,7 @@ pub fn skip(line: &[u8], from: usize) -> usize
 // The place of the first blank, or the end.
 fn word_end(line: &[u8], from: usize) -> usize
     requires { from ≤ length line.now }
-    ensures { (result ≡ from + length (up_to Words·isBlank (drop from line.now))) × (result ≤ length line.now) }
+    ensures { (result ≡ from + length (up_to words_is_blank (drop from line.now))) × (result ≤ length line.now) }
 {
     let mut i = from;
     while i < line.len() {

@@ -6,7 +6,7 @@ mod print;
 ghost use Rattle.std.specs.Prelude.{◌≡◌, false, ◌+◌, ◌-◌, ◌*◌, ◌^◌, ◌≤◌, ◌<◌, get_or};
 ghost use Rattle.std.specs.Float.{binary64};
 ghost use Rattle.std.specs.Float.Ieee.{round};
-ghost use Rattle.decimals.specs.Decimal.{is_digit, value_of, within as Decimal·within, unsigned_at, decimal_at};
+ghost use Rattle.decimals.specs.Decimal.{is_digit, value_of, within as decimal_within, unsigned_at, decimal_at};
 ghost use Rattle.decimals.specs.inner.Work.{capped, run_from};
 
 pub use print::put_fixed;
@@ -135,7 +135,7 @@ fn quotient(negative: bool, a: u64, k: usize) -> f64
 
 // The number that was read, if it has not too many digits or places.
 fn within(negative: bool, a: u64, k: usize, at: usize, next: usize) -> Reading
-    ensures { result ≡ Decimal·within negative a k at next }
+    ensures { result ≡ decimal_within negative a k at next }
 {
     if 1000000000000000 <= a {
         return Reading::Fault(at);

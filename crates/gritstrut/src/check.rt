@@ -36,8 +36,7 @@ fn tell_verdict(o: Outcome, verdict: &mut [u32]) -> u32
 }
 
 // Whether a step is plausible: five tests, and the first that fails with its row.
-#[unsafe(no_mangle)]
-pub extern "C" fn gritstrut_check(
+pub fn gritstrut_check(
     n: usize,
     m: usize,
     factor: &[f64],

@@ -6,8 +6,7 @@ ghost use Rattle.gritstrut.specs.Daily.{DayLeaves};
 use reconcile_call::Day;
 
 // The corrected volumes of a day's meters, and the meters named.
-#[unsafe(no_mangle)]
-pub extern "C" fn gritstrut_reconcile(
+pub fn gritstrut_reconcile(
     n: usize,
     m: usize,
     before: &[u32],

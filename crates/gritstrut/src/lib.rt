@@ -30,37 +30,34 @@ use householder_call::Qr;
 use lsei_call::{Ldp, Lsei, Lsi};
 pub use meters::gritstrut_suspect;
 use nnls_call::Nnls;
+pub use report::gritstrut_report;
 pub use runs::{gritstrut_search_begin, gritstrut_search_tell};
 pub use steps::{gritstrut_step, gritstrut_strict_step, gritstrut_tally_raise};
 pub use volumes::{gritstrut_certify, gritstrut_settle};
 
 // The version that include/gritstrut.h names: major, minor and patch, two digits each.
-#[unsafe(no_mangle)]
-pub extern "C" fn gritstrut_version() -> u32
+pub fn gritstrut_version() -> u32
     ensures { result ≡ 300 }
 {
     300
 }
 
 // The square root.
-#[unsafe(no_mangle)]
-pub extern "C" fn gritstrut_sqrt(x: f64) -> f64
+pub fn gritstrut_sqrt(x: f64) -> f64
     ensures { result ≡ sqrt_of x }
 {
     numbers::sqrt(x)
 }
 
 // The sum of a slice, left to right from -0.
-#[unsafe(no_mangle)]
-pub extern "C" fn gritstrut_sum(x: &[f64]) -> f64
+pub fn gritstrut_sum(x: &[f64]) -> f64
     ensures { result ≡ sum_of x.now }
 {
     numbers::sum(x)
 }
 
 // The norm of a slice.
-#[unsafe(no_mangle)]
-pub extern "C" fn gritstrut_norm(x: &[f64]) -> f64
+pub fn gritstrut_norm(x: &[f64]) -> f64
     ensures { result ≡ norm x.now }
 {
     norms::norm(x)
@@ -69,8 +66,7 @@ pub extern "C" fn gritstrut_norm(x: &[f64]) -> f64
 // ---- least squares
 
 // Householder QR with column pivoting.
-#[unsafe(no_mangle)]
-pub extern "C" fn gritstrut_qr(
+pub fn gritstrut_qr(
     m: usize,
     n: usize,
     a: &[f64],
@@ -96,8 +92,7 @@ pub extern "C" fn gritstrut_qr(
 }
 
 // Nonnegative least squares.
-#[unsafe(no_mangle)]
-pub extern "C" fn gritstrut_nnls(
+pub fn gritstrut_nnls(
     m: usize,
     n: usize,
     k: usize,
@@ -124,8 +119,7 @@ pub extern "C" fn gritstrut_nnls(
 }
 
 // Least distance programming.
-#[unsafe(no_mangle)]
-pub extern "C" fn gritstrut_ldp(
+pub fn gritstrut_ldp(
     m: usize,
     n: usize,
     g: &[f64],
@@ -159,8 +153,7 @@ fn number_with_place(o: workspace::Outcome, place: &mut u32) -> u32
 }
 
 // Least squares with inequalities.
-#[unsafe(no_mangle)]
-pub extern "C" fn gritstrut_lsi(
+pub fn gritstrut_lsi(
     n: usize,
     me: usize,
     mg: usize,
@@ -181,8 +174,7 @@ pub extern "C" fn gritstrut_lsi(
 }
 
 // Least squares with equalities and inequalities.
-#[unsafe(no_mangle)]
-pub extern "C" fn gritstrut_lsei(
+pub fn gritstrut_lsei(
     n: usize,
     mc: usize,
     me: usize,
@@ -208,8 +200,7 @@ pub extern "C" fn gritstrut_lsei(
 // ---- the approximation B
 
 // The identity.
-#[unsafe(no_mangle)]
-pub extern "C" fn gritstrut_identity(n: usize, b: &mut [f64], w: &mut [f64], iw: &mut [u32]) -> u32
+pub fn gritstrut_identity(n: usize, b: &mut [f64], w: &mut [f64], iw: &mut [u32]) -> u32
     ensures { WriteLeaves (identity_call n b.old w.old iw.old) result b.old b.new w.old w.new iw.old iw.new }
 {
     let answer = Hessian::identity(n, b, w, iw);
@@ -217,8 +208,7 @@ pub extern "C" fn gritstrut_identity(n: usize, b: &mut [f64], w: &mut [f64], iw:
 }
 
 // The product B v.
-#[unsafe(no_mangle)]
-pub extern "C" fn gritstrut_times(
+pub fn gritstrut_times(
     n: usize,
     b: &[f64],
     v: &[f64],
@@ -233,14 +223,7 @@ pub extern "C" fn gritstrut_times(
 }
 
 // The Cholesky factor of B.
-#[unsafe(no_mangle)]
-pub extern "C" fn gritstrut_cholesky(
-    n: usize,
-    b: &[f64],
-    l: &mut [f64],
-    w: &mut [f64],
-    iw: &mut [u32],
-) -> u32
+pub fn gritstrut_cholesky(n: usize, b: &[f64], l: &mut [f64], w: &mut [f64], iw: &mut [u32]) -> u32
     ensures { WriteLeaves (cholesky_call n b.now l.old w.old iw.old) result l.old l.new w.old w.new iw.old iw.new }
 {
     let answer = Hessian::cholesky(n, b, l, w, iw);
@@ -248,8 +231,7 @@ pub extern "C" fn gritstrut_cholesky(
 }
 
 // The damped update of B.
-#[unsafe(no_mangle)]
-pub extern "C" fn gritstrut_update(
+pub fn gritstrut_update(
     n: usize,
     b: &mut [f64],
     s: &[f64],
@@ -266,13 +248,7 @@ pub extern "C" fn gritstrut_update(
 // ---- the approximation B as its lower triangle
 
 // The identity.
-#[unsafe(no_mangle)]
-pub extern "C" fn gritstrut_packed_identity(
-    n: usize,
-    b: &mut [f64],
-    w: &mut [f64],
-    iw: &mut [u32],
-) -> u32
+pub fn gritstrut_packed_identity(n: usize, b: &mut [f64], w: &mut [f64], iw: &mut [u32]) -> u32
     ensures { WriteLeaves (packed_identity_call n b.old w.old iw.old) result b.old b.new w.old w.new iw.old iw.new }
 {
     let answer = Packed::identity(n, b, w, iw);
@@ -280,8 +256,7 @@ pub extern "C" fn gritstrut_packed_identity(
 }
 
 // The product B v.
-#[unsafe(no_mangle)]
-pub extern "C" fn gritstrut_packed_times(
+pub fn gritstrut_packed_times(
     n: usize,
     b: &[f64],
     v: &[f64],
@@ -296,8 +271,7 @@ pub extern "C" fn gritstrut_packed_times(
 }
 
 // The Cholesky factor of B, square.
-#[unsafe(no_mangle)]
-pub extern "C" fn gritstrut_packed_cholesky(
+pub fn gritstrut_packed_cholesky(
     n: usize,
     b: &[f64],
     l: &mut [f64],
@@ -311,8 +285,7 @@ pub extern "C" fn gritstrut_packed_cholesky(
 }
 
 // The damped update of B.
-#[unsafe(no_mangle)]
-pub extern "C" fn gritstrut_packed_update(
+pub fn gritstrut_packed_update(
     n: usize,
     b: &mut [f64],
     s: &[f64],

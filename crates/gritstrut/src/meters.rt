@@ -33,8 +33,7 @@ fn tell_finding(t: Tested, misfit: &mut f64, finding: &mut [u32; 4], place: &mut
 }
 
 // Which meter may be wrong: the tests of a day's meters under its balances.
-#[unsafe(no_mangle)]
-pub extern "C" fn gritstrut_suspect(
+pub fn gritstrut_suspect(
     n: usize,
     m: usize,
     values: &[f64],

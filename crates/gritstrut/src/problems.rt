@@ -6,8 +6,7 @@ ghost use Rattle.gritstrut.specs.Writing.{FileLeaves};
 use problem_write_call::{Outcome, Problems};
 
 // Writes a problem, its numbers as bits, as the record program's input.
-#[unsafe(no_mangle)]
-pub extern "C" fn gritstrut_write_problem(
+pub fn gritstrut_write_problem(
     n: usize,
     m: usize,
     factor: &[u64],

@@ -5,8 +5,7 @@ ghost use Rattle.gritstrut.specs.Mending.{MendLeaves};
 use mend_call::{Outcome, Readings};
 
 // Mends a day's logger records.
-#[unsafe(no_mangle)]
-pub extern "C" fn gritstrut_mend(
+pub fn gritstrut_mend(
     records: &[u8],
     kept: &mut [u8],
     reasons: &mut [u8],

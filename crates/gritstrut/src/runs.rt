@@ -7,8 +7,7 @@ ghost use Rattle.gritstrut.specs.Searching.{RunLeaves, BeginLeaves};
 use search_call::Search;
 
 // A search begins.
-#[unsafe(no_mangle)]
-pub extern "C" fn gritstrut_search_begin(
+pub fn gritstrut_search_begin(
     n: usize,
     m: usize,
     kinds: &[u8],
@@ -33,8 +32,7 @@ pub extern "C" fn gritstrut_search_begin(
 }
 
 // A search is told the answer to its question.
-#[unsafe(no_mangle)]
-pub extern "C" fn gritstrut_search_tell(
+pub fn gritstrut_search_tell(
     told: &[f64],
     machine: &mut [f64],
     words: &mut [u32],

@@ -57,8 +57,7 @@ fn write_bound(why: Refusal, report: &mut [u32])
 }
 
 // Raises a tally, rounds and then factorings; a count that would pass the u64 range stays at its largest value.
-#[unsafe(no_mangle)]
-pub extern "C" fn gritstrut_tally_raise(tally: &mut [u64; 2], rounds: u64, factorings: u64)
+pub fn gritstrut_tally_raise(tally: &mut [u64; 2], rounds: u64, factorings: u64)
     ensures { tally.new ≡ raised_counts tally.old rounds factorings }
 {
     let before = Tally {
@@ -109,8 +108,7 @@ fn refuse_report(n: usize, m: usize) -> u32
 }
 
 // The step of one SQP iteration.
-#[unsafe(no_mangle)]
-pub extern "C" fn gritstrut_step(
+pub fn gritstrut_step(
     n: usize,
     m: usize,
     factor: &[f64],
@@ -155,8 +153,7 @@ pub extern "C" fn gritstrut_step(
 }
 
 // The strict step: a bound that is not finite and not open is refused.
-#[unsafe(no_mangle)]
-pub extern "C" fn gritstrut_strict_step(
+pub fn gritstrut_strict_step(
     n: usize,
     m: usize,
     factor: &[f64],

@@ -21,8 +21,7 @@ fn tell_bound(b: Bounded, bound: &mut f64, place: &mut u32) -> u32
 }
 
 // A day's volumes, and how far they can be from the best.
-#[unsafe(no_mangle)]
-pub extern "C" fn gritstrut_settle(
+pub fn gritstrut_settle(
     n: usize,
     m: usize,
     p: usize,
@@ -60,8 +59,7 @@ pub extern "C" fn gritstrut_settle(
 }
 
 // The bound of volumes and multipliers from anywhere.
-#[unsafe(no_mangle)]
-pub extern "C" fn gritstrut_certify(
+pub fn gritstrut_certify(
     n: usize,
     m: usize,
     p: usize,

@@ -14,7 +14,7 @@ use Rattle.workspace.proofs.Tests.{and-true, has-length}
 use Rattle.hessian.specs.Hessian.{identity}
 use Rattle.hessian.specs.Hessian as Definition
 use Rattle.hessian.proofs.Mirrored.{Kept, kept-identity, kept-update}
-use Rattle.hessian_call.specs.Claims.{Call, reset, update, answer_of, next, after, CallsMirror, Seen, Met, Run, RunsMirror, SinceReset}
+use Rattle.hessian_call.specs.Claims.{Call, reset, update, answer_of, next, after, CallsMirror, Seen, Run, RunsMirror, SinceReset}
 
 -- ---- a call
 

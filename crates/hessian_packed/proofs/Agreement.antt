@@ -5,11 +5,11 @@ use mathlib.Core.Bool.{Bool, true, false, cond}
 use mathlib.Core.List.{List, [], ◌∷◌}
 use Prim.Native.Nat.{ℕ, ◌+◌, ◌<◌, ◌≤◌}
 use native.Mathlib.Omega.{arith}
-use lib.Dec.{leb, eqb}
+use lib.Dec.{eqb}
 use lib.ListN.{length}
 use lib.Ieee.{Float, le}
 use borrow.Author.Tests.{le-leb, lt-leb}
-use Rattle.numbers.specs.Numbers.{+0, one, at, Σ, tab, entry, grid, row, dot, ◌⊕◌, ◌⊖◌, ◌⊗◌, ◌⊘◌}
+use Rattle.numbers.specs.Numbers.{+0, one, at, Σ, entry, grid, row, dot, ◌⊕◌, ◌⊖◌, ◌⊗◌, ◌⊘◌}
 use Rattle.numbers.proofs.Sums.{Σ-same}
 use Rattle.numbers.proofs.Lists.{tab-same, grid-same, grid-of, at_row, length-grid, entry-grid}
 use Rattle.numbers.proofs.Cases.{lt-or-ge}
@@ -23,7 +23,7 @@ use Rattle.hessian.specs.inner.Work.{FactorMade}
 use Rattle.hessian.proofs.Mirrored.{Kept, kept-identity, kept_next, kept-after}
 use Rattle.hessian_packed.specs.Packed.{count, place, triangle, packed, unpacked}
 use Rattle.hessian_packed.specs.Packed as P
-use Rattle.hessian_packed.specs.Claims.{next, after, Same, Agrees, OnSquare, ThroughSquare}
+use Rattle.hessian_packed.specs.Claims.{next, after, Same, Agrees, ThroughSquare}
 use Rattle.hessian_packed.proofs.Triangles.{at-triangle, triangle-same, triangle-of, length-triangle}
 
 pub length-packed : (n : ℕ) (b : List Float) → length (packed n b) ≡ count n

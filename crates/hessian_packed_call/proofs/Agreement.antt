@@ -10,7 +10,7 @@ use lib.Ieee.{Float}
 use borrow.Author.Tests.{eq-eqb, ne_eqb}
 use Rattle.numbers.specs.Numbers.{+0}
 use Rattle.numbers.proofs.Cases.{lt-or-ge, eq-or-ne}
-use Rattle.workspace.specs.Tables.{Answer, call, done, outcome_of, output, cleared, is_cleared, floats, words, is_dimension, is_room, has}
+use Rattle.workspace.specs.Tables.{Answer, call, done, outcome_of, output, cleared, is_cleared, is_dimension, is_room, has}
 use Rattle.workspace.proofs.Tests.{and-true}
 use Rattle.hessian.specs.Hessian as Square
 use Rattle.hessian.proofs.Mirrored.{Kept, kept-identity}

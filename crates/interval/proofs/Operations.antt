@@ -6,8 +6,8 @@ use native.Mathlib.Nat.{zero-lt-suc, mul-pos, mul-le-mul_right}
 use native.Mathlib.Omega.{arith}
 use mathlib.Core.Bool.{Bool, true, false, not, ◌&&◌, cond}
 use lib.IntN.{ℤ}
-use lib.Dec.{T, ltb, eqb, ltb→lt, nltb→le, eqb-suc-zero}
-use lib.Ieee.{Float, nan, inf, fin, binary64, up, down, round, neg, sum, add, mul, lt, unlike}
+use lib.Dec.{T, ltb, ltb→lt, nltb→le, eqb-suc-zero}
+use lib.Ieee.{Float, nan, inf, fin, binary64, up, down, round, neg, add, mul, lt, unlike}
 use lib.Ieee.Fits.{up_pos}
 use Rattle.exact.specs.Exact.{ℚ, ◌≤ℚ◌, negℚ, ◌+ℚ◌, ◌*ℚ◌, value, signed, Finite}
 use Rattle.interval.specs.Held.{AtMost, AtLeast, Held}

@@ -1,14 +1,14 @@
 -- The law of rounding to the nearest that outward rounding stands on: a float above the rounded value is at least the exact one, and a float below it at most. Subnormals and overflow are in it.
 use mathlib.Core.Path.{◌≡◌, refl, sym, ap, ◌∙◌, subst}
 use mathlib.Core.Logic.{◌⊎◌, inl, inr}
-use Prim.Native.Nat.{ℕ, zero, suc, ◌+◌, ◌-◌, ◌*◌, ◌^◌, ◌%◌, ◌≤◌, ◌<◌}
+use Prim.Native.Nat.{ℕ, zero, suc, ◌+◌, ◌*◌, ◌^◌, ◌%◌, ◌≤◌, ◌<◌}
 use native.Mathlib.Nat.{le_antisymm, le_of_eq, le_of_lt, lt_of_lt_of_le, lt_of_le_of_lt, zero-mul, mul-pos, mul-le-mul_right, mul-lt-mul_of_pos_right, lt_of_mul-lt-mul_right, le_of_mul-le-mul_right}
 use native.Mathlib.Omega.{arith}
 use mathlib.Core.Bool.{Bool, true, false, not, ◌&&◌, cond, true≢false}
 use lib.IntN.{ℤ}
 use lib.Dec.{T, ltb, leb, eqb, ltb→lt}
 use lib.Pow.{pow_pos, pow-add}
-use lib.Ieee.{Float, nan, inf, fin, binary64, up, down, odd, units, round, neg, lt, le, below, fits}
+use lib.Ieee.{Float, nan, inf, fin, binary64, up, down, odd, units, round, neg, lt, le, fits}
 use lib.Ieee.Fits.{round_is, down_pos, and_r, neg-fits}
 use lib.Ieee.Exact.{HasValue, odd_sign, round_exact}
 use lib.Ieee.Order.{drop, kept, round_mono}

@@ -1,28 +1,25 @@
 -- What was made of the records is the answer.
-use mathlib.Core.Path.{◌≡◌, refl, sym, ap, ◌∙◌, subst}
+use mathlib.Core.Path.{◌≡◌, refl, sym, ap, ◌∙◌}
 use mathlib.Core.Bool.{Bool, true, false, not, cond, ◌&&◌}
-use mathlib.Core.List.{List, [], ◌∷◌, ◌++◌, map, append-nil}
-use Prim.Native.Nat.{ℕ, zero, suc, ◌+◌, ◌-◌, ◌*◌, ◌^◌, ◌<◌, ◌≤◌}
-use native.Mathlib.Nat.{zero-add, add-zero, pow-succ', pow-le-pow_right}
+use mathlib.Core.List.{List, [], ◌∷◌, map, append-nil}
+use Prim.Native.Nat.{ℕ, suc, ◌+◌, ◌-◌, ◌*◌, ◌^◌, ◌<◌, ◌≤◌}
+use native.Mathlib.Nat.{zero-add, pow-succ', pow-le-pow_right}
 use native.Mathlib.Omega.{arith}
 use lib.Dec.{eqb}
 use lib.ListN.{length, get_or, take, drop, length-map, length-drop, drop_of_length-le}
-use lib.Seq.{length-take-le, get_or-take, get_or-drop, drop-length, drop-cons}
-use borrow.Author.Tests.{eq-eqb, ne_eqb, eqb-true, not-true, not-false}
+use lib.Seq.{length-take-le, get_or-take, get_or-drop, drop-cons}
+use borrow.Author.Tests.{ne_eqb, eqb-true, not-true, not-false}
 use Rattle.numbers.specs.Numbers.{tab}
 use Rattle.numbers.proofs.Lists.{tab-of, tab-same, length-tab, get_d-tab}
 use Rattle.endian.specs.Little.{placed}
-use Rattle.endian.proofs.Placed.{placed-none}
 use Rattle.workspace.proofs.Tests.{and-true}
-use Rattle.workspace.specs.Tables.{Answer, done, refused, test, output, has}
 use Rattle.workspace.specs.declared.Refusal.TheVariants.{Length}
-use Rattle.mend.specs.Mend.{Bytes, minute_of, count_of, records_of, file_of, of_meter, Fate, number_of, fates, after, sound, total_of, rollovers_of, is_there, Mended, mend}
-use Rattle.mend.specs.inner.State.{at_start, least_in, total_in, rollovers_in, fates_in, after_in, least_of, Holds, Pieced, reasons_in, file_in}
+use Rattle.mend.specs.Mend.{Bytes, minute_of, count_of, records_of, of_meter, number_of, after, total_of, rollovers_of, is_there, mend}
+use Rattle.mend.specs.inner.State.{at_start, least_in, fates_in, after_in, least_of, Holds, Pieced, reasons_in, file_in}
 use Rattle.mend.proofs.Fates.{length-fates}
 use Rattle.mend.proofs.State.{holds-none, fates-same, after_holds}
-use Rattle.mend_call.specs.declared.Outcome.{Outcome}
 use Rattle.mend_call.specs.declared.Outcome.TheVariants.{Done, Refused}
-use Rattle.mend_call.specs.Promise.{mend_call, bits, outcome_of, Mends}
+use Rattle.mend_call.specs.Promise.{mend_call, bits, Mends}
 use Rattle.mend_call.specs.Claims.{OneAnswer}
 use Rattle.mend_call.specs.inner.Work.{there_in}
 

@@ -1,14 +1,14 @@
 // The digest of what a call left (oracle/README.md, "The stored calls").
 ghost use Rattle.std.specs.Prelude.{◌≡◌, ◌/◌, ◌%◌, ◌<◌, length};
 ghost use Rattle.numbers.specs.Numbers.{at, nth};
-ghost use Rattle.replay_list.specs.Digest.{lane as Digest·lane, mix, over, pattern_of};
+ghost use Rattle.replay_list.specs.Digest.{lane as digest_lane, mix, over, pattern_of};
 
 use crate::little::wide;
 
 // A half of the digest, with a number more.
 fn lane(h: u64, x: u64) -> u64
     requires { (h < 4294967296) × (x < 8589934592) }
-    ensures { (result ≡ Digest·lane h x) × (result < 4294967291) }
+    ensures { (result ≡ digest_lane h x) × (result < 4294967291) }
 {
     (h * 1664525 + x) % 4294967291
 }

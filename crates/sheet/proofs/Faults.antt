@@ -1,9 +1,9 @@
 -- The fault told is the first; one answer only; 65,537 bytes decide.
-use mathlib.Core.Path.{◌≡◌, refl, sym, ap, ◌∙◌, subst}
+use mathlib.Core.Path.{◌≡◌, sym, ap, ◌∙◌, subst}
 use mathlib.Core.Logic.{⊎_elim}
 use mathlib.Core.Bool.{Bool, true, false, cond, not}
 use mathlib.Core.List.{List, [], ◌∷◌}
-use Prim.Native.Nat.{ℕ, zero, suc, ◌+◌, ◌-◌, ◌≤◌, ◌<◌}
+use Prim.Native.Nat.{ℕ, zero, suc, ◌+◌, ◌≤◌, ◌<◌}
 use native.Mathlib.Omega.{arith}
 use borrow.Author.Tests.{lt-ltb}
 use lib.Dec.{ltb, eqb}
@@ -14,13 +14,13 @@ use Rattle.numbers.proofs.Cases.{lt-or-ge}
 use Rattle.day_words.specs.Words.{lines_of, without_return}
 use Rattle.sheet_words.specs.declared.Expected.{Expected}
 use Rattle.sheet_words.specs.declared.Expected.TheVariants.{TitleLine, MeterLine, BalanceLine, ToleranceLine}
-use Rattle.sheet_words.specs.Lines.{after_mark, between}
+use Rattle.sheet_words.specs.Lines.{after_mark}
 use Rattle.sheet_lines.specs.Lines.{State, Line, taken, wrong}
 use Rattle.sheet.specs.declared.Sheet.{Sheet}
 use Rattle.sheet.specs.declared.Sheet.TheVariants.{Whole, Fault, Long}
-use Rattle.sheet.specs.Sheet.{line_read, Outcome, whole, fault, long, sheet_end, onward, lines_read, at_start, sheet_of}
-use Rattle.sheet.specs.Promise.{told, BlankUnlessWhole, Reads}
-use Rattle.sheet.specs.Claims.{NoneWithin, First, FirstFault, SameAnswer, Same, OneAnswer, EnoughBytes}
+use Rattle.sheet.specs.Sheet.{line_read, whole, fault, long, sheet_end, onward, lines_read, at_start, sheet_of}
+use Rattle.sheet.specs.Promise.{told, BlankUnlessWhole}
+use Rattle.sheet.specs.Claims.{NoneWithin, First, FirstFault, Same, OneAnswer, EnoughBytes}
 
 -- ---- faults are told apart
 

@@ -1,35 +1,30 @@
 -- The tables before the first line, a line by its first word, and one line after another.
 use mathlib.Core.Path.{◌≡◌, refl, sym, ap, ◌∙◌}
-use mathlib.Core.Bool.{Bool, true, false, not, ◌||◌}
+use mathlib.Core.Bool.{Bool, true, false}
 use mathlib.Core.List.{List, [], ◌∷◌, append-nil}
-use Prim.Native.Nat.{ℕ, zero, suc, ◌+◌, ◌-◌, ◌≤◌, ◌<◌}
+use Prim.Native.Nat.{ℕ, ◌+◌, ◌-◌, ◌≤◌, ◌<◌}
 use native.Mathlib.Omega.{arith}
 use borrow.Author.Tests.{lt-ltb, le-ltb, eq-eqb, ne_eqb}
-use lib.Dec.{ltb, eqb}
+use lib.Dec.{eqb}
 use lib.ListN.{length, take, drop, get_or, replicate, length-drop, length-take, length-replicate, drop_of_length-le}
-use lib.Seq.{drop-drop, take-take, take_all, length-take-le}
-use lib.Ieee.{Float, binary64, of_bits}
-use Rattle.numbers.specs.Numbers.{tab, +0}
+use lib.Seq.{drop-drop, take-take, take_all}
+use lib.Ieee.{Float}
+use Rattle.numbers.specs.Numbers.{+0}
 use Rattle.endian.specs.Little.{placed}
-use Rattle.ascii.specs.Text.{ascii, same_text}
 use Rattle.ascii.specs.inner.Work.{Wrote}
 use Rattle.workspace.specs.Tables.{cleared}
-use Rattle.day_words.specs.declared.Word.{Word}
-use Rattle.day_words.specs.inner.Work.{IsWord}
 use Rattle.day_words.specs.Words.{up_to, is_feed, lines_of, without_return, word, rest}
 use Rattle.day_words.proofs.Words.{up-front, lines_more, lines_none}
 use Rattle.sheet_words.specs.declared.Expected.{Expected}
 use Rattle.sheet_words.specs.declared.Expected.TheVariants.{Kind, SmallKind, TitleLine, MeterLine, BalanceLine, ToleranceLine}
-use Rattle.sheet_words.specs.Names.{same_small}
 use Rattle.sheet_words.specs.Lines.{after_mark, unremarked, between, Lies}
 use Rattle.sheet_parts.proofs.Laws.{drop_of_take}
-use Rattle.sheet_lines.specs.declared.Counts.{Counts}
 use Rattle.sheet_lines.specs.declared.Step.{Step}
 use Rattle.sheet_lines.specs.declared.Step.TheVariants.{Next, Wrong}
 use Rattle.sheet.specs.declared.Sheet.{Sheet}
 use Rattle.sheet.specs.declared.Sheet.TheVariants.{Whole, Fault, Long}
-use Rattle.sheet_lines.specs.Lines.{State, Line, taken, wrong, title_line, doubt_line, item_line, balance_line, limit_line, tolerance_line}
-use Rattle.sheet.specs.Sheet.{is_passed, kinds, place_among, kind_of, is_alike, plain_line, line_read, Outcome, whole, fault, long, sheet_end, onward, lines_read, blank_texts, blank_wholes, blank_numbers, at_start, sheet_of}
+use Rattle.sheet_lines.specs.Lines.{State, taken, wrong, title_line, doubt_line, item_line, balance_line, limit_line, tolerance_line}
+use Rattle.sheet.specs.Sheet.{is_passed, kinds, kind_of, is_alike, plain_line, line_read, whole, fault, long, sheet_end, onward, lines_read, blank_texts, blank_wholes, blank_numbers, at_start, sheet_of}
 use Rattle.sheet.specs.Promise.{told, BlankUnlessWhole}
 use Rattle.sheet_lines.specs.inner.Work.{line_told, Sound}
 use Rattle.sheet.specs.inner.Work.{is_whole}

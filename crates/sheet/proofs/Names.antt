@@ -16,8 +16,8 @@ use Rattle.sheet_words.specs.declared.Expected.{Expected}
 use Rattle.sheet_words.specs.declared.Judged.{Judged}
 use Rattle.sheet_words.specs.declared.Judged.TheVariants.{Fine, Not}
 use Rattle.sheet_words.specs.Names.{same_small, begins_letter, are_name_bytes, is_taken, name_judged}
-use Rattle.sheet_parts.specs.Parts.{Named, named, unnamed, named_by, name_at}
-use Rattle.sheet.specs.Claims.{GivenOnce, NamesOnce}
+use Rattle.sheet_parts.specs.Parts.{named, named_by, name_at}
+use Rattle.sheet.specs.Claims.{NamesOnce}
 
 or-both : (a b : Bool) → (a || b) ≡ false → (a ≡ false) × (b ≡ false)
 or-both false b h = (refl, h)

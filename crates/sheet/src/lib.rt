@@ -4,7 +4,7 @@
 ghost use Rattle.std.specs.Prelude.{◌≡◌, ◌≤◌, length, drop};
 ghost use Rattle.day_words.specs.Words.{lines_of, without_return};
 ghost use Rattle.sheet_words.specs.Lines.{between, Lies};
-ghost use Rattle.sheet.specs.Sheet.{blank_texts, blank_wholes, blank_numbers, is_passed, kinds as Sheet·kinds, kind_of, is_alike, plain_line, line_read, lines_read};
+ghost use Rattle.sheet.specs.Sheet.{blank_texts, blank_wholes, blank_numbers, is_passed, kinds as sheet_kinds, kind_of, is_alike, plain_line, line_read, lines_read};
 ghost use Rattle.sheet.specs.Promise.{told, Fits, Reads};
 ghost use Rattle.sheet_lines.specs.inner.Work.{state, line_told, Few, Sound};
 ghost use Rattle.sheet.specs.inner.Work.{no_counts, is_whole, IsEnd, FitsAnywhere};
@@ -66,7 +66,7 @@ fn kind_of(word: &[u8]) -> u32
 
 // Whether a word is a kind but for capitals.
 fn is_kind(word: &[u8]) -> bool
-    ensures { result ≡ is_alike word.now Sheet·kinds }
+    ensures { result ≡ is_alike word.now sheet_kinds }
 {
     if sheet_words::is_alike(word, b"meter") {
         return true;

@@ -2,7 +2,7 @@
 #![tactic(auto)]
 
 ghost use Rattle.std.specs.Prelude.{◌≡◌, not, ◌&&◌, ◌||◌, ◌+◌, ◌≤◌, ◌<◌, ltb, length, drop};
-ghost use Rattle.ascii.specs.Text.{ascii as Text·ascii, same_text};
+ghost use Rattle.ascii.specs.Text.{ascii as text_ascii, same_text};
 ghost use Rattle.day_words.specs.Items.{filled};
 ghost use Rattle.sheet_words.specs.Names.{begins_number, has_equals, is_taken, place_of, not_zero};
 ghost use Rattle.sheet_words.specs.Lines.{words_of};
@@ -100,7 +100,7 @@ fn judge_place(word: &[u8], texts: &[u8]) -> Term
 
 // Whether a word is `=` and may be a sign.
 fn is_lone(pending: bool, word: &[u8]) -> bool
-    ensures { result ≡ (not pending && same_text word.now (Text·ascii "=")) }
+    ensures { result ≡ (not pending && same_text word.now (text_ascii "=")) }
 {
     if pending {
         return false;
@@ -120,7 +120,7 @@ fn is_joined(word: &[u8]) -> bool
 
 // Whether a word is a plus or a minus.
 fn is_sign(word: &[u8]) -> bool
-    ensures { result ≡ (same_text word.now (Text·ascii "+") || same_text word.now (Text·ascii "-")) }
+    ensures { result ≡ (same_text word.now (text_ascii "+") || same_text word.now (text_ascii "-")) }
 {
     if ascii::is_same(word, b"+") {
         return true;

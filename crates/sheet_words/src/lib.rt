@@ -2,7 +2,7 @@
 #![tactic(auto)]
 
 ghost use Rattle.std.specs.Prelude.{◌≡◌, ◌&&◌, eqb, ◌+◌, ◌*◌, ◌≤◌, length, take, drop};
-ghost use Rattle.sheet_words.specs.Names.{is_capital, is_letter, is_numeric, begins_letter, begins_number, small as Names·small, same_small, has_equals, are_name_bytes, is_name_byte, is_taken, place_of, name_judged, above_zero, not_below_zero, not_zero, Inside, ShortIf};
+ghost use Rattle.sheet_words.specs.Names.{is_capital, is_letter, is_numeric, begins_letter, begins_number, small as names_small, same_small, has_equals, are_name_bytes, is_name_byte, is_taken, place_of, name_judged, above_zero, not_below_zero, not_zero, Inside, ShortIf};
 ghost use Rattle.sheet_words.specs.Lines.{after_mark, unremarked};
 
 use day_words::Number;
@@ -86,7 +86,7 @@ fn is_letter(c: u8) -> bool
 
 // A capital's small letter; any other byte as it is.
 fn small(c: u8) -> u8
-    ensures { result ≡ Names·small c }
+    ensures { result ≡ names_small c }
 {
     if is_capital(c) {
         return c + 32;

@@ -1,7 +1,5 @@
-use mathlib.Core.Bool.{true}
 use mathlib.Core.Path.{◌≡◌, sym, ◌∙◌}
 use native.Mathlib.Omega.{arith}
-use Rattle.certain.specs.Bound.{keeps}
 use Rattle.certain.proofs.Laws.{all_none, all_more, all_done, all-broken, row_ends}
 use Rattle.interval.proofs.Answers.{not-true, not-false}
 use Rattle.certain.proofs.all_keep.Goals as goal

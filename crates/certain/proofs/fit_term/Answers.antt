@@ -1,5 +1,5 @@
 use Rattle.certain.specs.Bound.{fit_term}
-use Rattle.interval.specs.Intervals.{mul_up, div_up, magnitude, minus, times, product}
+use Rattle.interval.specs.Intervals.{mul_up, div_up, magnitude, minus, times}
 use Rattle.interval.specs.declared.Interval.{Interval}
 use lib.Ieee.{Float}
 use mathlib.Core.Path.{ap, ap₂, ◌∙◌}

@@ -1,7 +1,6 @@
 -- `times_into`: after i turns the first i entries are written.
 use Prim.Native.Nat.{◌+◌, ◌*◌, ◌≤◌}
 use lib.ListN.{length}
-use Rattle.numbers.specs.Numbers.{dot}
 use Rattle.hessian.specs.Hessian.{times}
 use Rattle.numbers.proofs.Fills.{fill_none, fill_more, fill-all}
 use Rattle.numbers.proofs.Lists.{row_fits}

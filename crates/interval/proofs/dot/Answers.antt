@@ -1,6 +1,5 @@
 use mathlib.Core.Path.{◌≡◌}
 use native.Mathlib.Omega.{arith}
-use Rattle.interval.specs.Intervals.{product}
 use Rattle.interval.proofs.Answers.{sum-none, sum_more, sum_done}
 use Rattle.interval.proofs.dot.Goals as goal
 

@@ -1,6 +1,4 @@
-use mathlib.Core.Bool.{true}
 use Rattle.certain.specs.Bound.{are_positive}
-use Rattle.interval.specs.Intervals.{is_positive}
 use Rattle.certain.proofs.Laws.{all_none, all_more, all_done, all-broken}
 use Rattle.interval.proofs.Answers.{not-true, not-false}
 use native.Mathlib.Omega.{arith}

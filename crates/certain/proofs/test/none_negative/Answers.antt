@@ -1,4 +1,3 @@
-use mathlib.Core.Bool.{true}
 use Rattle.certain.specs.Bound.{none_negative}
 use Rattle.certain.proofs.Laws.{all_none, all_more, all_done, all-broken, zero-le}
 use Rattle.interval.proofs.Answers.{not-true, not-false}

@@ -1,0 +1,26 @@
+-- `put_within`: one word or the other.
+use native.Mathlib.Omega.{arith}
+use borrow.Author.Tests.{eq-eqb, ne_eqb}
+use Rattle.ascii.specs.Text.{ascii}
+use Rattle.numbers.specs.Numbers.{tab}
+use Rattle.day_text.proofs.cells.put_within.Goals as goal
+
+pub put_text-requires : goal.put_text-requires
+put_text-requires c = omega (arith, c.requires)
+
+pub shape_of-out-then-within-eq1 : goal.shape_of-out-then-within-eq1
+shape_of-out-then-within-eq1 c = omega arith
+
+pub returns-then-within-eq1 : goal.returns-then-within-eq1
+unfolding ascii tab
+returns-then-within-eq1 c = record { wrote = rw (eq-eqb _ _ c.if-within-eq1.true) c.put_text.ensures; upper_bound = omega (arith, c.put_text.ensures.until) }
+
+pub put_text-requires-2 : goal.put_text-requires-2
+put_text-requires-2 c = omega (arith, c.requires)
+
+pub shape_of-out : goal.shape_of-out
+shape_of-out c = omega arith
+
+pub returns : goal.returns
+unfolding ascii tab
+returns c = record { wrote = rw (ne_eqb _ _ c.if-within-eq1.false) c.put_text-2.ensures; upper_bound = omega (arith, c.put_text-2.ensures.until) }

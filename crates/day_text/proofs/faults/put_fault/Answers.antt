@@ -1,0 +1,35 @@
+-- `put_fault`: its parts one after the other.
+use native.Mathlib.Omega.{arith}
+use Rattle.ascii.proofs.Writing.{wrote_then}
+use Rattle.ascii.specs.Text.{ascii}
+use Rattle.day_text.specs.Refusals.{fault_text}
+use Rattle.numbers.specs.Numbers.{tab}
+use Rattle.day_text.proofs.faults.put_fault.Goals as goal
+
+pub put_text-a-requires : goal.put_text-a-requires
+put_text-a-requires c = omega (arith, c.requires)
+
+pub put_decimal-b-requires : goal.put_decimal-b-requires
+put_decimal-b-requires c = omega (arith, c.put_text-a.ensures.until, c.requires)
+
+pub put_text-c-requires : goal.put_text-c-requires
+put_text-c-requires c = omega (arith, c.put_decimal-b.ensures.upper_bound, c.put_text-a.ensures.until, c.requires)
+
+pub put_expected-d-requires : goal.put_expected-d-requires
+put_expected-d-requires c = omega (arith, c.put_text-c.ensures.until, c.put_decimal-b.ensures.upper_bound, c.put_text-a.ensures.until, c.requires)
+
+pub put_text-f-requires : goal.put_text-f-requires
+put_text-f-requires c = omega (arith, c.put_expected-d.ensures.upper_bound, c.put_text-c.ensures.until, c.put_decimal-b.ensures.upper_bound, c.put_text-a.ensures.until, c.requires)
+
+pub put_found-g-requires : goal.put_found-g-requires
+put_found-g-requires c = omega (arith, c.put_text-f.ensures.until, c.put_expected-d.ensures.upper_bound, c.put_text-c.ensures.until, c.put_decimal-b.ensures.upper_bound, c.put_text-a.ensures.until, c.requires)
+
+pub put_byte-requires : goal.put_byte-requires
+put_byte-requires c = omega (arith, c.put_found-g.ensures.upper_bound, c.put_text-f.ensures.until, c.put_expected-d.ensures.upper_bound, c.put_text-c.ensures.until, c.put_decimal-b.ensures.upper_bound, c.put_text-a.ensures.until, c.requires)
+
+pub shape_of-out : goal.shape_of-out
+shape_of-out c = omega arith
+
+pub returns : goal.returns
+unfolding ascii tab fault_text
+returns c = wrote_then c.put_text-a.ensures (wrote_then c.put_decimal-b.ensures.wrote (wrote_then c.put_text-c.ensures (wrote_then c.put_expected-d.ensures.wrote (wrote_then c.put_text-f.ensures (wrote_then c.put_found-g.ensures.wrote c.put_byte.ensures)))))

@@ -1,0 +1,37 @@
+-- `put_kind`: one word of three.
+use native.Mathlib.Omega.{arith}
+use borrow.Author.Tests.{eq-eqb, ne_eqb}
+use Rattle.ascii.specs.Text.{ascii}
+use Rattle.day_text.specs.Items.{kind_text}
+use Rattle.numbers.specs.Numbers.{tab}
+use Rattle.day_text.proofs.items.put_kind.Goals as goal
+
+pub put_text-requires : goal.put_text-requires
+put_text-requires c = omega (arith, c.requires)
+
+pub shape_of-out-then-kind-eq0 : goal.shape_of-out-then-kind-eq0
+shape_of-out-then-kind-eq0 c = omega arith
+
+pub returns-then-kind-eq0 : goal.returns-then-kind-eq0
+unfolding ascii tab kind_text
+returns-then-kind-eq0 c = record { wrote = rw (eq-eqb _ _ c.if-kind-eq0.true) c.put_text.ensures; upper_bound = omega (arith, c.put_text.ensures.until) }
+
+pub put_text-requires-then-kind-eq1 : goal.put_text-requires-then-kind-eq1
+put_text-requires-then-kind-eq1 c = omega (arith, c.requires)
+
+pub shape_of-out-then-kind-eq1 : goal.shape_of-out-then-kind-eq1
+shape_of-out-then-kind-eq1 c = omega arith
+
+pub returns-then-kind-eq1 : goal.returns-then-kind-eq1
+unfolding ascii tab kind_text
+returns-then-kind-eq1 c = record { wrote = rw (ne_eqb _ _ c.if-kind-eq0.false, eq-eqb _ _ c.if-kind-eq1.true) c.put_text-then-kind-eq1.ensures; upper_bound = omega (arith, c.put_text-then-kind-eq1.ensures.until) }
+
+pub put_text-requires-2 : goal.put_text-requires-2
+put_text-requires-2 c = omega (arith, c.requires)
+
+pub shape_of-out : goal.shape_of-out
+shape_of-out c = omega arith
+
+pub returns : goal.returns
+unfolding ascii tab kind_text
+returns c = record { wrote = rw (ne_eqb _ _ c.if-kind-eq0.false, ne_eqb _ _ c.if-kind-eq1.false) c.put_text-2.ensures; upper_bound = omega (arith, c.put_text-2.ensures.until) }

@@ -1,0 +1,30 @@
+-- `put_limits`: after j turns j rows are written.
+use mathlib.Core.List.{List}
+use mathlib.Core.Path.{refl, subst}
+use Prim.Native.Nat.{ℕ}
+use native.Mathlib.Omega.{arith}
+use Rattle.ascii.proofs.Writing.{Writing, writing-none, writing_more, writing-end}
+use Rattle.day_text.proofs.Rows.{limits-start, limits-more, limits-end}
+use Rattle.day_text.specs.Tables.{limit_rows}
+use Rattle.day_text.proofs.tables.put_limits.Goals as goal
+
+pub loop-j-init : goal.loop-j-init
+loop-j-init c = (omega arith, rw (← (limits-start _ 0 _ _ _ _ _)) (writing-none _ _ _), refl, omega arith)
+
+pub put_limit-to-requires : goal.put_limit-to-requires
+put_limit-to-requires c = (omega (arith, c.loop-j.invariant.2, c.loop-j.invariant.3, c.requires.0, c.requires.1), omega (arith, c.requires.1), c.requires.2.lt, c.requires.2.lw, c.requires.2.ln, c.requires.2.lf, c.requires.2.ls)
+
+pub overflow_step-j : goal.overflow_step-j
+overflow_step-j c = omega arith
+
+pub loop-j-smaller : goal.loop-j-smaller
+loop-j-smaller c = omega arith
+
+pub loop-j-preserved : goal.loop-j-preserved
+loop-j-preserved c = let l = c.loop-j in let a = c.args in let k = c.put_limit-to.ensures in (omega arith, writing_more (subst (λ (t : List ℕ). Writing a.out.now a.at (limit_rows a.q 0 a.texts.now a.wholes.now a.numbers.now a.figures.now a.signs.now) l.out l.to t) (limits-more a.q l.j a.texts.now a.wholes.now a.numbers.now a.figures.now a.signs.now (omega arith)) l.invariant.1) k.wrote, omega (arith, l.invariant.2), omega (arith, l.invariant.3, k.upper_bound))
+
+pub shape_of-out : goal.shape_of-out
+shape_of-out c = c.loop-j.invariant.2
+
+pub returns : goal.returns
+returns c = let l = c.loop-j in let a = c.args in record { wrote = writing-end (omega (arith, l.invariant.3, c.requires.0, c.requires.1)) (subst (λ (t : List ℕ). Writing a.out.now a.at (limit_rows a.q 0 a.texts.now a.wholes.now a.numbers.now a.figures.now a.signs.now) l.out l.to t) (limits-end a.q l.j a.texts.now a.wholes.now a.numbers.now a.figures.now a.signs.now (omega arith)) l.invariant.1); upper_bound = omega (arith, l.invariant.3, c.requires.0, c.requires.1) }

@@ -1,0 +1,14 @@
+-- `are_widths`: after j turns the widths of j constraints are good.
+use mathlib.Core.Path.{◌≡◌}
+use mathlib.Core.Bool.{true}
+use mathlib.Core.List.{map}
+use Prim.Native.Nat.{◌-◌, ◌≤◌}
+use Rattle.step_call.specs.Promise.{are_widths}
+use Rattle.problem_read.specs.Bits.{number}
+use Rattle.problem_write_call.proofs.arguments.are_widths.Given as goal
+
+abbrev pub invariant-loop-j : goal.invariant-loop-j
+invariant-loop-j l = (l.j ≤ l.m) × (are_widths l.kinds (map number l.widths) l.j ≡ true)
+
+abbrev pub decreases-loop-j : goal.decreases-loop-j
+decreases-loop-j l = l.m - l.j

@@ -1,0 +1,11 @@
+-- `test_meters`: what is still to test gives the answer.
+use mathlib.Core.Path.{◌≡◌}
+use Prim.Native.Nat.{◌-◌, ◌≤◌}
+use Rattle.reconcile_call.specs.inner.Work.{tested_outcome}
+use Rattle.reconcile_call.proofs.arguments.test_meters.Given as goal
+
+abbrev pub invariant-loop-i : goal.invariant-loop-i
+invariant-loop-i l = (l.i ≤ l.n) × (tested_outcome l.before l.after l.spreads l.n 0 ≡ tested_outcome l.before l.after l.spreads (l.n - l.i) l.i)
+
+abbrev pub decreases-loop-i : goal.decreases-loop-i
+decreases-loop-i l = l.n - l.i

@@ -1,0 +1,9 @@
+-- `fits` reads lengths that are there.
+use Prim.Native.Nat.{◌≤◌, ◌-◌}
+use Rattle.replay_list.proofs.call.fits.Given as goal
+
+abbrev pub invariant-loop-i : goal.invariant-loop-i
+invariant-loop-i l = l.i ≤ 5
+
+abbrev pub decreases-loop-i : goal.decreases-loop-i
+decreases-loop-i l = 5 - l.i
