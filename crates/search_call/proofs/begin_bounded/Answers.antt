@@ -1,6 +1,6 @@
 -- `begin_bounded`: refused, or begun and cleared.
 use mathlib.Core.Path.{sym, ◌∙◌}
-use Rattle.search.specs.Promise.{setup_of, are_ordered}
+use Rattle.search.specs.Promise.{setup_of}
 use Rattle.search_call.proofs.Calls.{crossed-refused, begun}
 use Rattle.search_call.proofs.begin_bounded.Goals as goal
 

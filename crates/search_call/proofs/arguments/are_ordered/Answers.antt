@@ -1,6 +1,5 @@
 -- `are_ordered`: after i turns the first i bounds are in order.
 use mathlib.Core.Path.{sym}
-use mathlib.Core.Bool.{true}
 use native.Mathlib.Omega.{arith}
 use Rattle.search_call.proofs.Orders.{ordered-none, ordered-more, ordered-bad, ordered-all}
 use Rattle.search_call.proofs.arguments.are_ordered.Goals as goal
