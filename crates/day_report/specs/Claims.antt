@@ -1,10 +1,10 @@
 -- What is shown of the report: what it rests on where it says that the day closes, over exact numbers; that it holds the sheet; which bytes decide it; and that the promise of `respond` allows one answer only. Definitions only.
-use Rattle.std.specs.Prelude.{◌≡◌, true, List, ◌++◌, ℕ, ◌<◌, length, Float}
+use Rattle.std.specs.Prelude.{◌≡◌, true, List, ◌++◌, ℕ, length, Float}
 use Rattle.std.specs.Float.Ieee.{le}
 use Rattle.exact.specs.Exact.{Finite, value}
 use Rattle.certain.specs.Day.{WithinTolerance, exactly}
 use Rattle.workspace.specs.Tables.{done}
-use Rattle.settle.specs.Settle.{Measured, Settled, is_kept, settled}
+use Rattle.settle.specs.Settle.{Settled, is_kept, settled}
 use Rattle.settle.specs.Claims.{in_numbers, Near}
 use Rattle.sheet.specs.Sheet.{whole, sheet_of}
 use Rattle.day_volumes.specs.Posed.{tolerance_of, posed}

@@ -1,17 +1,17 @@
 -- Cells and names as the code cuts them out of the tables.
-use mathlib.Core.Path.{◌≡◌, refl, sym, ap, ◌∙◌}
-use mathlib.Core.Bool.{Bool, true, false}
+use mathlib.Core.Path.{◌≡◌, refl, ap, ◌∙◌}
+use mathlib.Core.Bool.{Bool}
 use mathlib.Core.List.{List, [], ◌∷◌, ◌++◌}
-use Prim.Native.Nat.{ℕ, suc, ◌+◌, ◌-◌, ◌*◌, ◌≤◌, ◌<◌}
+use Prim.Native.Nat.{ℕ, ◌+◌, ◌-◌, ◌*◌, ◌≤◌}
 use native.Mathlib.Omega.{arith}
-use lib.ListN.{length, take, drop, replicate, length-take}
+use lib.ListN.{length, take, drop, length-take}
 use lib.Seq.{length-take-le}
 use lib.Ieee.{Float}
 use Rattle.io.specs.Digits.{last_digits}
 use Rattle.numbers.specs.Numbers.{tab}
 use Rattle.ascii.specs.Text.{ascii, padded}
 use Rattle.ascii.specs.inner.Work.{Wrote}
-use Rattle.ascii.proofs.Writing.{wrote_then, as-text}
+use Rattle.ascii.proofs.Writing.{wrote_then}
 use Rattle.sheet_parts.specs.Texts.{without_blanks}
 use Rattle.day_text.specs.Places.{name_cell, name_text, text_from}
 use Rattle.day_text.specs.Cells.{cell, number_cell}

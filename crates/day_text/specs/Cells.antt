@@ -1,5 +1,5 @@
 -- The cells of the tables. Definitions only.
-use Rattle.std.specs.Prelude.{Bool, cond, List, [], ◌∷◌, ◌++◌, ℕ, ◌+◌, eqb, Float}
+use Rattle.std.specs.Prelude.{cond, List, ◌++◌, ℕ, eqb, Float}
 use Rattle.ascii.specs.Text.{ascii, padded}
 use Rattle.decimals.specs.Fixed.{fixed_text}
 

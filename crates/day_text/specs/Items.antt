@@ -4,7 +4,6 @@ use Rattle.std.specs.Float.Ieee.{lt, le}
 use Rattle.io.specs.Digits.{last_digits}
 use Rattle.numbers.specs.Numbers.{+0, near, ◌⊖◌, ◌⊗◌, ◌⊘◌}
 use Rattle.ascii.specs.Text.{ascii}
-use Rattle.decimals.specs.Fixed.{fixed_text}
 use Rattle.day_text.specs.Places.{name_cell, old_reading, new_reading, kind_of, spread_of, content_before, content_after, value_of, corrected_of, new_spread_of, test_of, share_of, mark_of}
 use Rattle.day_text.specs.Cells.{cell, number_cell}
 

@@ -1,5 +1,5 @@
 -- The sentences of refusals (docs/RULES.md, "The day's report" and, for what was expected, "The day's sheet"). Definitions only.
-use Rattle.std.specs.Prelude.{Bool, true, false, cond, List, [], ◌∷◌, ◌++◌, ℕ, ◌+◌, ltb, eqb}
+use Rattle.std.specs.Prelude.{Bool, true, false, cond, List, [], ◌∷◌, ◌++◌, ℕ, ltb, eqb}
 use Rattle.workspace.specs.Tables.{number_of, place_of}
 use Rattle.workspace.specs.declared.Refusal.{Refusal}
 use Rattle.ascii.specs.Text.{ascii, decimal_text}

@@ -1,5 +1,5 @@
 -- The day's report where volumes were found (docs/RULES.md, "The day's report"). Definitions only.
-use Rattle.std.specs.Prelude.{cond, List, [], ◌++◌, ℕ, zero, suc, ◌+◌, ◌*◌, ◌^◌, eqb, length, Float}
+use Rattle.std.specs.Prelude.{cond, List, [], ◌++◌, ℕ, zero, suc, ◌+◌, ◌^◌, eqb, length, Float}
 use Rattle.std.specs.Float.Ieee.{lt}
 use Rattle.numbers.specs.Numbers.{near, at}
 use Rattle.ascii.specs.Text.{ascii, decimal_text}

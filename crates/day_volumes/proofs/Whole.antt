@@ -11,7 +11,7 @@ use Rattle.numbers.specs.Numbers.{at, nth, tab}
 use Rattle.numbers.proofs.Lists.{length-tab, get_d-tab, tab-same}
 use Rattle.workspace.specs.Tables.{Answer, done, refused}
 use Rattle.workspace.specs.declared.Outcome.{Outcome}
-use Rattle.workspace.specs.declared.Outcome.TheVariants.{Done, Refused}
+use Rattle.workspace.specs.declared.Outcome.TheVariants.{Done}
 use Rattle.workspace.specs.declared.Refusal.{Refusal}
 use Rattle.interval.specs.Intervals.{is_finite}
 use Rattle.certain.specs.Bound.{closes, keeps, kept}
@@ -21,7 +21,7 @@ use Rattle.settle_call.specs.declared.Bounded.TheVariants as bounded
 use Rattle.suspect.specs.Suspect.{Tests, shares, new_spreads, tests, stills, still_of, tests_from, suspect}
 use Rattle.suspect.specs.declared.Finding.{Finding}
 use Rattle.suspect_call.specs.Promise.{numbers_of}
-use Rattle.day_volumes.specs.Posed.{is_stock, balance_row, limit_row, tolerance_of, spreads, values, balances, limits, least, posed}
+use Rattle.day_volumes.specs.Posed.{is_stock, balance_row, limit_row, tolerance_of, spreads, values, balances, posed}
 use Rattle.day_volumes.specs.Found.{laid, row_times, flag, no_figures, no_signs, Found, tested, found, figures, signs}
 use Rattle.day_volumes.specs.Found as found_found
 use Rattle.day_volumes.specs.Promise.{Finds}

@@ -1,14 +1,13 @@
 -- What is found of a sheet's day: its volumes, the tests of its meters, and the two tables that the report is written from (docs/RULES.md, "What a sheet poses"). Definitions only.
-use Rattle.std.specs.Prelude.{ℕ, ◌+◌, ◌-◌, ◌*◌, Bool, cond, ◌&&◌, List, leb, ltb, eqb, get_or, set, length, replicate, Float}
+use Rattle.std.specs.Prelude.{ℕ, ◌+◌, ◌-◌, Bool, cond, ◌&&◌, List, leb, ltb, get_or, set, length, replicate, Float}
 use Rattle.std.specs.Float.{nan}
 use Rattle.numbers.specs.Numbers.{+0, ◌⊗◌, Σ, at, nth, tab}
 use Rattle.workspace.specs.Tables.{Answer, done, refused}
 use Rattle.interval.specs.Intervals.{is_finite}
 use Rattle.certain.specs.Bound.{closes, keeps}
 use Rattle.settle.specs.Settle.{Measured, Settled, is_kept, settled}
-use Rattle.suspect.specs.declared.Finding.{Finding}
 use Rattle.suspect.specs.Suspect.{Tests, still_of, suspect}
-use Rattle.day_volumes.specs.Posed.{kind_at, is_stock, balance_row, limit_row, tolerance_of, posed}
+use Rattle.day_volumes.specs.Posed.{is_stock, balance_row, limit_row, tolerance_of, posed}
 
 -- ---- volumes and tests
 

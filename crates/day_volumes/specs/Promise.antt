@@ -1,9 +1,8 @@
 -- What finding a day's volumes answers and leaves. Definitions only.
-use Rattle.std.specs.Prelude.{◌≡◌, List, ℕ, replicate, Float}
-use Rattle.numbers.specs.Numbers.{+0}
-use Rattle.workspace.specs.Tables.{Answer, outcome_of, output}
+use Rattle.std.specs.Prelude.{◌≡◌, List, ℕ, Float}
+use Rattle.workspace.specs.Tables.{outcome_of, output}
 use Rattle.workspace.specs.declared.Outcome.{Outcome}
-use Rattle.day_volumes.specs.Found.{Found, found, figures, signs, no_figures, no_signs}
+use Rattle.day_volumes.specs.Found.{found, figures, signs, no_figures, no_signs}
 
 -- From the sheet's tables: the outcome o, and what the two tables hold afterwards, which were blank.
 pub record Finds (n m q : ℕ) (z : List ℕ) (f : List Float) (o : Outcome) (figures' : List Float) (signs' : List ℕ) : Type 0 where

@@ -6,7 +6,7 @@ use std::{io, str};
 pub fn path(name: &[u8]) -> io::Result<&str> {
     match str::from_utf8(name) {
         Ok(text) => Ok(text),
-        Err(_) => Err(Error::new(ErrorKind::InvalidFilename, "not UTF-8")),
+        Err(_) => Err(Error::new(ErrorKind::InvalidFilename, "the name is not UTF-8")),
     }
 }
 

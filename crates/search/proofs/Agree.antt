@@ -1,8 +1,8 @@
 -- Two runs of the loop agree, or one begins the other: one argument for both, over what is asked of such a relation.
-use Prim.Native.Nat.{ℕ, zero, suc, ◌+◌, ◌-◌, ◌≤◌, ◌<◌}
+use Prim.Native.Nat.{ℕ, zero, suc, ◌-◌, ◌≤◌, ◌<◌}
 use mathlib.Core.Path.{◌≡◌, refl}
 use mathlib.Core.Bool.{Bool, true, false, cond, not, ◌&&◌}
-use mathlib.Core.List.{List, [], ◌∷◌, ◌++◌}
+use mathlib.Core.List.{List, []}
 use native.Mathlib.Omega.{arith}
 use lib.ListN.{set}
 use lib.Ieee.{Float, le}
@@ -10,7 +10,7 @@ use Rattle.numbers.specs.Numbers.{one, at}
 use Rattle.workspace.specs.Tables.{Answer, done, refused}
 use Rattle.step.specs.Step.{Step}
 use Rattle.search.specs.Setup.{Setup, Scheme, told, forward, central, Point, Report, Question, values, slopes, single, Ending, converged, infeasible, exhausted, nonfinite, are_finite, is_finite}
-use Rattle.search.specs.Turn.{Iterate, Line, Opened, stop, go, point_of, report_of, reset, full_relaxation, is_still, stepped, factored, opened, backtracks, along, merit, is_enough, shorter, is_settled, raise, lower, quotient}
+use Rattle.search.specs.Turn.{Iterate, Line, Opened, stop, go, point_of, report_of, reset, full_relaxation, is_still, stepped, factored, opened, backtracks, merit, is_enough, is_settled}
 use Rattle.search.specs.Written.{Script, ends, asks, due, pay, sound, reach, row_done, values_at, value_at, lower_at, row_at, rows_at, slopes_by, slopes_at, Goal, begun, taken, arrive, trials, onward, turn, body, turns, loop}
 use Rattle.search.specs.Claims.{is_charged}
 

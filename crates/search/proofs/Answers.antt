@@ -1,13 +1,12 @@
 -- What the machine asks under a larger budget, and against an answerer.
-use Prim.Native.Nat.{ℕ, zero, suc, ◌≤◌}
+use Prim.Native.Nat.{ℕ, zero, suc}
 use mathlib.Core.Path.{◌≡◌, refl, sym, ap, ◌∙◌, subst}
 use mathlib.Core.List.{List, [], ◌∷◌, map}
 use mathlib.Core.Option.{Option, none, some}
 use lib.ListN.{take, get_elem?}
 use lib.Ieee.{Float}
-use Rattle.search.specs.Setup.{Setup, Report, Question, Ending, converged, infeasible, exhausted, nonfinite}
+use Rattle.search.specs.Setup.{Report, Question, Ending, converged, infeasible, exhausted, nonfinite}
 use Rattle.search.specs.Written.{Script, ends, asks, Standing, over, waits, written, stands, follow, follow_all, play}
-use Rattle.search.specs.Machine.{begin, tell_all, standing}
 use Rattle.search.specs.Claims.{BeginsEnd, Begins, SameQuestion, Answered}
 use Rattle.search.proofs.Budgets.{larger-budget}
 use Rattle.search.proofs.Machines.{step-for-step}

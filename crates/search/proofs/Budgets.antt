@@ -1,13 +1,13 @@
 -- The loop is its own body, a larger budget changes no earlier question, and no more than the budget is spent.
 use Prim.Native.Nat.{ℕ, zero, suc, ◌≤◌, ◌<◌}
-use mathlib.Core.Path.{◌≡◌, refl, sym, ap, ◌∙◌, subst, fun_ext}
+use mathlib.Core.Path.{◌≡◌, refl, sym, ap, subst, fun_ext}
 use mathlib.Core.Bool.{Bool, true, false, cond}
 use mathlib.Core.List.{List}
 use native.Mathlib.Omega.{arith}
 use lib.Ieee.{Float}
-use Rattle.search.specs.Setup.{Setup, Point, Report, Question, values, Ending, converged, infeasible, exhausted, nonfinite, are_finite}
-use Rattle.search.specs.Turn.{Iterate, clipped, point_of, blank}
-use Rattle.search.specs.Written.{Script, ends, asks, due, sound, body, turns, loop, written, Transcript, play}
+use Rattle.search.specs.Setup.{Setup, Report, Question, values, Ending, converged, infeasible, exhausted, nonfinite, are_finite}
+use Rattle.search.specs.Turn.{clipped, point_of, blank}
+use Rattle.search.specs.Written.{Script, ends, asks, due, turns, loop, written, Transcript, play}
 use Rattle.search.specs.Claims.{Unrolls, BeginsEnd, Begins, LargerBudget, is_charged, spent, Charged}
 use Rattle.search.proofs.Agree.{IsQuiet, Relation, bodies, fueled, starts}
 

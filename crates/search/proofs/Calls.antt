@@ -28,7 +28,7 @@ use Rattle.search.specs.Setup.{Setup, is_budget, is_scheme, are_kinds, Question}
 use Rattle.search.specs.Written.{Script, ends, asks, Standing, over, waits, written, stands, follow, play}
 use Rattle.search.specs.Turn.{along, raise, lower}
 use Rattle.search.specs.Machine.{Machine, ended, starting, trying, sloping, raised, lowered, begin, tell, tell_all, standing}
-use Rattle.search.specs.Layout.{setup_in, machine_in, laid, setup_floats, setup_words, machine_floats, machine_words, FitsPoint, Fits, Posed, Holds}
+use Rattle.search.specs.Layout.{setup_in, machine_in, laid, setup_floats, setup_words, machine_floats, machine_words, Fits, Posed, Holds}
 use Rattle.search.specs.Promise.{are_ordered, heard, tell_in, tell_call, is_wanted, is_waiting, floats_of, words_of, wanted, call_outcome, Runs}
 use Rattle.search.specs.Calls.{hears, hears_all, Slices, told_once, told_all, ReadsPoint, BeginsDone, Sound, BegunSound, OverCalls, Stands, CallsAnswered, is_silent, NoQuestion, OneAnswer, BoundsFirst}
 use Rattle.search.proofs.Machines.{script, told-alike, stands_alike, begins-alike}

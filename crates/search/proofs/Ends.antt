@@ -1,13 +1,13 @@
 -- What a run reports at its end: x is inside the bounds, and where it converged every violation is below the tolerance.
-use Prim.Native.Nat.{ℕ, zero, suc, ◌+◌, ◌-◌, ◌≤◌, ◌<◌}
+use Prim.Native.Nat.{ℕ, zero, suc, ◌-◌, ◌<◌}
 use mathlib.Core.Path.{◌≡◌, refl, sym, ap, ◌∙◌, subst}
 use mathlib.Core.Bool.{Bool, true, false, cond, ◌&&◌, not, true≢false}
-use mathlib.Core.List.{List, [], ◌∷◌, ◌++◌}
-use mathlib.Core.Logic.{◌⊎◌, ⊎_elim}
-use mathlib.Core.Option.{Option, none, some}
+use mathlib.Core.List.{List, [], ◌∷◌}
+use mathlib.Core.Logic.{⊎_elim}
+use mathlib.Core.Option.{some}
 use native.Mathlib.Omega.{arith}
 use lib.Dec.{T, eqb}
-use lib.ListN.{length, get_or, replicate}
+use lib.ListN.{length}
 use lib.Ieee.{Float, nan, inf, fin, lt, le, eq, neg, is_nan}
 use Rattle.numbers.specs.Numbers.{+0, one, ◌⊕◌, ◌⊖◌, at, nth, tab, dot}
 use Rattle.numbers.proofs.Cases.{last-or-before}
@@ -15,21 +15,20 @@ use Rattle.numbers.proofs.Lists.{get_d-tab}
 use Rattle.numbers.proofs.Order.{lt-between, lt-asym}
 use Rattle.workspace.proofs.Tests.{and-true}
 use Rattle.workspace.specs.Tables.{Answer, done, refused}
-use Rattle.nnls.specs.Counted.{Counted}
 use Rattle.nnls.proofs.Signs.{T→true}
 use Rattle.hessian.specs.Hessian.{identity, cholesky}
 use Rattle.step.specs.Step.{Step, step}
-use Rattle.search.specs.Setup.{Setup, Scheme, told, forward, central, Point, Report, Question, values, slopes, single, Ending, converged, infeasible, exhausted, nonfinite, is_finite, are_finite}
-use Rattle.search.specs.Turn.{Iterate, Line, Opened, stop, go, magnitude, larger, violation, violations, largest, max_violation, clipped, point_of, unknown, report_of, blank, first, reset, model_of, complementarity, full_relaxation, with_step, penalties, line_of, is_still, stepped, factored, opened, backtracks, along, merit, is_enough, shorter, moved, is_settled, raise, lower, quotient}
-use Rattle.search.specs.Written.{Script, ends, asks, due, pay, sound, reach, values_at, value_at, lower_at, row_at, row_done, rows_at, slopes_by, slopes_at, Goal, begun, taken, arrive, trials, onward, turn, body, turns, loop, written, Standing, over, waits, stands, follow, follow_all}
+use Rattle.search.specs.Setup.{Setup, Scheme, told, forward, central, Point, Report, Ending, converged, infeasible, exhausted, nonfinite, is_finite, are_finite}
+use Rattle.search.specs.Turn.{Iterate, Line, Opened, stop, go, magnitude, larger, violation, violations, largest, max_violation, clipped, point_of, unknown, report_of, blank, first, reset, model_of, complementarity, full_relaxation, with_step, penalties, line_of, is_still, stepped, factored, opened, backtracks, along, merit, is_enough, shorter, moved, is_settled, raise, lower}
+use Rattle.search.specs.Written.{Script, ends, asks, due, pay, values_at, value_at, lower_at, row_at, row_done, rows_at, slopes_by, taken, arrive, trials, onward, turn, body, turns, loop, written, over, stands, follow, follow_all}
 use Rattle.search.specs.Machine.{Machine, ended, begin, tell, tell_all, standing}
-use Rattle.search.specs.Layout.{ending_number, machine_in, FitsPoint, Fits, Holds}
+use Rattle.search.specs.Layout.{ending_number, Fits}
 use Rattle.search.specs.Claims.{IsInside}
 use Rattle.search.specs.Promise.{is_wanted, is_waiting}
-use Rattle.search.specs.Calls.{hears, hears_all, Slices, told_all, BeginsDone, Sound, ReportIs, EndsWell}
+use Rattle.search.specs.Calls.{hears_all, EndsWell}
 use Rattle.search.proofs.Machines.{step-for-step}
 use Rattle.search.proofs.Inside.{stays-inside}
-use Rattle.search.proofs.Calls.{Kept, begun-sound, kept-all}
+use Rattle.search.proofs.Calls.{begun-sound, kept-all}
 
 -- ---- every end of a script
 

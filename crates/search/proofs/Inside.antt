@@ -1,14 +1,10 @@
 -- Points stay inside their bounds.
-use Prim.Native.Nat.{ℕ}
 use mathlib.Core.Path.{◌≡◌, refl, sym, subst}
 use mathlib.Core.Bool.{Bool, true, false, cond}
-use mathlib.Core.List.{List}
 use lib.Ieee.{Float, nan, lt}
-use Rattle.numbers.specs.Numbers.{at, tab}
 use Rattle.numbers.proofs.Lists.{get_d-tab}
 use Rattle.numbers.proofs.Order.{lt_irrefl}
-use Rattle.search.specs.Setup.{Setup}
-use Rattle.search.specs.Turn.{Iterate, Line, clip, clipped, along}
+use Rattle.search.specs.Turn.{clip, clipped, along}
 use Rattle.search.specs.Claims.{IsInside, StaysInside}
 
 clip-inside : (l u x : Float) (a b : Bool) → lt x l ≡ a → lt u x ≡ b → lt u l ≡ false

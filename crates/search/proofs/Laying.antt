@@ -1,5 +1,5 @@
 -- Laying a list over a part of another, and reading parts.
-use Prim.Native.Nat.{ℕ, zero, suc, ◌+◌, ◌-◌, ◌*◌, ◌≤◌, ◌<◌}
+use Prim.Native.Nat.{ℕ, zero, suc, ◌+◌, ◌-◌, ◌≤◌, ◌<◌}
 use mathlib.Core.Path.{◌≡◌, refl, sym, ap, ◌∙◌}
 use mathlib.Core.List.{List, [], ◌∷◌}
 use mathlib.Core.Logic.{◌⊎◌, inl, inr}
@@ -10,7 +10,7 @@ use lib.ListN.{length, get_or}
 use lib.Ieee.{Float, nan}
 use Rattle.numbers.specs.Numbers.{at, tab}
 use Rattle.numbers.proofs.Lists.{length-tab, get_d-tab, tab-same, tab-of}
-use Rattle.workspace.specs.Readings.{vec, nums, Written, Block}
+use Rattle.workspace.specs.Readings.{vec, nums, Written}
 use Rattle.search.specs.Layout.{fronted, laid}
 
 -- ---- laying

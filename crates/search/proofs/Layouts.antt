@@ -1,26 +1,26 @@
 -- A machine that is written into its slices is read again, with its problem.
-use Prim.Native.Nat.{ℕ, zero, suc, ◌+◌, ◌-◌, ◌*◌, ◌≤◌, ◌<◌}
+use Prim.Native.Nat.{ℕ, suc, ◌+◌, ◌-◌, ◌*◌, ◌≤◌, ◌<◌}
 use mathlib.Core.Path.{◌≡◌, refl, sym, ap, ap₂, ◌∙◌, subst}
 use mathlib.Core.Bool.{Bool, true, false, cond, ◌&&◌}
 use mathlib.Core.List.{List, [], ◌∷◌}
 use mathlib.Core.Option.{Option, none, some}
-use native.Mathlib.Nat.{zero-add, suc-add, suc-mul, mul-le-mul_left, mul-le-mul_right}
+use native.Mathlib.Nat.{suc-mul, mul-le-mul_left, mul-le-mul_right}
 use native.Mathlib.Omega.{arith}
 use lib.Dec.{T, leb, eqb, le→leb, leb→le}
-use lib.ListN.{length, get_or, set, replicate, length-set, length-replicate}
+use lib.ListN.{length, set, replicate, length-set, length-replicate}
 use lib.Ieee.{Float, nan}
-use Rattle.numbers.specs.Numbers.{+0, at, nth, tab}
-use Rattle.numbers.proofs.Lists.{length-tab, get_d-tab, tab-same, tab-of}
+use Rattle.numbers.specs.Numbers.{+0, at, nth}
+use Rattle.numbers.proofs.Lists.{length-tab}
 use Rattle.nnls.proofs.Signs.{T→true}
 use Rattle.search.proofs.Laying.{size, laid_in, laid-below, laid-above, vec-below, vec-above, vec_laid, nums-above, nums-here}
 use Rattle.search.proofs.Reported.{report-read}
 use Rattle.workspace.specs.Tables.{is_dimension, is_constraints}
 use Rattle.workspace.specs.Readings.{vec, nums}
-use Rattle.search.specs.Setup.{Setup, is_budget, is_scheme, are_kinds, Scheme, told, forward, central, Point, Report, Question, values, slopes, single, Ending, converged, infeasible, exhausted, nonfinite}
-use Rattle.search.specs.Turn.{Iterate, Line, backtracks, point_of, along, raise, lower}
-use Rattle.search.specs.Written.{Goal, begun, taken, Standing, over, waits}
-use Rattle.search.specs.Machine.{Machine, ended, starting, trying, sloping, raised, lowered, standing, report_now}
-use Rattle.search.specs.Layout.{scheme_of, scheme_number, ending_number, bit, setup_in, point_in, new_in, iterate_in, line_in, goal_in, report_in, known, state_in, are_words, machine_in, laid, setup_floats, setup_words, emptied, point_floats, new_floats, iterate_floats, report_floats, goal_floats, state_floats, asked_floats, machine_floats, is_taken, is_fresh, seven, machine_words, FitsPoint, FitsIterate, FitsGoal, Fits, Posed, Holds, Begun, Kept}
+use Rattle.search.specs.Setup.{Setup, is_budget, is_scheme, are_kinds, Scheme, told, forward, central, Point, Report, Ending, converged, infeasible, exhausted, nonfinite}
+use Rattle.search.specs.Turn.{Iterate, Line, backtracks, along, raise, lower}
+use Rattle.search.specs.Written.{Goal, begun, taken}
+use Rattle.search.specs.Machine.{Machine, ended, starting, trying, sloping, raised, lowered, report_now}
+use Rattle.search.specs.Layout.{scheme_of, scheme_number, ending_number, bit, setup_in, goal_in, report_in, known, state_in, are_words, machine_in, laid, setup_floats, setup_words, emptied, iterate_floats, report_floats, goal_floats, machine_floats, is_taken, is_fresh, seven, machine_words, FitsPoint, FitsIterate, FitsGoal, Fits, Posed, Holds, Begun, Kept}
 
 -- ---- an iterate
 

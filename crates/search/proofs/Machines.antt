@@ -1,14 +1,14 @@
 -- The machine does what the written loop does, step for step.
-use Prim.Native.Nat.{ℕ, zero, suc, ◌+◌, ◌-◌, ◌≤◌, ◌<◌}
+use Prim.Native.Nat.{ℕ, zero, suc, ◌-◌}
 use mathlib.Core.Path.{◌≡◌, refl, sym, ap, ◌∙◌}
 use mathlib.Core.Bool.{Bool, true, false, cond, not, ◌&&◌}
 use mathlib.Core.List.{List, [], ◌∷◌, ◌++◌}
 use lib.ListN.{set}
 use lib.Ieee.{Float}
 use Rattle.numbers.specs.Numbers.{one, at}
-use Rattle.search.specs.Setup.{Setup, Scheme, told, forward, central, Point, Report, Question, values, slopes, single, Ending, converged, nonfinite, are_finite, is_finite}
-use Rattle.search.specs.Turn.{Iterate, Line, Opened, stop, go, clipped, point_of, report_of, blank, first, reset, opened, backtracks, along, merit, is_enough, shorter, moved, is_settled, raise, lower, quotient}
-use Rattle.search.specs.Written.{Script, ends, asks, due, pay, sound, reach, row_done, values_at, value_at, lower_at, row_at, rows_at, slopes_by, slopes_at, Goal, begun, taken, report_for, arrive, trials, onward, turn, body, loop, written, Standing, stands, follow, follow_all}
+use Rattle.search.specs.Setup.{Setup, Scheme, told, forward, central, Point, Report, values, slopes, single, Ending, converged, nonfinite, are_finite, is_finite}
+use Rattle.search.specs.Turn.{Iterate, Line, Opened, stop, go, point_of, report_of, blank, first, reset, opened, backtracks, along, merit, is_enough, shorter, moved, is_settled, raise, lower, quotient}
+use Rattle.search.specs.Written.{Script, ends, asks, pay, sound, reach, row_done, values_at, value_at, lower_at, row_at, rows_at, slopes_by, slopes_at, Goal, begun, taken, report_for, arrive, trials, onward, turn, body, loop, written, stands, follow, follow_all}
 use Rattle.search.specs.Machine.{Machine, ended, starting, trying, sloping, raised, lowered, try_next, turn_from, turn_next, arrive_next, move_next, slopes_next, refused_next, shorten_next, judge_next, lower_next, tell, begin, tell_all, standing}
 use Rattle.search.specs.Claims.{StepForStep, StaysEnded}
 use Rattle.search.proofs.Budgets.{unrolls}

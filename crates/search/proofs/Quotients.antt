@@ -1,15 +1,15 @@
 -- Slopes by difference are the difference quotients, for both schemes and all sizes.
 use Prim.Native.Nat.{ℕ, zero, suc, ◌+◌, ◌-◌, ◌≤◌, ◌<◌}
 use mathlib.Core.Path.{◌≡◌, refl, sym, ap, ap₂, ◌∙◌, subst}
-use mathlib.Core.Bool.{Bool, true, false, cond, ◌&&◌, true≢false}
+use mathlib.Core.Bool.{Bool, true, false, cond, ◌&&◌}
 use mathlib.Core.List.{List, [], ◌∷◌, ◌++◌, append_assoc, append-nil}
 use native.Mathlib.Omega.{arith}
-use lib.ListN.{set, get_or, length}
+use lib.ListN.{set, get_or}
 use lib.Ieee.{Float, nan}
 use Rattle.numbers.specs.Numbers.{at, tab, rows, grid}
 use Rattle.numbers.proofs.Lists.{get_d-tab}
 use Rattle.step_rows.specs.Problem.{each}
-use Rattle.search.specs.Setup.{Setup, Scheme, told, forward, central, Point, Report, Question, values, slopes, single, Ending, exhausted, nonfinite, is_finite, are_finite}
+use Rattle.search.specs.Setup.{Setup, Scheme, told, forward, central, Point, Report, Question, single, nonfinite, is_finite, are_finite}
 use Rattle.search.specs.Turn.{point_of, raise, lower, quotient}
 use Rattle.search.specs.Written.{Script, due, pay, sound, reach, row_done, value_at, lower_at, row_at, rows_at, slopes_by, slopes_at, Transcript, play}
 use Rattle.search.specs.Written as Written

@@ -1,17 +1,17 @@
 -- What a state reports is read where it was written.
-use Prim.Native.Nat.{ℕ, suc, ◌+◌, ◌*◌, ◌≤◌}
+use Prim.Native.Nat.{ℕ, suc, ◌≤◌}
 use mathlib.Core.Path.{◌≡◌, ◌∙◌}
-use mathlib.Core.List.{List, [], ◌∷◌}
-use mathlib.Core.Logic.{◌⊎◌, inl, inr}
+use mathlib.Core.List.{List}
+use mathlib.Core.Logic.{inl, inr}
 use native.Mathlib.Omega.{arith}
 use lib.ListN.{length}
 use lib.Ieee.{Float}
 use Rattle.workspace.specs.Readings.{vec}
 use Rattle.search.specs.Setup.{Setup, Point, Report}
-use Rattle.search.specs.Turn.{Iterate, Line, report_of, blank, unknown}
+use Rattle.search.specs.Turn.{Iterate, report_of, blank, unknown}
 use Rattle.search.specs.Written.{Goal, begun, taken, report_for}
 use Rattle.search.specs.Machine.{Machine, ended, starting, trying, sloping, raised, lowered, report_now}
-use Rattle.search.specs.Layout.{laid, emptied, known, report_in, report_floats, iterate_floats, goal_floats, machine_floats, FitsPoint, FitsIterate, FitsGoal, Fits}
+use Rattle.search.specs.Layout.{laid, emptied, report_in, report_floats, iterate_floats, goal_floats, machine_floats, FitsPoint, FitsIterate, FitsGoal, Fits}
 use Rattle.search.proofs.Laying.{size, vec-below, vec-above, vec_laid, Apart, vec-apart}
 use Rattle.search.proofs.Turns.{FitsReport, blank-fits, unknown-fits}
 

@@ -3,7 +3,7 @@ use Prim.Native.Nat.{ℕ, zero, suc, ◌+◌, ◌*◌, ◌≤◌, ◌<◌}
 use mathlib.Core.Path.{◌≡◌, refl, sym, ap, ◌∙◌, subst}
 use mathlib.Core.Bool.{Bool, true, false, cond}
 use mathlib.Core.List.{List, [], ◌∷◌}
-use mathlib.Core.Logic.{◌⊎◌, inl, inr}
+use mathlib.Core.Logic.{inl, inr}
 use native.Mathlib.Omega.{arith}
 use lib.Dec.{eqb}
 use lib.ListN.{length, replicate, length-replicate}
@@ -12,8 +12,8 @@ use Rattle.numbers.specs.Numbers.{+0, at, nth, tab, ◌⊕◌, ◌⊗◌}
 use Rattle.numbers.proofs.Lists.{get_d-tab, tab-same}
 use Rattle.workspace.specs.Readings.{vec, nums}
 use Rattle.workspace.proofs.Readings.{length-vec}
-use Rattle.search.proofs.Laying.{size, length-laid, laid_in, laid-below, laid-above, vec-below, vec-above, vec_laid, Apart, vec-apart, laid-again}
-use Rattle.search.proofs.Layouts.{bounds, seven-length, is_one, iterate-size, iterate-SL, iterate-B, iterate-PE, iterate-MU, iterate-PX, iterate-PV}
+use Rattle.search.proofs.Laying.{size, length-laid, laid-below, laid-above, vec-below, vec-above, Apart, vec-apart, laid-again}
+use Rattle.search.proofs.Layouts.{bounds, seven-length, is_one, iterate-SL, iterate-B, iterate-PE, iterate-MU, iterate-PX, iterate-PV}
 use Rattle.search.proofs.Relaid.{more, iterate-again}
 use Rattle.search.specs.Setup.{Setup, are_kinds, Ending}
 use Rattle.search.specs.Turn.{Iterate, point_of, along, clip}

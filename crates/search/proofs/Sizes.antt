@@ -1,6 +1,6 @@
 -- A machine that fits its slices fits them after every answer of the right length.
 use Prim.Native.Nat.{ℕ, zero, suc, ◌+◌, ◌-◌, ◌*◌, ◌≤◌, ◌<◌}
-use mathlib.Core.Path.{◌≡◌, refl, sym, ap, ◌∙◌, subst}
+use mathlib.Core.Path.{◌≡◌, ap}
 use mathlib.Core.Bool.{Bool, true, false, cond}
 use mathlib.Core.List.{List, [], ◌∷◌, ◌++◌}
 use native.Mathlib.Nat.{suc-mul}
@@ -8,17 +8,17 @@ use native.Mathlib.Omega.{arith}
 use lib.Dec.{T, eqb, eqb→eq}
 use lib.ListN.{length, replicate, length-replicate, length-append}
 use lib.Ieee.{Float, nan, le}
-use Rattle.numbers.specs.Numbers.{+0, at, tab, one}
+use Rattle.numbers.specs.Numbers.{+0, at, one}
 use Rattle.numbers.proofs.Lists.{length-tab}
 use Rattle.workspace.specs.Tables.{Answer, done, refused}
 use Rattle.hessian.proofs.Lengths.{length-identity, length-update}
 use Rattle.step.specs.Step.{Step}
 use Rattle.search.specs.Setup.{Setup, Scheme, told, forward, central, Point, Report, Ending, are_finite, is_finite}
-use Rattle.search.specs.Turn.{Iterate, Line, Opened, stop, go, clipped, point_of, unknown, report_of, blank, first, reset, full_relaxation, penalties, line_of, is_still, stepped, factored, opened, backtracks, along, merit, is_enough, shorter, moved, is_settled, raise, lower, quotient}
-use Rattle.search.specs.Written.{Goal, begun, taken, report_for, due, pay, sound, reach, row_done, arrive}
+use Rattle.search.specs.Turn.{Iterate, Line, Opened, stop, go, clipped, point_of, report_of, blank, first, reset, full_relaxation, penalties, line_of, is_still, stepped, factored, opened, backtracks, along, merit, is_enough, moved, is_settled, raise, lower}
+use Rattle.search.specs.Written.{Goal, begun, taken, report_for, due, pay, row_done}
 use Rattle.search.specs.Machine.{Machine, ended, starting, trying, sloping, raised, lowered, try_next, turn_from, turn_next, arrive_next, move_next, slopes_next, refused_next, shorten_next, judge_next, lower_next, tell, begin, standing}
-use Rattle.search.specs.Layout.{known, FitsPoint, FitsIterate, FitsGoal, Fits, Posed}
-use Rattle.search.specs.Promise.{wanted, is_wanted}
+use Rattle.search.specs.Layout.{known, FitsPoint, FitsIterate, FitsGoal, Fits}
+use Rattle.search.specs.Promise.{is_wanted}
 use Rattle.search.proofs.Turns.{FitsReport}
 
 module _ (p : Setup) where

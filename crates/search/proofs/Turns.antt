@@ -12,7 +12,7 @@ use Rattle.numbers.proofs.Lists.{length-tab}
 use Rattle.search.proofs.Laying.{length-laid, laid_in, laid-below, laid-above, same_entries, Where, before, inside, behind, where-is}
 use Rattle.search.specs.Setup.{Setup, Scheme, told, forward, central, Point, Report, Ending, exhausted, nonfinite, is_finite, are_finite}
 use Rattle.search.specs.Turn.{Iterate, Line, unknown, report_of, blank, along, raise}
-use Rattle.search.specs.Written.{Goal, begun, taken, report_for, due, pay, sound, reach, row_done}
+use Rattle.search.specs.Written.{Goal, begun, taken, report_for, due, pay, reach, row_done}
 use Rattle.search.specs.Machine.{Machine, ended, starting, trying, sloping, raised, lowered, move_next, slopes_next}
 use Rattle.search.specs.Layout.{laid, emptied, known, report_floats, iterate_floats, goal_floats, machine_floats, FitsPoint, FitsIterate, FitsGoal}
 

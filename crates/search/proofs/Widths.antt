@@ -1,16 +1,15 @@
 -- The step of a turn does not read the widths.
 use mathlib.Core.Path.{◌≡◌, refl, sym, ap, ◌∙◌}
-use mathlib.Core.Bool.{Bool, true, ◌&&◌}
+use mathlib.Core.Bool.{Bool, ◌&&◌}
 use mathlib.Core.List.{List, [], ◌∷◌}
 use Prim.Native.Nat.{ℕ}
 use lib.Dec.{leb}
 use lib.ListN.{replicate}
-use lib.Ieee.{Float}
 use Rattle.numbers.specs.Numbers.{+0}
 use Rattle.step_call.specs.NoBands as NoBands
 use Rattle.step_call.proofs.Before.{as_before}
-use Rattle.search.specs.Setup.{Setup, are_kinds}
-use Rattle.search.specs.Turn.{Iterate, model_of}
+use Rattle.search.specs.Setup.{are_kinds}
+use Rattle.search.specs.Turn.{model_of}
 use Rattle.search.specs.Claims.{NoWidths}
 
 no-bands : (ks : List ℕ) → NoBands.are_kinds ks ≡ are_kinds ks

@@ -6,13 +6,12 @@ use Rattle.std.specs.Float.Ieee.{lt}
 use Rattle.numbers.specs.Numbers.{at}
 use Rattle.workspace.specs.Tables.{done}
 use Rattle.hessian.specs.Hessian.{identity, cholesky}
-use Rattle.nnls.specs.Counted.{Counted}
-use Rattle.step.specs.Step.{Step, step}
+use Rattle.step.specs.Step.{step}
 use Rattle.step_call.specs.Claims.{with_widths}
 use Rattle.search.specs.Setup.{Setup, are_kinds, Report, Question, values, slopes, single, Ending, converged, infeasible, exhausted, nonfinite}
 use Rattle.search.specs.Turn.{Iterate, Line, model_of, clipped, along}
-use Rattle.search.specs.Written.{Script, ends, asks, Standing, over, waits, body, loop, written, stands, follow_all, play}
-use Rattle.search.specs.Machine.{Machine, ended, begin, tell, tell_all, standing}
+use Rattle.search.specs.Written.{Script, ends, asks, over, waits, body, loop, written, stands, follow_all, play}
+use Rattle.search.specs.Machine.{ended, begin, tell_all, standing}
 
 -- The loop is its own body with itself as what comes next: the fuel of `turns` never shows.
 abbrev pub Unrolls : Type 0

@@ -1,8 +1,8 @@
 -- Slopes by difference: what they are, what is asked for them and what that costs, for both schemes and all sizes. Definitions only.
-use Rattle.std.specs.Prelude.{ℕ, zero, suc, ◌+◌, ◌<◌, ◌≡◌, false, List, [], ◌∷◌, ◌++◌, length, set, Float}
+use Rattle.std.specs.Prelude.{ℕ, suc, ◌+◌, ◌<◌, ◌≡◌, false, List, [], ◌∷◌, ◌++◌, set, Float}
 use Rattle.numbers.specs.Numbers.{at, tab, grid}
 use Rattle.step_rows.specs.Problem.{each}
-use Rattle.search.specs.Setup.{Setup, Scheme, told, forward, central, Point, Report, Question, values, slopes, single, Ending, exhausted, nonfinite, are_finite}
+use Rattle.search.specs.Setup.{Setup, Scheme, told, forward, central, Report, Question, values, slopes, single, exhausted, nonfinite, are_finite}
 use Rattle.search.specs.Turn.{point_of, raise, lower, quotient}
 use Rattle.search.specs.Written.{Script, Transcript, play, slopes_at}
 

@@ -5,7 +5,7 @@ use Rattle.numbers.specs.Numbers.{+0, at, nth}
 use Rattle.workspace.specs.Tables.{is_dimension, is_constraints}
 use Rattle.workspace.specs.Readings.{vec, nums}
 use Rattle.search.specs.Places.{MOST_VALUES, PHASE_CONVERGED, PHASE_EXHAUSTED, PHASE_INFEASIBLE, PHASE_LOWERED, PHASE_NONFINITE, PHASE_RAISED, PHASE_SLOPES, PHASE_START, PHASE_TRIAL, SCHEME_CENTRAL, SCHEME_FORWARD, SCHEME_TOLD, SEARCH_AFTER, SEARCH_AGAIN, SEARCH_ALL_SLOPES, SEARCH_ALPHA, SEARCH_ASKED, SEARCH_B, SEARCH_CONSTRAINTS, SEARCH_COORDINATES, SEARCH_D, SEARCH_FRESH, SEARCH_KINDS, SEARCH_LEFT, SEARCH_LOWER, SEARCH_MACHINE, SEARCH_MERIT, SEARCH_MULTIPLIERS, SEARCH_NEW_SLOPES, SEARCH_NEW_VALUES, SEARCH_NEW_X, SEARCH_PENALTIES, SEARCH_POINT, SEARCH_RAISED_VALUE, SEARCH_SCHEME, SEARCH_SLOPE, SEARCH_TAKEN, SEARCH_TOLERANCE, SEARCH_UPPER, SEARCH_VALUES, SEARCH_VARIABLES, SEARCH_WORDS, SEARCH_X}
-use Rattle.search.specs.Setup.{Setup, is_budget, is_scheme, are_kinds, Scheme, told, forward, central, Point, Report, Question, values, slopes, single, Ending, converged, infeasible, exhausted, nonfinite}
+use Rattle.search.specs.Setup.{Setup, is_budget, is_scheme, are_kinds, Scheme, told, forward, central, Point, Report, values, slopes, single, Ending, converged, infeasible, exhausted, nonfinite}
 use Rattle.search.specs.Turn.{Iterate, Line, backtracks, point_of, unknown, report_of, blank}
 use Rattle.search.specs.Written.{Goal, begun, taken, Standing, over, waits}
 use Rattle.search.specs.Machine.{Machine, ended, starting, trying, sloping, raised, lowered, standing, report_now}

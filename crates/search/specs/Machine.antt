@@ -1,8 +1,7 @@
 -- The search as a machine: its states, and what each call makes of what it is told. Definitions only.
-use Rattle.std.specs.Prelude.{ℕ, zero, suc, ◌+◌, ◌-◌, Bool, true, false, cond, List, [], ◌∷◌, ◌++◌, set, Float}
-use Rattle.std.specs.Float.{nan}
+use Rattle.std.specs.Prelude.{ℕ, zero, suc, ◌-◌, Bool, true, false, cond, List, [], ◌∷◌, ◌++◌, set, Float}
 use Rattle.numbers.specs.Numbers.{one, at}
-use Rattle.search.specs.Setup.{Setup, Scheme, told, forward, central, Point, Report, Question, values, slopes, single, Ending}
+use Rattle.search.specs.Setup.{Setup, Scheme, told, forward, central, Point, Report, values, slopes, single, Ending}
 use Rattle.search.specs.Turn.{Iterate, Line, Opened, stop, go, clipped, point_of, unknown, report_of, blank, reset, opened, backtracks, along, merit, is_enough, shorter, raise, lower, quotient}
 use Rattle.search.specs.Written.{Goal, begun, taken, report_for, due, pay, sound, reach, row_done, arrive, Standing, over, waits}
 

@@ -1,10 +1,9 @@
 -- What a turn of the search computes between its questions (docs/RULES.md, "The search"; Powell 1978). Definitions only.
-use Rattle.std.specs.Prelude.{ℕ, zero, suc, ◌+◌, ◌-◌, ◌*◌, ◌^◌, Bool, true, false, cond, ◌&&◌, List, [], ◌∷◌, eqb, replicate, Float}
+use Rattle.std.specs.Prelude.{ℕ, zero, suc, ◌+◌, ◌*◌, ◌^◌, Bool, true, false, cond, ◌&&◌, List, eqb, replicate, Float}
 use Rattle.std.specs.Float.{nan}
 use Rattle.std.specs.Float.Ieee.{lt, le, eq, neg, is_nan}
 use Rattle.numbers.specs.Numbers.{+0, near, one, ◌⊕◌, ◌⊖◌, ◌⊗◌, ◌⊘◌, Σ, at, nth, tab, dot, entry}
 use Rattle.workspace.specs.Tables.{Answer, done, refused}
-use Rattle.nnls.specs.Counted.{Counted}
 use Rattle.hessian.specs.Hessian.{identity, cholesky, update}
 use Rattle.step_rows.specs.Problem.{Problem}
 use Rattle.step.specs.Step.{Step, step}

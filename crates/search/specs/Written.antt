@@ -1,6 +1,5 @@
 -- The written loop (docs/RULES.md, "The search"), as the questions it asks and what it does with the answers. Definitions only.
-use Rattle.std.specs.Prelude.{ℕ, zero, suc, ◌+◌, ◌-◌, Bool, true, false, cond, ◌&&◌, not, List, [], ◌∷◌, ◌++◌, set, Float}
-use Rattle.std.specs.Float.{nan}
+use Rattle.std.specs.Prelude.{ℕ, zero, suc, ◌-◌, Bool, true, false, cond, ◌&&◌, not, List, [], ◌∷◌, ◌++◌, set, Float}
 use Rattle.numbers.specs.Numbers.{one, at}
 use Rattle.search.specs.Setup.{Setup, Scheme, told, forward, central, Point, Report, Question, values, slopes, single, Ending, converged, exhausted, nonfinite, is_finite, are_finite}
 use Rattle.search.specs.Turn.{Iterate, Line, Opened, stop, go, clipped, point_of, unknown, report_of, blank, first, reset, opened, backtracks, along, merit, is_enough, shorter, moved, is_settled, raise, lower, quotient}

@@ -3,7 +3,7 @@ use mathlib.Core.Path.{◌≡◌, refl, sym, ap, ◌∙◌}
 use mathlib.Core.Bool.{Bool, true, false, cond, not, ◌&&◌, true≢false}
 use mathlib.Core.List.{List, [], ◌∷◌}
 use mathlib.Core.Option.{Option, none, some}
-use Prim.Native.Nat.{ℕ, zero, suc, ◌*◌, ◌≤◌, ◌<◌}
+use Prim.Native.Nat.{ℕ, zero, suc, ◌≤◌, ◌<◌}
 use native.Mathlib.Omega.{arith}
 use lib.Dec.{leb, eqb}
 use lib.ListN.{length}
@@ -20,7 +20,7 @@ use Rattle.workspace.proofs.Tests.{and-true, dimension-le, dimension-ge, constra
 use Rattle.search.specs.Setup.{Setup, is_budget, is_scheme, are_kinds, Report, Ending, converged, infeasible, exhausted, nonfinite}
 use Rattle.search.specs.Written.{Standing, over, waits}
 use Rattle.search.specs.Machine.{Machine, ended, starting, trying, sloping, raised, lowered, begin, tell, standing}
-use Rattle.search.specs.Layout.{laid, fronted, setup_in, state_in, are_words, machine_in, machine_words, Posed}
+use Rattle.search.specs.Layout.{laid, fronted, setup_in, state_in, are_words, machine_in, machine_words}
 use Rattle.search.specs.Promise.{setup_of, is_wanted, is_waiting, tell_in, tell_call, state_outcome, Runs}
 use Rattle.search.specs.Calls.{is_silent}
 use Rattle.search_next.specs.inner.Next.{wanted_at, Heard, Told}

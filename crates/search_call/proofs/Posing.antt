@@ -1,11 +1,11 @@
 -- The problem in slices that are otherwise zero.
 use mathlib.Core.Path.{◌≡◌, refl, sym, ap, ◌∙◌}
 use mathlib.Core.List.{List, [], ◌∷◌, append-nil}
-use Prim.Native.Nat.{ℕ, zero, suc, ◌+◌, ◌≤◌, ◌<◌}
+use Prim.Native.Nat.{ℕ, zero, suc, ◌+◌, ◌≤◌}
 use native.Mathlib.Omega.{arith}
-use lib.ListN.{length, set, replicate, drop, drop_of_length-le, length-replicate}
+use lib.ListN.{length, set, replicate, drop_of_length-le}
 use lib.Ieee.{Float, nan, binary64, of_bits, div}
-use Rattle.numbers.specs.Numbers.{+0, at, nth, tab}
+use Rattle.numbers.specs.Numbers.{+0, at, nth}
 use Rattle.numbers.proofs.Lists.{tab-of, tab-replicate}
 use Rattle.workspace.specs.Tables.{cleared}
 use Rattle.workspace.specs.Readings.{vec, Block, Span}

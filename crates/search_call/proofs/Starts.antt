@@ -1,18 +1,18 @@
 -- The state that a search begins in, as it is written over slices that hold the problem alone.
 use mathlib.Core.Path.{◌≡◌, refl, sym, ap, ◌∙◌, subst}
-use mathlib.Core.Bool.{Bool, true, false}
+use mathlib.Core.Bool.{true, false}
 use mathlib.Core.List.{List, [], ◌∷◌}
-use Prim.Native.Nat.{ℕ, zero, suc, ◌+◌, ◌-◌, ◌≤◌, ◌<◌}
+use Prim.Native.Nat.{ℕ, zero, suc, ◌+◌, ◌-◌, ◌≤◌}
 use native.Mathlib.Omega.{arith}
 use lib.ListN.{length, set, replicate, get_or-replicate, length-replicate}
 use lib.Ieee.{Float, nan}
-use Rattle.numbers.specs.Numbers.{+0, at, tab}
+use Rattle.numbers.specs.Numbers.{+0}
 use Rattle.numbers.proofs.Lists.{length-tab, tab-same, tab-replicate}
 use Rattle.workspace.specs.declared.Refusal.TheVariants.{Nonfinite}
 use Rattle.workspace.specs.declared.Outcome.TheVariants.{Done, Refused}
 use Rattle.workspace.specs.Readings.{vec}
 use Rattle.search.specs.Setup.{Setup, Ending, exhausted, nonfinite, are_finite}
-use Rattle.search.specs.Turn.{clip, clipped, unknown, blank}
+use Rattle.search.specs.Turn.{clipped, unknown, blank}
 use Rattle.search.specs.Machine.{Machine, ended, starting, begin}
 use Rattle.search.specs.Layout.{ending_number, laid, fronted, setup_floats, setup_words, emptied, report_floats, machine_floats, machine_words, Posed}
 use Rattle.search.specs.Promise.{state_outcome, end_outcome}

@@ -1,13 +1,13 @@
 -- What the parts of an iterate are, and that writing them one after the other writes it whole.
-use mathlib.Core.Path.{◌≡◌, refl, sym, ap, ap₂, ◌∙◌}
+use mathlib.Core.Path.{◌≡◌, sym, ap, ap₂, ◌∙◌}
 use mathlib.Core.List.{List, ◌++◌}
-use Prim.Native.Nat.{ℕ, zero, suc, ◌+◌, ◌*◌, ◌≤◌, ◌<◌}
+use Prim.Native.Nat.{ℕ, suc, ◌+◌, ◌*◌, ◌≤◌, ◌<◌}
 use native.Mathlib.Omega.{arith}
 use lib.ListN.{length, replicate, take, length-append}
 use lib.Seq.{take_at}
 use lib.Ieee.{Float, nan}
 use Rattle.numbers.specs.Numbers.{+0, at, nth, tab, ◌⊖◌, ◌⊗◌}
-use Rattle.numbers.proofs.Lists.{get_d-tab, tab-same, length-tab, tab-replicate, row_fits, index-lt}
+use Rattle.numbers.proofs.Lists.{get_d-tab, tab-same, length-tab, row_fits, index-lt}
 use Rattle.workspace.specs.Readings.{vec, Block}
 use Rattle.workspace.proofs.Readings.{length-vec}
 use Rattle.hessian.specs.Hessian.{identity, update}

@@ -18,7 +18,7 @@ use Rattle.search_open.proofs.After.{reads-after}
 use Rattle.search.specs.Setup.{Setup, Point, converged, infeasible}
 use Rattle.search.specs.Turn.{Iterate, Line, Opened, first, reset, opened, backtracks, merit, is_enough, shorter, moved, is_settled}
 use Rattle.search.specs.Machine.{Machine, try_next, turn_next, judge_next, shorten_next, refused_next}
-use Rattle.search.specs.Layout.{bit, laid, setup_in, new_in, iterate_in, line_in, report_in, known, iterate_floats}
+use Rattle.search.specs.Layout.{bit, laid, setup_in, new_in, iterate_in, line_in, report_in, iterate_floats}
 use Rattle.search.specs.inner.Work.{Ready, Turned, fresh_words, opened_floats, opened_words}
 use Rattle.search.proofs.Laying.{size, laid_in, laid-below, vec-below, laid-again}
 use Rattle.search.proofs.Layouts.{bounds, bit-few}

@@ -1,5 +1,5 @@
 -- What is read of the slices is as long as it is to be, and as many as n and m say.
-use Prim.Native.Nat.{ℕ, suc, ◌-◌, ◌*◌}
+use Prim.Native.Nat.{ℕ, suc, ◌*◌}
 use mathlib.Core.Path.{refl, ap, ◌∙◌, subst}
 use mathlib.Core.Bool.{Bool, true, false, cond}
 use mathlib.Core.List.{List}

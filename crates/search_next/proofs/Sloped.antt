@@ -15,7 +15,7 @@ use Rattle.numbers.specs.Numbers.{at, nth, tab, ◌⊕◌, ◌⊖◌}
 use Rattle.numbers.proofs.Lists.{get_d-tab, tab-more, tab-same, tab-of}
 use Rattle.workspace.specs.Readings.{vec, Block}
 use Rattle.workspace.proofs.Readings.{length-vec}
-use Rattle.search.specs.Setup.{Setup, told, Point, Report, nonfinite, are_finite}
+use Rattle.search.specs.Setup.{Setup, Point, Report, nonfinite, are_finite}
 use Rattle.search.specs.Turn.{move_of, raise, lower, quotient}
 use Rattle.search.specs.Written.{Goal, report_for, row_done}
 use Rattle.search.specs.Machine.{Machine, ended, raised, lowered, move_next, lower_next}

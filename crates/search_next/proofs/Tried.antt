@@ -10,7 +10,7 @@ use Rattle.numbers.proofs.Lists.{tab-same}
 use Rattle.workspace.specs.Readings.{vec}
 use Rattle.hessian.specs.Hessian.{cholesky}
 use Rattle.search.specs.Setup.{Setup, Report, Ending, exhausted}
-use Rattle.search.specs.Turn.{Iterate, Line, Opened, stop, go, report_of, opened, backtracks, along, clip, merit}
+use Rattle.search.specs.Turn.{Iterate, Line, Opened, stop, go, report_of, opened, backtracks, along, clip}
 use Rattle.search.specs.Written.{due}
 use Rattle.search.specs.Machine.{Machine, ended, trying, try_next, turn_from, turn_next}
 use Rattle.search.specs.Layout.{ending_number, bit, laid, setup_in, iterate_in, line_in, report_in, iterate_floats, machine_floats, machine_words, FitsIterate}

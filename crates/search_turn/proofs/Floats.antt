@@ -4,7 +4,6 @@ use mathlib.Core.Bool.{Bool, true, false, not, true≢false, ◌&&◌}
 use mathlib.Core.List.{List}
 use Prim.Native.Nat.{ℕ, ◌+◌, ◌≤◌, ◌<◌}
 use native.Mathlib.Numerals.{add-one}
-use native.Mathlib.Omega.{arith}
 use lib.Dec.{T}
 use lib.ListN.{length, drop, drop_of_length-le}
 use lib.Ieee.{Float, nan, inf, fin, lt, ne, is_nan}

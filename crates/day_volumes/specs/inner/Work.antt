@@ -1,5 +1,5 @@
 -- What the inner functions are handed and leave. No promise rests on these.
-use Rattle.std.specs.Prelude.{ℕ, ◌+◌, ◌-◌, ◌*◌, ◌≤◌, ◌<◌, ◌≡◌, Bool, cond, ◌&&◌, List, length, set, take, Float}
+use Rattle.std.specs.Prelude.{ℕ, ◌+◌, ◌-◌, ◌*◌, ◌≤◌, ◌≡◌, Bool, cond, ◌&&◌, List, length, set, take, Float}
 use Rattle.std.specs.Float.{nan}
 use Rattle.numbers.specs.Numbers.{at, nth, tab}
 use Rattle.workspace.specs.Tables.{Answer, outcome_of, output}

@@ -1,10 +1,10 @@
 -- What the inner functions of the search are handed and leave: it serves their contracts alone. Definitions only.
-use Rattle.std.specs.Prelude.{ℕ, ◌≤◌, ◌≡◌, Bool, true, false, List, [], ◌∷◌, length, Float}
+use Rattle.std.specs.Prelude.{ℕ, ◌≤◌, ◌≡◌, Bool, true, List, [], ◌∷◌, length, Float}
 use Rattle.numbers.specs.Numbers.{one, nth}
 use Rattle.workspace.specs.Readings.{nums}
 use Rattle.search.specs.Places.{SEARCH_ALPHA, SEARCH_CONSTRAINTS, SEARCH_D, SEARCH_FRESH, SEARCH_KINDS, SEARCH_MACHINE, SEARCH_VARIABLES, SEARCH_WORDS}
 use Rattle.search.specs.Setup.{Setup, are_kinds}
-use Rattle.search.specs.Turn.{Iterate, Line, Opened, stop, go}
+use Rattle.search.specs.Turn.{Opened, stop, go}
 use Rattle.search.specs.Machine.{Machine}
 use Rattle.search.specs.Layout.{laid, bit, iterate_floats, machine_floats, machine_words}
 

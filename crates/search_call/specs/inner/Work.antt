@@ -1,5 +1,5 @@
 -- What the functions behind the search's two operations are handed and leave. Definitions only.
-use Rattle.std.specs.Prelude.{ℕ, suc, ◌*◌, ◌≤◌, ◌≡◌, Bool, true, false, cond, ◌&&◌, List, leb, eqb, length, set, replicate, Float}
+use Rattle.std.specs.Prelude.{ℕ, suc, ◌≡◌, Bool, true, cond, ◌&&◌, List, leb, eqb, length, set, replicate, Float}
 use Rattle.std.specs.Float.{nan}
 use Rattle.numbers.specs.Numbers.{at, nth, tab}
 use Rattle.workspace.specs.declared.Refusal.TheVariants.{Nonfinite}
@@ -7,7 +7,7 @@ use Rattle.workspace.specs.declared.Outcome.{Outcome}
 use Rattle.workspace.specs.declared.Outcome.TheVariants.{Done, Refused}
 use Rattle.search.specs.Places.{PHASE_LOWERED, PHASE_NONE, PHASE_NONFINITE, PHASE_START, SEARCH_ASKED, SEARCH_LEFT, SEARCH_MACHINE, SEARCH_NEW_X, SEARCH_POINT, SEARCH_VALUES, SEARCH_WORDS, SEARCH_X}
 use Rattle.search.specs.Setup.{Setup}
-use Rattle.search.specs.Turn.{clip, backtracks}
+use Rattle.search.specs.Turn.{clip}
 use Rattle.search.specs.Machine.{begin}
 use Rattle.search.specs.Layout.{setup_floats, setup_words, machine_floats, machine_words, laid, Posed, are_words}
 use Rattle.search.specs.Promise.{state_outcome}

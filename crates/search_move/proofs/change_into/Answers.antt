@@ -2,7 +2,6 @@
 use native.Mathlib.Omega.{arith}
 use Rattle.numbers.specs.Numbers.{◌⊖◌}
 use Rattle.numbers.proofs.Fills.{fill_none, fill_more, fill-all}
-use Rattle.search.specs.Turn.{lagrangian_at}
 use Rattle.search.proofs.Parts.{slopes-few}
 use Rattle.search_move.specs.inner.Work.{change_in}
 use Rattle.search_move.proofs.change_into.Goals as goal

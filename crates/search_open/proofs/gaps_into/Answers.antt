@@ -3,7 +3,6 @@ use native.Mathlib.Omega.{arith}
 use mathlib.Core.Path.{◌≡◌, refl, ◌∙◌}
 use lib.ListN.{length-set}
 use lib.Ieee.{nan}
-use Rattle.numbers.specs.Numbers.{at}
 use Rattle.workspace.proofs.Writes.{written_none, written-front, written_all}
 use Rattle.search_open.proofs.gaps_into.Goals as goal
 

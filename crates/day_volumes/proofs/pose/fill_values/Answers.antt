@@ -1,7 +1,6 @@
 use mathlib.Core.Path.{refl}
 use lib.ListN.{length-set}
 use Rattle.numbers.proofs.Fills.{fill_none, fill_more, fill-all}
-use Rattle.day_volumes.specs.Posed.{value_of}
 use Rattle.day_volumes.proofs.Posing.{values-are}
 use native.Mathlib.Omega.{arith}
 use Rattle.day_volumes.proofs.pose.fill_values.Goals as goal

@@ -4,7 +4,7 @@ use lib.Dec.{eqb}
 use Prim.Native.Nat.{ℕ, ◌+◌}
 use lib.ListN.{length-set}
 use Rattle.workspace.proofs.Writes.{written_none, written-front, written_all}
-use Rattle.numbers.specs.Numbers.{at, nth}
+use Rattle.numbers.specs.Numbers.{nth}
 use native.Mathlib.Omega.{arith}
 use Rattle.day_volumes.proofs.pose.forget_stocks.Goals as goal
 

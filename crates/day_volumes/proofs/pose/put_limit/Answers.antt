@@ -1,7 +1,6 @@
 use mathlib.Core.Path.{◌≡◌, refl}
 use lib.ListN.{length-set}
 use Rattle.workspace.proofs.Writes.{written_none, written-more}
-use Rattle.day_volumes.specs.Posed.{limit_entry}
 use native.Mathlib.Omega.{arith}
 use Rattle.day_volumes.proofs.pose.put_limit.Goals as goal
 

@@ -2,7 +2,6 @@ use mathlib.Core.Path.{◌≡◌, refl, ap, ◌∙◌}
 use lib.ListN.{length-set}
 use Rattle.workspace.proofs.Writes.{written_none, written-more}
 use Rattle.numbers.proofs.Lists.{row_fits}
-use Rattle.certain.specs.Bound.{closes}
 use Rattle.day_volumes.specs.Found.{flag}
 use native.Mathlib.Omega.{arith}
 use Rattle.day_volumes.proofs.tables.put_closed.Goals as goal

@@ -3,7 +3,6 @@ use Prim.Native.Nat.{◌+◌, ◌-◌, ◌<◌}
 use lib.ListN.{length-set}
 use Rattle.workspace.proofs.Writes.{written_none, written-more}
 use Rattle.numbers.proofs.Lists.{row_fits}
-use Rattle.certain.specs.Bound.{keeps}
 use Rattle.day_volumes.specs.Found.{flag}
 use native.Mathlib.Omega.{arith}
 use Rattle.day_volumes.proofs.tables.put_kept.Goals as goal

@@ -1,7 +1,6 @@
 use mathlib.Core.Path.{◌≡◌, refl}
 use lib.ListN.{length-set}
 use Rattle.workspace.proofs.Writes.{written_none, written-front}
-use Rattle.numbers.specs.Numbers.{at}
 use native.Mathlib.Omega.{arith}
 use Rattle.day_volumes.proofs.tables.put_marks.Goals as goal
 
