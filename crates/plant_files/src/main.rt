@@ -17,46 +17,53 @@ const KEPT_READ: usize = 524289;
 
 const PLANT_READ: usize = 65537;
 
+// N zeros.
+fn zeros<const N: usize>() -> [u8; N]
+    ensures { N ≡ length result }
+{
+    [0; N]
+}
+
 // Zeros, for the name of a file.
 fn name_room() -> [u8; 4096]
     ensures { 4096 ≡ length result }
 {
-    [0; 4096]
+    zeros()
 }
 
 // Zeros, for the kept records.
 fn kept_room() -> [u8; KEPT_READ]
     ensures { 524289 ≡ length result }
 {
-    [0; KEPT_READ]
+    zeros()
 }
 
 // Zeros, for the plant file.
 fn plant_room() -> [u8; PLANT_READ]
     ensures { 65537 ≡ length result }
 {
-    [0; PLANT_READ]
+    zeros()
 }
 
 // Zeros, for the records that the mending keeps.
 fn mend_room() -> [u8; plant_sheet::BYTES]
     ensures { 524288 ≡ length result }
 {
-    [0; plant_sheet::BYTES]
+    zeros()
 }
 
 // Zeros, for what it tells of each.
 fn reasons_room() -> [u8; plant_sheet::RECORDS]
     ensures { 32768 ≡ length result }
 {
-    [0; plant_sheet::RECORDS]
+    zeros()
 }
 
 // Zeros, for the sheet.
 fn sheet_room() -> [u8; plant_sheet::ROOM]
     ensures { 196864 ≡ length result }
 {
-    [0; plant_sheet::ROOM]
+    zeros()
 }
 
 // Opens a file to read it.
