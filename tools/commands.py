@@ -5,13 +5,10 @@
 
 A table of statuses first, by word and situation. Then a row for each try: what it is and its status; for mending also the first
 digits of the SHA-256 of the day's records before and after, and which files are new. What is not as owed begins with **, and the
-status is 1 then. What the machine does not allow (another user, a small disk, programs in place of the proved ones) is named as
-not tried.
+status is 1 then. What the machine does not allow (another user, a small disk) is named as not tried.
 """
-import ctypes
 import hashlib
 import os
-import platform
 import random
 import re
 import resource
@@ -288,9 +285,6 @@ FAKES = (
 
 def fakes(room):
     """The command alone, in a tree and in an installed copy, over programs that do what a proved one does not."""
-    if platform.machine() != "x86_64":
-        skipped.append("programs in place of the proved ones: the emulator runs no script")
-        return
     tree, installed = os.path.join(room, "tree", "tools"), os.path.join(room, "installed", "bin")
     for folder in (tree, installed):
         os.makedirs(folder)
@@ -303,16 +297,6 @@ def fakes(room):
             made(fake, text)
             for how in ([], ["bash"]):
                 row(f"front{' by bash' * len(how)}, {place}: {what}", (owed, out), run([*how, os.path.join(folder, "gritstrut"), "day"])[:2])
-    made(os.path.join(room, "kit", "on", "i686", "toolchain", "bin", "qemu-x86_64"), 'shift 3; exec "$@"')
-    made(os.path.join(room, "tree", "target", "bin", "day"), "cat")
-    other = {"env": {**os.environ, "RATTLE_HOME": os.path.join(room, "kit")}, "preexec_fn": lambda: ctypes.CDLL(None).personality(8)}
-    row("front: on another processor, by the emulator", (0, b"closes\n"), run([os.path.join(tree, "gritstrut"), "day"], b"closes\n", **other)[:2])
-    made(os.path.join(room, "bin", "rt"), f"echo {room}/kit/share/doc")
-    other["env"] = {**os.environ, "PATH": os.path.join(room, "bin") + ":" + os.environ["PATH"]}
-    other["env"].pop("RATTLE_HOME", None)
-    row("front: on another processor, the emulator found by rt", (0, b"closes\n"), run([os.path.join(tree, "gritstrut"), "day"], b"closes\n", **other)[:2])
-    other["env"] = {"PATH": "/usr/bin:/bin"}
-    row("front: on another processor, without rt", (3, b""), run([os.path.join(tree, "gritstrut"), "day"], b"closes\n", **other)[:2])
     row("front: without Python", (3, b""), run(["/bin/sh", COMMAND, "version"], env={"PATH": room})[:2])
 
 

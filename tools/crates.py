@@ -30,7 +30,7 @@ def read_crates():
     for line in open("crates.txt"):
         name, colon, rest = line.split("#")[0].partition(":")
         if colon:
-            deps[name.strip()] = rest.split()
+            deps[name.split()[0]] = rest.split()  # `staticlib` may stand behind the name
     return {name: [d for d in of if d in deps] for name, of in deps.items()}
 
 

@@ -30,9 +30,10 @@ def read_places():
     """Name, sum and purpose of each place, in the order of crates.txt."""
     places = {}
     for line in open("crates.txt"):
-        crate, colon, _ = line.split("#")[0].partition(":")
-        folder = f"crates/{crate.strip()}/src"
-        if not colon or not os.path.isdir(folder) or crate.strip() in WITHOUT:
+        head, colon, _ = line.split("#")[0].partition(":")
+        crate = head.split()[0] if colon else ""
+        folder = f"crates/{crate}/src"
+        if not colon or not os.path.isdir(folder) or crate in WITHOUT:
             continue
         for name in sorted(os.listdir(folder)):
             text = open(f"{folder}/{name}").read()

@@ -1,8 +1,8 @@
 #!/usr/bin/env python3
 """Tries what the pages for users say: the texts that they show, and the commands and programs that they give.
 
-    tools/pages.py            both; the commands in a clean clone, with what this tree has proved and made copied into it
-    tools/pages.py --prove    the same without that copy: all is proved from nothing, and the gate is run too
+    tools/pages.py            both; the commands in a clean clone, with what this tree has made copied into it
+    tools/pages.py --prove    the same without that copy, and the gate is run too
     tools/pages.py shown      the texts of examples/ alone, at once
 
 A block is lines that are indented by four, or fenced. It is
@@ -25,7 +25,7 @@ import time
 ROOT = os.path.realpath(os.path.join(os.path.dirname(os.path.abspath(__file__)), ".."))
 PAGES = ("README.md", "docs/MANUAL.md", "docs/STEP.md", "docs/SEARCH.md")
 SHOWN = (("README.md", "plant.report"), ("docs/MANUAL.md", "header.sheet"), ("docs/MANUAL.md", "header.report"), ("docs/STEP.md", "meters.txt"))
-COMMAND = re.compile(r"(?:rt|cc|cat|man|cargo|python3|tools/\S+|target/\S+|\.ci/run)\s")
+COMMAND = re.compile(r"(?:rt|cc|cat|man|cargo|python3|tools/\S+|target/\S+|\.ci/run|\(cd)\s")
 NEEDS = ("rt", "cc", "cargo", "man", "pkg-config")
 GATE = ".ci/run"
 DRAWING = "--->"
@@ -95,7 +95,7 @@ class Clone:
             print("note: what is not committed is not tried")
         if not prove and os.path.isdir(os.path.join(ROOT, "target")):
             os.mkdir(os.path.join(self.place, "target"))
-            for part in ("bin", "obj", "rlib", "stamp", "staticlib"):
+            for part in ("bin", "staticlib"):
                 if os.path.isdir(os.path.join(ROOT, "target", part)):
                     subprocess.run(["cp", "-a", "--reflink=auto", os.path.join(ROOT, "target", part), os.path.join(self.place, "target")], check=True)
 

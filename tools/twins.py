@@ -2,7 +2,7 @@
 """What stands twice in the crates: runs of five or more equal lines in two places, and declarations of one signature in
 two files. Run it at the root of the repository. A row is a place to look at, not a verdict.
 
-    tools/twins.py [--proofs]     --proofs reads the Proof.antt files too (their printed lines are passed over)
+    tools/twins.py [--proofs]     --proofs reads the proof files of functions too (Invariants.antt, Answers.antt, Proof.antt)
 """
 import collections
 import os
@@ -11,13 +11,15 @@ import sys
 
 RUN = 5
 SHOWN = 20
-PASSED = re.compile(r"^(use |ghost use |--|//|pub mod |mod |infix|tie\.|[)}\]]*$|.*: tie\.Need|.* = search needs$|.* = omega arith$|unfolding )")
+PASSED = re.compile(r"^(use |ghost use |--|//|pub mod |mod |infix|[)}\]]*$|.*: goal\.\S+$|.* = omega arith$|unfolding )")
+OF_CODE = ("Invariants.antt", "Answers.antt", "Proof.antt")
 
 
 def files():
-    for folder, _, names in os.walk("crates"):
+    for folder, folders, names in os.walk("crates"):
+        folders[:] = [name for name in folders if name != "out"]
         for name in sorted(names):
-            if name.endswith((".rt", ".antt")) and ("--proofs" in sys.argv or name != "Proof.antt"):
+            if name.endswith((".rt", ".antt")) and ("--proofs" in sys.argv or name not in OF_CODE):
                 yield os.path.join(folder, name)
 
 

@@ -10,19 +10,21 @@
     oracle/certain/certain.py build                    only proves and builds the library, and prints its path
 
 Run it at the root of the repository. The operations are in no C interface of the product, so a library of its own is proved
-and built in target/certain-probe, from oracle/certain/probe over the crates as they stand. It takes nothing but Python and a C
-compiler. Status 0: no difference, nothing told below what it bounds, and every kind drawn.
+and built, target/certain-probe/libprobe.a, from oracle/certain/probe.rt.txt over the crates as they stand. It takes nothing but
+Python and a C compiler. Status 0: no difference, nothing told below what it bounds, and every kind drawn.
 """
 import ctypes
 import math
 import os
 import random
-import shutil
 import struct
 import subprocess
 import sys
 import time
 from fractions import Fraction
+
+sys.path.insert(0, os.path.join(os.path.dirname(os.path.abspath(__file__)), ".."))
+from proved import built  # noqa: E402
 
 NEEDED = ("numbers", "exact", "interval", "certain")
 OWN = "target/certain-probe"
@@ -33,25 +35,8 @@ NAN = math.nan
 # ---- the library
 
 def build():
-    """The probe's archive, proved and compiled in a repository of its own that has the crates by links."""
-    root = os.getcwd()
-    shutil.rmtree(f"{OWN}/crates", ignore_errors=True)
-    os.makedirs(f"{OWN}/crates/probe/src")
-    for crate in NEEDED:
-        os.symlink(f"{root}/crates/{crate}", f"{OWN}/crates/{crate}")
-    shutil.copy("oracle/certain/probe/lib.rt.txt", f"{OWN}/crates/probe/src/lib.rt")
-    for name in os.listdir("oracle/certain/probe"):
-        if name.endswith(".antt.txt"):
-            folder = f"{OWN}/crates/probe/proofs/{name[:-9]}"
-            os.makedirs(folder)
-            shutil.copy(f"oracle/certain/probe/{name}", f"{folder}/Proof.antt")
-    with open("crates.txt") as listed, open(f"{OWN}/crates.txt", "w") as out:
-        out.writelines(line for line in listed if line.split(":")[0] in NEEDED)
-        out.write("probe: numbers exact interval certain\n")
-    done = subprocess.run(["rt", "staticlib", "probe"], cwd=OWN, capture_output=True, text=True)
-    if done.returncode:
-        sys.exit(done.stdout[-3000:] + done.stderr[-3000:])
-    return f"{OWN}/target/staticlib/libprobe.a"
+    """The probe's archive."""
+    return built("oracle/certain/probe.rt.txt", NEEDED, f"{OWN}/libprobe.a")
 
 
 class Library:

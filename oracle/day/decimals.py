@@ -3,7 +3,7 @@
 
     oracle/day/decimals.py [COUNT [SEED]]     COUNT numbers each way (1000000, 1), at the root of the repository
 
-It proves and builds a program of its own in target/day-probe, from oracle/day/probe.rt.txt over the crate `decimals`
+It proves and builds a program of its own, target/day-probe/probe, from oracle/day/probe.rt.txt over the crate `decimals`
 as it stands, draws numbers and texts, and compares every answer: the text of each number, and of each text
 the f64, or where its fault is. A reading's f64 is found by Python's division of whole numbers, and then held to both its
 neighbours as fractions. Status 0: no difference.
@@ -11,42 +11,17 @@ neighbours as fractions. Status 0: no difference.
 import math
 import os
 import random
-import shutil
 import struct
 import subprocess
 import sys
 from fractions import Fraction
 
-NEEDED = ("numbers", "endian", "ascii", "decimals", "workspace", "step_rows", "problem_read")
+sys.path.insert(0, os.path.join(os.path.dirname(os.path.abspath(__file__)), ".."))
+from proved import built  # noqa: E402
+
+NEEDED = ("endian", "ascii", "decimals", "input")
 PIECE = 100000
 BLOCK, ANSWER, TEXT = 64, 32, 16
-
-
-def build():
-    """The probe, proved and compiled in a repository of its own that has the crates by links."""
-    root, own = os.getcwd(), "target/day-probe"
-    shutil.rmtree(f"{own}/crates", ignore_errors=True)
-    os.makedirs(f"{own}/crates/probe/src")
-    for crate in NEEDED:
-        os.symlink(f"{root}/crates/{crate}", f"{own}/crates/{crate}")
-    shutil.copy("oracle/day/probe.rt.txt", f"{own}/crates/probe/src/main.rt")
-    shutil.copy("crates/problem_read/src/floats.rt", f"{own}/crates/probe/src/floats.rt")
-    for function in ("value", "is_same"):
-        with open(f"crates/problem_read/proofs/floats/{function}/Proof.antt") as proof:
-            text = proof.read()
-        text = text.replace("problem_read·proofs.proofs.floats", "probe·proofs.proofs.floats").replace("problem_read·proofs.proofs.", "problem_read.proofs.")
-        os.makedirs(f"{own}/crates/probe/proofs/floats/{function}")
-        with open(f"{own}/crates/probe/proofs/floats/{function}/Proof.antt", "w") as proof:
-            proof.write(text)
-    os.makedirs(f"{own}/crates/probe/proofs/main")
-    shutil.copy("oracle/day/main.antt.txt", f"{own}/crates/probe/proofs/main/Proof.antt")
-    with open("crates.txt") as listed, open(f"{own}/crates.txt", "w") as out:
-        out.writelines(line for line in listed if line.split(":")[0] in NEEDED)
-        out.write("probe: numbers endian ascii decimals workspace step_rows problem_read io libc\n")
-    done = subprocess.run(["rt", "check", "probe"], cwd=own, capture_output=True, text=True)
-    if done.returncode:
-        sys.exit(done.stdout[-3000:] + done.stderr[-3000:])
-    return f"{own}/target/bin/probe"
 
 
 def bits_of(x):
@@ -147,7 +122,7 @@ def draw_text(rng):
 def main():
     count = int(sys.argv[1]) if len(sys.argv) > 1 else 1000000
     seed = int(sys.argv[2]) if len(sys.argv) > 2 else 1
-    probe, rng = build(), random.Random(seed)
+    probe, rng = built("oracle/day/probe.rt.txt", NEEDED, "target/day-probe/probe"), random.Random(seed)
     differ = numbers = faults = 0
     for first in range(0, count, PIECE):
         asked, expected = [], []

@@ -43,7 +43,7 @@ fn give(
     m: usize,
 ) -> Outcome
     requires { (p + n ≤ length w.now) × (q + c ≤ length w.now) × (r + m ≤ length w.now) × (length x.old ≡ n) × (length l.old ≡ c + m) }
-    ensures { SolutionGiven (ending_answer ending (record { x = vec p n w.now; multipliers = vec q c w.now ++ vec r m w.now })) result x.entry.now x.exit.now l.old l.new }
+    ensures { SolutionGiven (ending_answer ending (record { x = vec p n w.now; multipliers = vec q c w.now ++ vec r m w.now })) result x.old x.new l.old l.new }
 {
     let lsei::Ending::Done = ending else {
         return ending.outcome();
