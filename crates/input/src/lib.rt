@@ -5,7 +5,8 @@ mod names;
 
 ghost use Rattle.std.specs.Prelude.{length, ◌≡◌};
 ghost use Rattle.std.specs.Io.{ReadsAtMost};
-ghost use Rattle.input.specs.Reading.{Read};
+ghost use Rattle.std.specs.Io.KnownBytes.{ReadConsumes};
+ghost use Rattle.input.specs.Reading.{Read, Takes, Ends};
 
 pub use names::{complain, path, tell_error};
 use std::io;
@@ -23,7 +24,8 @@ const TRIES: usize = 64;
 
 // One read, tried again where a signal interrupts it.
 fn read_some<R: io::Read>(reader: &mut R, buf: &mut [u8]) -> io::Result<usize>
-    ensures { ReadsAtMost result buf.new }
+    ensures bound { ReadsAtMost result buf.new }
+    ensures bytes { ReadConsumes (R.remaining reader.old) (R.remaining reader.new) result buf.new }
 {
     for _ in 0..TRIES {
         match reader.read(buf) {
@@ -36,7 +38,9 @@ fn read_some<R: io::Read>(reader: &mut R, buf: &mut [u8]) -> io::Result<usize>
 
 // Reads until `buf` is full or the input ends.
 pub fn fill<R: io::Read>(reader: &mut R, buf: &mut [u8]) -> Reading
-    ensures { Read result buf.new }
+    ensures bound { Read result buf.new }
+    ensures bytes { Takes (R.remaining reader.old) (R.remaining reader.new) result buf.new }
+    ensures end { Ends (R.remaining reader.new) result buf.new }
 {
     let mut done = 0;
     while done < buf.len() {
