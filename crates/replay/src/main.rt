@@ -7,7 +7,7 @@ mod day;
 mod meters;
 mod run;
 mod runs;
-mod step;
+mod steps;
 mod volumes;
 
 ghost use Rattle.std.specs.Prelude.{◌≡◌, length};

@@ -3,7 +3,7 @@ use crate::check::run_check;
 use crate::day::run_day;
 use crate::meters::run_suspect;
 use crate::runs::{run_begin, run_tell};
-use crate::step::run_step;
+use crate::steps::run_step;
 use crate::volumes::{run_certify, run_settle};
 use replay_list::{
     Call, Values, digest_of, first_output, length_at, lent_output, mark, mix_float, mix_mark,
