@@ -23,7 +23,7 @@ use Rattle.suspect.specs.declared.Finding.{Finding}
 use Rattle.suspect_call.specs.Promise.{numbers_of}
 use Rattle.day_volumes.specs.Posed.{is_stock, balance_row, limit_row, tolerance_of, spreads, values, balances, posed}
 use Rattle.day_volumes.specs.Found.{laid, row_times, flag, no_figures, no_signs, Found, tested, found, figures, signs}
-use Rattle.day_volumes.specs.Found as found_found
+use Rattle.day_volumes.specs.Found as FoundBy
 use Rattle.day_volumes.specs.Promise.{Finds}
 use Rattle.day_volumes.specs.inner.Work.{LimitsIn, SettledTo, TestedTo, all_figures, test_signs, within_signs, stills_of, bounded_outcome, TestsTold, FoundPosed}
 use Rattle.day_volumes.proofs.Laid.{length-laid, laid_as, laid-two, figures-length, signs-length}
@@ -85,7 +85,7 @@ module _ (n m p q : ℕ) (z : List ℕ) (f values balances limits least : List F
   tests_of x = suspect n m values (spreads n f) balances (stills_of n z values x (spreads n f))
 
   figures-are : (s : Settled) → all_figures n m q f values s.x (numbers_of (tests_of s.x)) s.far (tests_of s.x).finding.misfit no_figures ≡ figures m q f (tested z day s)
-  unfolding figures found_found.stills
+  unfolding figures FoundBy.stills
   figures-are s =
       let st = stills_of n z values s.x (spreads n f) in
       let t = tests_of s.x in
@@ -99,7 +99,7 @@ module _ (n m p q : ℕ) (z : List ℕ) (f values balances limits least : List F
       refl
 
   signs-are : m ≤ 16 → q ≤ 16 → (s : Settled) → within_signs n m p q balances limits least s.x (tolerance_of f) (test_signs n (tests_of s.x).marks (tests_of s.x).finding.freedom (tests_of s.x).finding.agree no_signs) ≡ signs m q f (tested z day s)
-  unfolding signs found_found.stills
+  unfolding signs FoundBy.stills
   signs-are hm hq s =
       let t = tolerance_of f in
       let a = (tests_of s.x).finding.freedom in
