@@ -1,11 +1,11 @@
 -- Text written into a buffer: one byte, one text after another, and a text written piece by piece.
 use mathlib.Core.Path.{◌≡◌, refl, sym, ap, ◌∙◌}
 use mathlib.Core.List.{List, [], ◌∷◌, ◌++◌}
-use Prim.Native.Nat.{ℕ, suc, ◌+◌, ◌-◌, ◌≤◌, ◌<◌}
-use native.Mathlib.Nat.{add-zero, zero-add, add_assoc}
+use Prim.Native.Nat.{ℕ, ◌+◌, ◌-◌, ◌≤◌, ◌<◌}
+use native.Mathlib.Nat.{add-zero, zero-add}
 use native.Mathlib.Omega.{arith}
-use lib.ListN.{length, take, drop, set, get_or, replicate, length-append, length-take, length-replicate, get_or-replicate, drop_of_length-le}
-use lib.Seq.{drop-cons}
+use lib.ListN.{length, take, drop, set, replicate, length-append, length-take, length-replicate}
+use lib.Seq.{drop-drop}
 use Rattle.endian.specs.Little.{placed}
 use Rattle.endian.proofs.Placed.{placed-none, placed-cons, placed-then, length-placed, take-text}
 use Rattle.ascii.specs.Text.{padded}
@@ -63,33 +63,17 @@ writing_more {o} {whole} {a} {b} {t} {rest} {at} {i} {j} g w = record {
 pub writing-end : {o whole a : List ℕ} {at i : ℕ} → i ≤ length o → Writing o at whole a i [] → Wrote o at whole a i
 writing-end {o} {whole} {a} {at} {i} h g = record { until = omega (arith, g.place); fits = h; held = sym (placed-none i a) ∙ g.held }
 
--- ---- a text byte by byte
+-- ---- a text in one piece: k is its length
 
-pub text-none : (o : List ℕ) (at : ℕ) (t : List ℕ) → Writing o at t o (at + 0) (drop 0 t)
-text-none o at t = rw add-zero (writing-none o at t)
-
-pub text-more : {o a : List ℕ} (at : ℕ) (t : List ℕ) (i : ℕ) → i < length t → at + i < length a → Writing o at t a (at + i) (drop i t)
-    → Writing o at t (set a (at + i) (get_or t i 0)) (at + (i + 1)) (drop (i + 1) t)
-text-more {o} {a} at t i h g w =
-    let e : suc i ≡ i + 1 = omega arith in
-    let d : drop i t ≡ (get_or t i 0 ∷ []) ++ drop (i + 1) t = drop-cons t i 0 h ∙ ap (λ (j : ℕ). get_or t i 0 ∷ drop j t) e in
-    let v : Writing o at t a (at + i) ((get_or t i 0 ∷ []) ++ drop (i + 1) t) = rw d at w in
-    rw (← add_assoc at i 1) (writing_more v (wrote_one a (at + i) (get_or t i 0) g))
-
-pub text-end : {o a : List ℕ} (at : ℕ) (t : List ℕ) (i k : ℕ) → length t ≤ i → i ≡ k → at + k ≤ length o → Writing o at t a (at + i) (drop i t) → Wrote o at t a (at + k)
-text-end at t i k h e l w = rw (← e) (writing-end (omega arith) (rw (drop_of_length-le t h) at w))
-
--- ---- a row of one byte
-
-pub row_more : {o a : List ℕ} (at n b i : ℕ) → i < n → at + i < length a → Writing o at (replicate n b) a (at + i) (drop i (replicate n b))
-    → Writing o at (replicate n b) (set a (at + i) b) (at + (i + 1)) (drop (i + 1) (replicate n b))
-row_more {o} {a} at n b i h g w =
-    let l : i < length (replicate n b) = omega (arith, length-replicate n b) in
-    let v = text-more at (replicate n b) i l g w in
-    rw (get_or-replicate n i b 0 h) at v
-
-pub row-end : {o a : List ℕ} (at n b i : ℕ) → n ≤ i → i ≡ n → at + n ≤ length o → Writing o at (replicate n b) a (at + i) (drop i (replicate n b)) → Wrote o at (replicate n b) a (at + n)
-row-end at n b i h e l w = text-end at (replicate n b) i n (omega (arith, length-replicate n b)) e l w
+pub wrote_part : (o t : List ℕ) (at k : ℕ) → at + k ≤ length o → length t ≡ k → Wrote o at t (take at o ++ (t ++ drop (at + k - at) (drop at o))) (at + k)
+unfolding placed
+wrote_part o t at k h e =
+    let d : at + (at + k - at) ≡ at + length t = omega (arith, e) in
+    record {
+      until = omega (arith, e);
+      fits = h;
+      held = rw (drop-drop (at + k - at) at o, d);
+    }
 
 -- ---- a text with blanks before it
 

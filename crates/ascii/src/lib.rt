@@ -1,7 +1,7 @@
 // Writes text at a place of a lent buffer, and answers the place after it; compares texts.
 #![tactic(auto)]
 
-ghost use Rattle.std.specs.Prelude.{◌≡◌, [], ◌∷◌, ◌+◌, ◌-◌, ◌≤◌, ◌<◌, length, replicate};
+ghost use Rattle.std.specs.Prelude.{◌≡◌, [], ◌∷◌, ◌+◌, ◌≤◌, ◌<◌, length, replicate};
 ghost use Rattle.io.specs.Digits.{hex_digit_ascii, last_digits};
 ghost use Rattle.ascii.specs.Text.{decimal_text, padded, same_text};
 ghost use Rattle.ascii.specs.inner.Work.{Wrote};
@@ -20,10 +20,9 @@ pub fn put_text(out: &mut [u8], at: usize, text: &[u8]) -> usize
     requires { at + length text.now ≤ length out.old }
     ensures { Wrote out.old at text.now out.new result }
 {
-    for i in 0..text.len() {
-        out[at + i] = text[i];
-    }
-    at + text.len()
+    let end = at + text.len();
+    out[at..end].copy_from_slice(text);
+    end
 }
 
 // A number in decimal: at most 20 digits.
@@ -42,20 +41,9 @@ pub fn put_blanks(out: &mut [u8], at: usize, n: usize) -> usize
     requires { at + n ≤ length out.old }
     ensures { Wrote out.old at (replicate n 32) out.new result }
 {
-    for i in 0..n {
-        out[at + i] = b' ';
-    }
-    at + n
-}
-
-// How many blanks bring a text of n bytes to a width.
-fn blanks(width: usize, n: usize) -> usize
-    ensures { result ≡ width - n }
-{
-    if n < width {
-        return width - n;
-    }
-    0
+    let end = at + n;
+    out[at..end].fill(b' ');
+    end
 }
 
 // The bytes of a slice, right-aligned in a width.
@@ -63,7 +51,7 @@ pub fn put_padded(out: &mut [u8], at: usize, width: usize, text: &[u8]) -> usize
     requires { (at + width ≤ length out.old) × (at + length text.now ≤ length out.old) }
     ensures { Wrote out.old at (padded width text.now) out.new result }
 {
-    let start = put_blanks(out, at, blanks(width, text.len()));
+    let start = put_blanks(out, at, width.saturating_sub(text.len()));
     put_text(out, start, text)
 }
 
@@ -83,7 +71,7 @@ fn digit(d: u64) -> u8
     requires { d < 10 }
     ensures { result ≡ hex_digit_ascii d }
 {
-    48 + d as u8
+    b'0' + d as u8
 }
 
 // The last three digits of a number, zeros among them.
@@ -109,13 +97,5 @@ pub fn put_six(out: &mut [u8], at: usize, n: u64) -> usize
 pub fn is_same(a: &[u8], b: &[u8]) -> bool
     ensures { result ≡ same_text a.now b.now }
 {
-    if a.len() != b.len() {
-        return false;
-    }
-    for i in 0..a.len() {
-        if a[i] != b[i] {
-            return false;
-        }
-    }
-    true
+    a == b
 }

@@ -45,9 +45,9 @@ pub fn nnls(b: f64, k: usize, x: &mut [f64]) -> NnlsAnswer
         &mut iw,
     );
     NnlsAnswer {
-        number: number,
-        rounds: rounds,
-        factorings: factorings,
+        number,
+        rounds,
+        factorings,
     }
 }
 
@@ -122,10 +122,10 @@ pub fn step(
         &mut iw,
     );
     StepAnswer {
-        number: number,
+        number,
         exact: report[0],
         place: report[1],
-        relaxation: relaxation,
+        relaxation,
         d: d[0],
     }
 }

@@ -36,7 +36,7 @@ fn tell_header() {
 
 // `, named MARK`
 fn tell_mark(mark: u8) {
-    tell_count(b"named", mark as u64);
+    tell_count(b"named", u64::from(mark));
 }
 
 // Two meters whose volumes add up to zero, of which rounding leaves one below it.
@@ -90,7 +90,7 @@ fn tell_amiss() {
         b"day, a reading of 1000000 and a spread of 0 on meter 1",
         number,
     );
-    tell_count(b"place", place as u64);
+    tell_count(b"place", u64::from(place));
     end_line();
 }
 

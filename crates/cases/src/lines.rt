@@ -7,7 +7,7 @@ pub const STDOUT: i32 = 1;
 pub fn tell_number(name: &[u8], number: u32) {
     io::write_all(STDOUT, name);
     io::write_all(STDOUT, b": ");
-    io::print_decimal(STDOUT, number as u64);
+    io::print_decimal(STDOUT, u64::from(number));
 }
 
 // `, NAME COUNT`
@@ -32,8 +32,8 @@ fn tell_float(x: f64) {
 pub fn tell_floats(name: &[u8], xs: &[f64]) {
     io::write_all(STDOUT, b", ");
     io::write_all(STDOUT, name);
-    for i in 0..xs.len() {
-        tell_float(xs[i]);
+    for &x in xs {
+        tell_float(x);
     }
 }
 

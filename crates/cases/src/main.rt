@@ -35,30 +35,30 @@ fn answer(name: &[u8], file: &[u8]) {
     io::write_all(STDOUT, &out[..n]);
 }
 
-// Answers the first case of a bundle, and tells where the next one starts; a case that is cut off is the last.
-fn answer_first(bundle: &[u8]) -> usize
+// Answers the first case of a bundle, and gives the others; a case that is cut off is the last.
+fn answer_first(bundle: &[u8]) -> &[u8]
     requires { 0 < length bundle.now }
-    ensures { (0 < result) × (result ≤ length bundle.now) }
+    ensures { length result.now < length bundle.now }
 {
     if bundle.len() < 4 {
         io::write_all(STDOUT, b"cut off\n");
-        return bundle.len();
+        return &bundle[bundle.len()..];
     }
     let start = 4 + endian::read_u16(bundle, 0) as usize;
     let end = start + endian::read_u16(bundle, 2) as usize;
     if bundle.len() < end {
         io::write_all(STDOUT, b"cut off\n");
-        return bundle.len();
+        return &bundle[bundle.len()..];
     }
     answer(&bundle[4..start], &bundle[start..end]);
-    end
+    &bundle[end..]
 }
 
 // Answers every case of a bundle, in its order.
 fn answer_all(bundle: &[u8]) {
-    let mut at = 0;
-    while at < bundle.len() {
-        at += answer_first(&bundle[at..]);
+    let mut rest = bundle;
+    while !rest.is_empty() {
+        rest = answer_first(rest);
     }
 }
 

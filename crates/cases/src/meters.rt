@@ -4,7 +4,7 @@ use problem_answer::{float_room, word_room};
 
 // `, NAME WORD`
 fn tell_word(name: &[u8], word: u32) {
-    tell_count(name, word as u64);
+    tell_count(name, u64::from(word));
 }
 
 // What is found of all meters.

@@ -20,7 +20,7 @@ fn machine_words() -> [u32; 32]
 
 // `, stands PHASE`
 fn tell_phase(phase: u32) {
-    tell_count(b"stands", phase as u64);
+    tell_count(b"stands", u64::from(phase));
 }
 
 // The point that is asked about, where one is.

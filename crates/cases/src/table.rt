@@ -13,8 +13,8 @@ fn tell_counted(name: &[u8], counted: NnlsAnswer, x: &[f64]) {
     tell_number(name, counted.number);
     if counted.number == 0 {
         tell_floats(b"x", x);
-        tell_count(b"rounds", counted.rounds as u64);
-        tell_count(b"factorings", counted.factorings as u64);
+        tell_count(b"rounds", u64::from(counted.rounds));
+        tell_count(b"factorings", u64::from(counted.factorings));
     }
     end_line();
 }
@@ -145,8 +145,8 @@ fn tell_updates() {
 fn tell_stepped(name: &[u8], stepped: StepAnswer, multipliers: &[f64]) {
     tell_number(name, stepped.number);
     if stepped.exact != 0 {
-        tell_count(b"exact", stepped.exact as u64);
-        tell_count(b"place", stepped.place as u64);
+        tell_count(b"exact", u64::from(stepped.exact));
+        tell_count(b"place", u64::from(stepped.place));
     }
     if stepped.number == 0 {
         tell_floats(b"relaxation", &[stepped.relaxation]);

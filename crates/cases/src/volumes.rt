@@ -8,7 +8,7 @@ fn tell_outcome(number: u32, bound: f64, place: u32) {
         tell_floats(b"bound", &[bound]);
     }
     if 10 < number {
-        tell_count(b"place", place as u64);
+        tell_count(b"place", u64::from(place));
     }
     end_line();
 }

@@ -1,6 +1,6 @@
 -- The bound of reported volumes, and whether they are kept, as floats: interval arithmetic in its order. Definitions only.
 -- `Claims.antt` says what they say of exact numbers. Where a number is not finite, the bound is +infinity, and nothing is kept within a finite tolerance.
-use Rattle.std.specs.Prelude.{ℕ, zero, suc, ◌+◌, ◌*◌, Bool, true, false, cond, ◌&&◌, List, Float}
+use Rattle.std.specs.Prelude.{ℕ, zero, suc, ◌*◌, Bool, true, false, cond, ◌&&◌, List, Float}
 use Rattle.std.specs.Float.{inf}
 use Rattle.std.specs.Float.Ieee.{le}
 use Rattle.numbers.specs.Numbers.{+0, at, entry}

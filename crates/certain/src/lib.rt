@@ -87,11 +87,9 @@ fn fit_up(
     ensures { result ≡ Definition.fit_up n m p values.now spreads.now balances.now limits.now x.now y.now z.now }
 {
     let mut sum = 0.0;
-    let mut i = 0;
-    while i < n {
+    for i in 0..n {
         let g = pull_within(i, n, m, p, balances, limits, y, z);
         sum = interval::add_up(sum, fit_term(x[i], values[i], spreads[i], g));
-        i += 1;
     }
     sum
 }
@@ -101,11 +99,9 @@ fn open_up(n: usize, m: usize, balances: &[f64], x: &[f64], y: &[f64]) -> f64
     ensures { result ≡ Definition.open_up n m balances.now x.now y.now }
 {
     let mut sum = 0.0;
-    let mut j = 0;
-    while j < m {
+    for j in 0..m {
         let c = row_within(n, j, balances, x);
         sum = interval::add_up(sum, open_term(y[j], c));
-        j += 1;
     }
     sum
 }
@@ -115,11 +111,9 @@ fn slack_up(n: usize, p: usize, limits: &[f64], least: &[f64], x: &[f64], z: &[f
     ensures { result ≡ Definition.slack_up n p limits.now least.now x.now z.now }
 {
     let mut sum = 0.0;
-    let mut k = 0;
-    while k < p {
+    for k in 0..p {
         let a = row_within(n, k, limits, x);
         sum = interval::add_up(sum, slack_term(z[k], least[k], a));
-        k += 1;
     }
     sum
 }
@@ -215,12 +209,10 @@ fn all_close(n: usize, m: usize, balances: &[f64], x: &[f64], t: f64) -> bool
     requires { (m * n ≤ length balances.now) × (n ≤ length x.now) }
     ensures { result ≡ Definition.all_below m (λ j. Definition.closes n j balances.now x.now t) }
 {
-    let mut j = 0;
-    while j < m {
+    for j in 0..m {
         if !closes(n, j, balances, x, t) {
             return false;
         }
-        j += 1;
     }
     true
 }
@@ -229,12 +221,10 @@ fn all_keep(n: usize, p: usize, limits: &[f64], least: &[f64], x: &[f64], t: f64
     requires { (p * n ≤ length limits.now) × (p ≤ length least.now) × (n ≤ length x.now) }
     ensures { result ≡ Definition.all_below p (λ k. Definition.keeps n k limits.now least.now x.now t) }
 {
-    let mut k = 0;
-    while k < p {
+    for k in 0..p {
         if !keeps(n, k, limits, least, x, t) {
             return false;
         }
-        k += 1;
     }
     true
 }

@@ -6,12 +6,10 @@ pub fn all_finite(v: &[f64], n: usize) -> bool
     requires { n ≤ length v.now }
     ensures { result ≡ Definition.are_finite n v.now }
 {
-    let mut i = 0;
-    while i < n {
+    for i in 0..n {
         if !interval::is_finite(v[i]) {
             return false;
         }
-        i += 1;
     }
     true
 }
@@ -20,12 +18,10 @@ pub fn all_positive(v: &[f64], n: usize) -> bool
     requires { n ≤ length v.now }
     ensures { result ≡ Definition.are_positive n v.now }
 {
-    let mut i = 0;
-    while i < n {
+    for i in 0..n {
         if !interval::is_positive(v[i]) {
             return false;
         }
-        i += 1;
     }
     true
 }
@@ -34,12 +30,10 @@ pub fn none_negative(v: &[f64], n: usize) -> bool
     requires { n ≤ length v.now }
     ensures { result ≡ Definition.none_negative n v.now }
 {
-    let mut i = 0;
-    while i < n {
+    for i in 0..n {
         if !(0.0 <= v[i]) {
             return false;
         }
-        i += 1;
     }
     true
 }

@@ -4,8 +4,6 @@
 
 ghost use Rattle.std.specs.Prelude.{◌≡◌, length};
 
-use input::Reading;
-
 // 65,537 zeros, for the sheet.
 fn sheet_room() -> [u8; 65537]
     ensures { 65537 ≡ length result }
@@ -32,9 +30,9 @@ fn report(rt: &(impl Print + Eprint), sheet: &[u8]) {
 fn main(rt: HostRuntime) {
     let mut bytes = sheet_room();
     match input::fill(&mut rt.stdin(), &mut bytes) {
-        Reading::Failed(_) => {
+        Err(_) => {
             let _ = rt.eprintln("gritstrut: standard input cannot be read");
         }
-        Reading::Bytes(n) => report(&rt, &bytes[..n]),
+        Ok(n) => report(&rt, &bytes[..n]),
     }
 }

@@ -13,10 +13,12 @@ use Rattle.ascii.specs.inner.Work.{Wrote}
 use Rattle.ascii.proofs.Writing.{wrote-all}
 use Rattle.workspace.proofs.Readings.{lit-+0}
 use Rattle.workspace.specs.Tables.{Answer, done, refused}
-use Rattle.workspace.specs.declared.Outcome.{Outcome}
-use Rattle.workspace.specs.declared.Outcome.TheVariants.{Done, Refused}
+use Rattle.workspace.specs.Tables.{Outcome}
+use Rattle.std.specs.Prelude.{Ok, Err}
 use Rattle.workspace.specs.declared.Refusal.{Refusal}
-use Rattle.sheet.specs.declared.Sheet.{Sheet}
+use Rattle.std.specs.Prelude.{Result}
+use Rattle.sheet.specs.declared.Sizes.{Sizes}
+use Rattle.sheet.specs.declared.Unread.{Unread}
 use Rattle.sheet.specs.Sheet.{sheet_of}
 use Rattle.sheet.specs.Promise.{told, Fits}
 use Rattle.day_volumes.specs.Found.{Found, found, figures, signs, no_figures, no_signs}
@@ -48,33 +50,33 @@ signs-count s e = sym (ap length e ∙ signs-length)
 -- ---- what was found, told
 
 module _ (n m q d : ℕ) (texts wholes : List ℕ) (numbers : List Float) (sheet : List ℕ) where
-  pub told-done : (a : Answer Found) (o : Outcome) (t : List Float) (s : List ℕ) → a ≡ found n m q wholes numbers → Finds n m q wholes numbers o t s → o ≡ Done
+  pub told-done : (a : Answer Found) (o : Outcome) (t : List Float) (s : List ℕ) → a ≡ found n m q wholes numbers → Finds n m q wholes numbers o t s → o ≡ Ok tt
       → report_text n m q d texts wholes numbers t s sheet ≡ answer_text n m q d texts wholes numbers sheet (found n m q wholes numbers)
   told-done (done r) o t s e g h = rw (g.the_figures, g.the_signs, ← e) refl
   told-done (refused r) o t s e g h =
-      let k : o ≡ Refused r = rw (← e) at g.the_outcome in
+      let k : o ≡ Err r = rw (← e) at g.the_outcome in
       let z : ◌≡◌ {A = ℕ} 0 1 = cc in absurd (let y : ⊥ = omega arith in y)
 
-  pub told-refused : (a : Answer Found) (o : Outcome) (why : Refusal) (t : List Float) (s : List ℕ) → a ≡ found n m q wholes numbers → Finds n m q wholes numbers o t s → o ≡ Refused why
+  pub told-refused : (a : Answer Found) (o : Outcome) (why : Refusal) (t : List Float) (s : List ℕ) → a ≡ found n m q wholes numbers → Finds n m q wholes numbers o t s → o ≡ Err why
       → refusal_text texts why ≡ answer_text n m q d texts wholes numbers sheet (found n m q wholes numbers)
   told-refused (done r) o why t s e g h =
-      let k : o ≡ Done = rw (← e) at g.the_outcome in
+      let k : o ≡ (Ok tt) = rw (← e) at g.the_outcome in
       let z : ◌≡◌ {A = ℕ} 0 1 = cc in absurd (let y : ⊥ = omega arith in y)
   told-refused (refused r) o why t s e g h =
-      let k : o ≡ Refused r = rw (← e) at g.the_outcome in
+      let k : o ≡ Err r = rw (← e) at g.the_outcome in
       let w : why ≡ r = cc in rw (w, ← e) refl
 
 -- ---- the whole
 
-pub report-is : (bytes : List ℕ) (r q : Sheet) (texts wholes : List ℕ) (numbers : List Float) → r ≡ q → told bytes r texts wholes numbers ≡ sheet_of bytes → outcome_text bytes (told bytes q texts wholes numbers) ≡ day_report bytes
+pub report-is : (bytes : List ℕ) (r q : Result Sizes Unread) (texts wholes : List ℕ) (numbers : List Float) → r ≡ q → told bytes r texts wholes numbers ≡ sheet_of bytes → outcome_text bytes (told bytes q texts wholes numbers) ≡ day_report bytes
 unfolding day_report
-report-is bytes r q texts wholes numbers e h = ap (outcome_text bytes) (sym (ap (λ (x : Sheet). told bytes x texts wholes numbers) e) ∙ h)
+report-is bytes r q texts wholes numbers e h = ap (outcome_text bytes) (sym (ap (λ (x : Result Sizes Unread). told bytes x texts wholes numbers) e) ∙ h)
 
 pub too_long : (bytes : List ℕ) → 65536 < length bytes → long_text ≡ day_report bytes
 unfolding day_report sheet_of
 too_long bytes h = rw (lt-ltb 65536 (length bytes) h) refl
 
-pub fits : (bytes : List ℕ) (r q : Sheet) → r ≡ q → Fits bytes r → Fits bytes q
+pub fits : (bytes : List ℕ) (r q : Result Sizes Unread) → r ≡ q → Fits bytes r → Fits bytes q
 fits bytes r q e f = rw e at f
 
 -- the report, and the rest as it was

@@ -7,8 +7,7 @@ ghost use Rattle.day_volumes.specs.Found.{found, no_figures, no_signs};
 ghost use Rattle.day_report.specs.Report.{answer_text, day_report};
 ghost use Rattle.day_report.specs.Promise.{Reports};
 
-use sheet::Sheet;
-use workspace::Outcome;
+use sheet::Unread;
 
 // ---- rooms
 
@@ -67,8 +66,8 @@ fn put_day(
     let mut figures = figure_room();
     let mut signs = sign_room();
     match day_volumes::find(wholes, numbers, &mut figures, &mut signs, n, m, q) {
-        Outcome::Refused(why) => day_text::put_refusal(out, texts, why),
-        Outcome::Done => day_text::put_report(
+        Err(why) => day_text::put_refusal(out, texts, why),
+        Ok(()) => day_text::put_report(
             out, n, m, q, d, texts, wholes, numbers, &figures, &signs, sheet,
         ),
     }
@@ -86,11 +85,25 @@ pub fn write_report(bytes: &[u8], out: &mut [u8]) -> usize
     let mut wholes = whole_room();
     let mut numbers = number_room();
     match sheet::read(bytes, &mut texts, &mut wholes, &mut numbers) {
-        Sheet::Fault(line, e, start, end) => {
-            day_text::put_fault(out, line, e, &bytes[start..end])
-        }
-        Sheet::Long => day_text::put_long(out),
-        Sheet::Whole(n, m, q, d) => { put_day(out, n, m, q, d, &texts, &wholes, &numbers, bytes) }
+        // A match of its own: in one pattern with the `Err` the proof didn't find the word of the fault.
+        Err(why) => match why {
+            Unread::Fault(line, wrong) => {
+                let found = &bytes[wrong.word.start..wrong.word.end];
+                day_text::put_fault(out, line, wrong.expected, found)
+            }
+            Unread::Long => day_text::put_long(out),
+        },
+        Ok(sizes) => put_day(
+            out,
+            sizes.items,
+            sizes.balances,
+            sizes.limits,
+            sizes.doubts,
+            &texts,
+            &wholes,
+            &numbers,
+            bytes,
+        ),
     }
 }
 

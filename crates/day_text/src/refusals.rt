@@ -12,7 +12,7 @@ use workspace::Refusal;
 
 // ---- what the settling refuses
 
-// A reason that names nobody.
+// A reason that names nobody, by the number that the sentence tells: `plain_text` is of numbers, and a match would name all other refusals in its proof.
 fn put_plain(out: &mut [u8], at: usize, number: u32) -> usize
     requires { at + 80 ≤ length out.old }
     ensures wrote { Wrote out.old at (plain_text number) out.new result }

@@ -16,14 +16,12 @@ fn first_suspect(n: usize, signs: &[u32]) -> usize
     ensures value { result ≡ first_suspect n 0 signs.now }
     ensures upper_bound { result ≤ n }
 {
-    let mut i = 0;
-    while i < n {
+    for i in 0..n {
         if signs[i] == 2 {
             return i;
         }
-        i += 1;
     }
-    i
+    n
 }
 
 // One more to look at, if item i is.

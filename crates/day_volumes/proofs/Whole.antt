@@ -10,14 +10,14 @@ use lib.Ieee.{Float, nan}
 use Rattle.numbers.specs.Numbers.{at, nth, tab}
 use Rattle.numbers.proofs.Lists.{length-tab, get_d-tab, tab-same}
 use Rattle.workspace.specs.Tables.{Answer, done, refused}
-use Rattle.workspace.specs.declared.Outcome.{Outcome}
-use Rattle.workspace.specs.declared.Outcome.TheVariants.{Done}
+use Rattle.workspace.specs.Tables.{Outcome}
+use Rattle.std.specs.Prelude.{Ok}
 use Rattle.workspace.specs.declared.Refusal.{Refusal}
 use Rattle.interval.specs.Intervals.{is_finite}
 use Rattle.certain.specs.Bound.{closes, keeps, kept}
 use Rattle.settle.specs.Settle.{Measured, Settled, measured, is_kept, settled}
-use Rattle.settle_call.specs.declared.Bounded.{Bounded}
-use Rattle.settle_call.specs.declared.Bounded.TheVariants as bounded
+use Rattle.settle_call.specs.Promise.{Bounded}
+use Rattle.std.specs.Prelude.{Ok, Err}
 use Rattle.suspect.specs.Suspect.{Tests, shares, new_spreads, tests, stills, still_of, tests_from, suspect}
 use Rattle.suspect.specs.declared.Finding.{Finding}
 use Rattle.suspect_call.specs.Promise.{numbers_of}
@@ -25,7 +25,7 @@ use Rattle.day_volumes.specs.Posed.{is_stock, balance_row, limit_row, tolerance_
 use Rattle.day_volumes.specs.Found.{laid, row_times, flag, no_figures, no_signs, Found, tested, found, figures, signs}
 use Rattle.day_volumes.specs.Found as FoundBy
 use Rattle.day_volumes.specs.Promise.{Finds}
-use Rattle.day_volumes.specs.inner.Work.{LimitsIn, SettledTo, TestedTo, all_figures, test_signs, within_signs, stills_of, bounded_outcome, TestsTold, FoundPosed}
+use Rattle.day_volumes.specs.inner.Work.{LimitsIn, SettledTo, TestedTo, all_figures, test_signs, within_signs, stills_of, TestsTold, FoundPosed}
 use Rattle.day_volumes.proofs.Laid.{length-laid, laid_as, laid-two, figures-length, signs-length}
 
 -- ---- which items stand still
@@ -110,8 +110,8 @@ module _ (n m p q : ℕ) (z : List ℕ) (f values balances limits least : List F
       ap (λ (v : List ℕ). set v 50 (flag (is_finite t && kept n m p balances limits least s.x t)))
       (ap (λ (v : List ℕ). laid 0 32 q h v) (laid-two 16 m g u a b (omega arith)) ∙ laid-two 32 q h (laid 0 16 m g u) a b (omega arith))
 
-  pub posed-done : m ≤ 16 → q ≤ 16 → (a : Answer Settled) (b : Bounded) (x x' : List Float) (far : Float) (t' : List Float) (s₁ s' : List ℕ) → a ≡ settled day (tolerance_of f) → SettledTo a b x x' → b ≡ bounded.Done far
-      → TestsTold n m q z f values balances x' far t' s₁ → s' ≡ within_signs n m p q balances limits least x' (tolerance_of f) s₁ → FoundPosed z f day q Done t' s'
+  pub posed-done : m ≤ 16 → q ≤ 16 → (a : Answer Settled) (b : Bounded) (x x' : List Float) (far : Float) (t' : List Float) (s₁ s' : List ℕ) → a ≡ settled day (tolerance_of f) → SettledTo a b x x' → b ≡ Ok far
+      → TestsTold n m q z f values balances x' far t' s₁ → s' ≡ within_signs n m p q balances limits least x' (tolerance_of f) s₁ → FoundPosed z f day q (Ok tt) t' s'
   posed-done hm hq (done s) b x x' far t' s₁ s' ea k eb g h =
       let o = k.the_outcome in
       let ef : far ≡ s.far = cc in
@@ -119,12 +119,15 @@ module _ (n m p q : ℕ) (z : List ℕ) (f values balances limits least : List F
       let gf : t' ≡ figures m q f (tested z day s) = g.the_figures ∙ rw (ef, ex) (figures-are s) in
       let gs : s' ≡ signs m q f (tested z day s) = h ∙ rw (g.the_signs, ex) (signs-are hm hq s) in
       record { the_outcome = rw (← ea) refl; the_figures = rw (← ea) gf; the_signs = rw (← ea) gs }
-  posed-done hm hq (refused r) b x x' far t' s₁ s' ea k eb g h = let o = k.the_outcome in let y : ◌≡◌ {A = ℕ} 0 1 = cc in absurd (let w : ⊥ = omega arith in w)
+  posed-done hm hq (refused r) b x x' far t' s₁ s' ea k eb g h = let o : ◌≡◌ {A = Bounded} b (Err r) = k.the_outcome in absurd (let w : ⊥ = cc in w)
 
-  pub posed-refused : (a : Answer Settled) (b : Bounded) (r : Refusal) (o : Outcome) (x x' : List Float) (t : List Float) (s : List ℕ) → a ≡ settled day (tolerance_of f) → SettledTo a b x x' → b ≡ bounded.Refused r
-      → o ≡ bounded_outcome b → t ≡ no_figures → s ≡ no_signs → FoundPosed z f day q o t s
-  posed-refused (done s') b r o x x' t s ea k eb eo bt bs = let u = k.the_outcome in let y : ◌≡◌ {A = ℕ} 0 1 = cc in absurd (let w : ⊥ = omega arith in w)
-  posed-refused (refused r') b r o x x' t s ea k eb eo bt bs = record { the_outcome = rw (← ea) (eo ∙ ap bounded_outcome k.the_outcome); the_figures = rw (← ea) bt; the_signs = rw (← ea) bs }
+  pub posed-refused : (a : Answer Settled) (b : Bounded) (r : Refusal) (x x' : List Float) (t : List Float) (s : List ℕ) → a ≡ settled day (tolerance_of f) → SettledTo a b x x' → b ≡ Err r
+      → t ≡ no_figures → s ≡ no_signs → FoundPosed z f day q (Err r) t s
+  posed-refused (done s') b r x x' t s ea k eb bt bs = let u : ◌≡◌ {A = Bounded} b (Ok s'.far) = k.the_outcome in absurd (let w : ⊥ = cc in w)
+  posed-refused (refused r') b r x x' t s ea k eb bt bs =
+      let u : ◌≡◌ {A = Bounded} b (Err r') = k.the_outcome in
+      let e : r ≡ r' = cc in
+      record { the_outcome = rw (← ea) (ap Err e); the_figures = rw (← ea) bt; the_signs = rw (← ea) bs }
 
 -- ---- the whole
 

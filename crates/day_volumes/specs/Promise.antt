@@ -1,7 +1,7 @@
 -- What finding a day's volumes answers and leaves. Definitions only.
 use Rattle.std.specs.Prelude.{◌≡◌, List, ℕ, Float}
 use Rattle.workspace.specs.Tables.{outcome_of, output}
-use Rattle.workspace.specs.declared.Outcome.{Outcome}
+use Rattle.workspace.specs.Tables.{Outcome}
 use Rattle.day_volumes.specs.Found.{found, figures, signs, no_figures, no_signs}
 
 -- From the sheet's tables: the outcome o, and what the two tables hold afterwards, which were blank.

@@ -6,9 +6,10 @@ ghost use Rattle.interval.specs.Intervals.{is_finite};
 ghost use Rattle.certain.specs.Bound as Bound;
 ghost use Rattle.workspace.specs.Readings.{Block, Span};
 ghost use Rattle.day_volumes.specs.Found.{flag as found_flag, row_times};
-ghost use Rattle.day_volumes.specs.inner.Work.{Counts, Limited, item_figures, sum_figures, all_figures, test_signs, within_signs};
+ghost use Rattle.day_volumes.specs.inner.Work.{Counts, item_figures, sum_figures, all_figures, test_signs, within_signs};
 
 use crate::pose::{BALANCES, LIMITS};
+use settle::MeasuredDay;
 
 // ---- figures: of items, of balances, of limits
 
@@ -128,75 +129,42 @@ fn put_marks(marks: &[u32], out: &mut [u32], n: usize)
 }
 
 // Whether each balance is within the tolerance.
-fn put_closed(balances: &[f64], x: &[f64], out: &mut [u32], n: usize, m: usize, tolerance: f64)
-    requires { (n ≤ 16) × (m ≤ 16) × (length balances.now ≡ m * n) × (length x.now ≡ n) × (length out.old ≡ 51) }
-    ensures { Span 16 m (λ j. found_flag (Bound.closes n j balances.now x.now tolerance)) out.old out.new }
+fn put_closed(day: &MeasuredDay, x: &[f64], out: &mut [u32], tolerance: f64)
+    requires { (length x.now ≡ day.now.n) × (length out.old ≡ 51) }
+    ensures { Span 16 day.now.m (λ j. found_flag (Bound.closes day.now.n j day.now.balances.now x.now tolerance)) out.old out.new }
 {
-    for j in 0..m {
-        out[CLOSED + j] = flag(certain::closes(n, j, balances, x, tolerance));
+    for j in 0..day.m {
+        out[CLOSED + j] = flag(certain::closes(day.n, j, day.balances, x, tolerance));
     }
 }
 
-// Whether each of the sheet's limits, the last q of p, is kept within it.
-fn put_kept(
-    limits: &[f64],
-    least: &[f64],
-    x: &[f64],
-    out: &mut [u32],
-    n: usize,
-    p: usize,
-    q: usize,
-    tolerance: f64,
-)
-    requires { (n ≤ 16) × (p ≤ 48) × (q ≤ 16) × (q ≤ p) × Limited n p limits.now least.now × (length x.now ≡ n) × (length out.old ≡ 51) }
-    ensures { Span 32 q (λ j. found_flag (Bound.keeps n (p - q + j) limits.now least.now x.now tolerance)) out.old out.new }
+// Whether each of the sheet's limits, the last q, is kept within it.
+fn put_kept(day: &MeasuredDay, x: &[f64], out: &mut [u32], q: usize, tolerance: f64)
+    requires { (q ≤ 16) × (q ≤ day.now.p) × (length x.now ≡ day.now.n) × (length out.old ≡ 51) }
+    ensures { Span 32 q (λ j. found_flag (Bound.keeps day.now.n (day.now.p - q + j) day.now.limits.now day.now.least.now x.now tolerance)) out.old out.new }
 {
-    let first = p - q;
+    let first = day.p - q;
     for j in 0..q {
-        out[KEPT + j] = flag(certain::keeps(n, first + j, limits, least, x, tolerance));
+        out[KEPT + j] = flag(certain::keeps(day.n, first + j, day.limits, day.least, x, tolerance));
     }
 }
 
 // Whether every balance and every limit is kept within a tolerance, which is finite.
-fn is_kept(
-    balances: &[f64],
-    limits: &[f64],
-    least: &[f64],
-    x: &[f64],
-    n: usize,
-    m: usize,
-    p: usize,
-    tolerance: f64,
-) -> bool
-    requires { (length balances.now ≡ m * n) × Limited n p limits.now least.now × (length x.now ≡ n) }
-    ensures { result ≡ (is_finite tolerance && Bound.kept n m p balances.now limits.now least.now x.now tolerance) }
+fn is_kept(day: &MeasuredDay, x: &[f64], tolerance: f64) -> bool
+    requires { length x.now ≡ day.now.n }
+    ensures { result ≡ (is_finite tolerance && Bound.kept day.now.n day.now.m day.now.p day.now.balances.now day.now.limits.now day.now.least.now x.now tolerance) }
 {
-    let finite = interval::is_finite(tolerance);
-    if !finite {
-        return false;
-    }
-    certain::kept(n, m, p, balances, limits, least, x, tolerance)
+    interval::is_finite(tolerance) && day.is_kept(x, tolerance)
 }
 
 // The signs of balances and limits, and whether all is kept.
-pub fn put_within(
-    balances: &[f64],
-    limits: &[f64],
-    least: &[f64],
-    x: &[f64],
-    out: &mut [u32],
-    n: usize,
-    m: usize,
-    p: usize,
-    q: usize,
-    tolerance: f64,
-)
-    requires { Counts n m q × (p ≤ 48) × (q ≤ p) × (length balances.now ≡ m * n) × Limited n p limits.now least.now × (length x.now ≡ n) × (length out.old ≡ 51) }
-    ensures { out.new ≡ within_signs n m p q balances.now limits.now least.now x.now tolerance out.old }
+pub fn put_within(day: &MeasuredDay, x: &[f64], out: &mut [u32], q: usize, tolerance: f64)
+    requires { (q ≤ 16) × (q ≤ day.now.p) × (length x.now ≡ day.now.n) × (length out.old ≡ 51) }
+    ensures { out.new ≡ within_signs day.now.n day.now.m day.now.p q day.now.balances.now day.now.limits.now day.now.least.now x.now tolerance out.old }
 {
-    put_closed(balances, x, out, n, m, tolerance);
-    put_kept(limits, least, x, out, n, p, q, tolerance);
-    out[ALL_KEPT] = flag(is_kept(balances, limits, least, x, n, m, p, tolerance));
+    put_closed(day, x, out, tolerance);
+    put_kept(day, x, out, q, tolerance);
+    out[ALL_KEPT] = flag(is_kept(day, x, tolerance));
 }
 
 // The signs of the tests.

@@ -6,20 +6,19 @@ use Prim.Native.Nat.{ℕ, zero, suc, ◌+◌, ◌-◌, ◌*◌, ◌^◌, ◌≤�
 use native.Mathlib.Nat.{pow-succ', pow-le-pow_right, mul-le-mul_right}
 use native.Mathlib.Omega.{arith}
 use borrow.Author.Tests.{lt-ltb, le-ltb, le-leb, lt-leb, eq-eqb, ne_eqb}
+use lib.Dec.{eqb}
 use lib.ListN.{length, drop, replicate}
-use lib.Ieee.{Float}
+use Rattle.std.specs.Prelude.{Result, Ok, Err, Option, Some, None}
+use Rattle.std.specs.Result.{result_ok}
 use Rattle.endian.specs.Little.{placed}
 use Rattle.ascii.specs.inner.Work.{Wrote}
 use Rattle.decimals.specs.declared.Run.{Run}
-use Rattle.decimals.specs.declared.Reading.{Reading}
-use Rattle.decimals.specs.declared.Reading.TheVariants as decimal
+use Rattle.decimals.specs.declared.Decimal.{Decimal}
 use Rattle.decimals.specs.Decimal.{numeral_from, numeral, is_digit, digits_of, decimal_at}
 use Rattle.decimals.specs.Claims.{are_digits}
 use Rattle.decimals.specs.inner.Work.{capped, run_from}
 use Rattle.decimals.proofs.Runs.{digit_lt, capped-low}
-use Rattle.day_words.specs.declared.Count.TheVariants.{Shows, Unread}
-use Rattle.day_words.specs.declared.Number.TheVariants.{Is, Missing}
-use Rattle.day_words.specs.Items.{filled, reading_of, decimal_of}
+use Rattle.day_words.specs.Items.{filled, reading_of, wholly, decimal_of}
 
 -- ---- names
 
@@ -69,11 +68,11 @@ numeral-bound (c ∷ w) a h = go (is_digit c) refl h (numeral-bound w (10 * a + 
     go true e h f = rw (pow-succ' 10 (length w)) (wider (10 ^ length w) (digit_lt c e) (f h))
     go false e h f = absurd (let n : ◌≡◌ {A = ℕ} 0 1 = cc in omega arith)
 
-pub reading-none : (w : List ℕ) → length w ≡ 0 → Unread ≡ reading_of w
+pub reading-none : (w : List ℕ) → length w ≡ 0 → None ≡ reading_of w
 unfolding reading_of
 reading-none w h = rw (le-ltb 0 (length w) (omega arith))
 
-pub reading-long : (w : List ℕ) → 6 < length w → Unread ≡ reading_of w
+pub reading-long : (w : List ℕ) → 6 < length w → None ≡ reading_of w
 unfolding reading_of
 reading-long w h = rw (lt-ltb 0 (length w) (omega arith), lt-leb (length w) 6 h)
 
@@ -86,7 +85,7 @@ module _ (w : List ℕ) (N : length w ≡ 0 → ⊥) (L : length w ≤ 6) (r : R
   unfolding run_from
   value-is = rw e
 
-  pub reading-not : (r.end ≡ length w → ⊥) → Unread ≡ reading_of w
+  pub reading-not : (r.end ≡ length w → ⊥) → None ≡ reading_of w
   unfolding reading_of
   reading-not h = rw (lt-ltb 0 (length w) (omega (arith, N)), le-leb (length w) 6 L, not-digits w (λ z. h (end_is ∙ z)))
 
@@ -106,21 +105,29 @@ module _ (w : List ℕ) (N : length w ≡ 0 → ⊥) (L : length w ≤ 6) (r : R
     pub reading_fits : r.value < 1000000
     reading_fits = omega (arith, shown, below)
 
-    pub reading-is : Shows r.value ≡ reading_of w
+    pub reading-is : Some r.value ≡ reading_of w
     unfolding reading_of
     reading-is = rw (lt-ltb 0 (length w) (omega (arith, N)), le-leb (length w) 6 L, digits_are.1, shown)
 
 -- ---- decimals
 
-module _ (w : List ℕ) (r : Reading) (e : r ≡ decimal_at w 0) where
-  pub number-not : (p : ℕ) → r ≡ decimal.Fault p → Missing ≡ decimal_of w
-  unfolding decimal_of
-  number-not p h = rw (← e, h)
+whole_part : (r : Result Decimal ℕ) (n : ℕ) (d : Decimal) → Some d ≡ result_ok r → cond (eqb d.end n) (Some d.value) None ≡ wholly r n
+whole_part (Ok b) n d h = let e : d ≡ b = cc in rw e
+whole_part (Err p) n d h = absurd (let z : ◌≡◌ {A = ℕ} 0 1 = cc in omega arith)
 
-  pub number-part : (x : Float) (end : ℕ) → r ≡ decimal.Number x end → (end ≡ length w → ⊥) → Missing ≡ decimal_of w
-  unfolding decimal_of
-  number-part x end h n = rw (← e, h, ne_eqb end (length w) n)
+no_part : (r : Result Decimal ℕ) (n : ℕ) → ◌≡◌ {A = Option Decimal} None (result_ok r) → None ≡ wholly r n
+no_part (Ok b) n h = absurd (let z : ◌≡◌ {A = ℕ} 0 1 = cc in omega arith)
+no_part (Err p) n h = refl
 
-  pub number-whole : (x : Float) (end : ℕ) → r ≡ decimal.Number x end → end ≡ length w → Is x ≡ decimal_of w
+module _ (w : List ℕ) (r : Result Decimal ℕ) (e : r ≡ decimal_at w 0) where
+  pub number-not : ◌≡◌ {A = Option Decimal} None (result_ok r) → None ≡ decimal_of w
   unfolding decimal_of
-  number-whole x end h n = rw (← e, h, eq-eqb end (length w) n)
+  number-not h = rw (← e) (no_part r (length w) h)
+
+  pub number-part : (d : Decimal) → Some d ≡ result_ok r → (d.end ≡ length w → ⊥) → None ≡ decimal_of w
+  unfolding decimal_of
+  number-part d h n = rw (← e, ← whole_part r (length w) d h, ne_eqb d.end (length w) n)
+
+  pub number-whole : (d : Decimal) → Some d ≡ result_ok r → d.end ≡ length w → Some d.value ≡ decimal_of w
+  unfolding decimal_of
+  number-whole d h n = rw (← e, ← whole_part r (length w) d h, eq-eqb d.end (length w) n)

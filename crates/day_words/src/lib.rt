@@ -6,20 +6,6 @@ ghost use Rattle.day_words.specs.Words.{is_feed, is_blank as words_is_blank, up_
 ghost use Rattle.day_words.specs.Items.{filled, reading_of, decimal_of};
 ghost use Rattle.day_words.specs.inner.Work.{IsWord};
 
-// A decimal number, or none.
-#[derive(Clone, Copy)]
-pub enum Number {
-    Is(f64),
-    Missing,
-}
-
-// A reading, or none.
-#[derive(Clone, Copy)]
-pub enum Count {
-    Shows(u32),
-    Unread,
-}
-
 // A word of a line by its places.
 #[derive(Clone, Copy)]
 pub struct Word {
@@ -32,14 +18,12 @@ pub fn line_end(bytes: &[u8], at: usize) -> usize
     requires { at ≤ length bytes.now }
     ensures { (result ≡ at + length (up_to is_feed (drop at bytes.now))) × (result ≤ length bytes.now) }
 {
-    let mut i = at;
-    while i < bytes.len() {
+    for i in at..bytes.len() {
         if bytes[i] == b'\n' {
             return i;
         }
-        i += 1;
     }
-    i
+    bytes.len()
 }
 
 // The length of a line without the carriage return that it ends in.
@@ -71,14 +55,12 @@ pub fn skip(line: &[u8], from: usize) -> usize
     requires { from ≤ length line.now }
     ensures { (drop result line.now ≡ skip_blanks (drop from line.now)) × (result ≤ length line.now) }
 {
-    let mut i = from;
-    while i < line.len() {
+    for i in from..line.len() {
         if !is_blank(line[i]) {
             return i;
         }
-        i += 1;
     }
-    i
+    line.len()
 }
 
 // The place of the first blank, or the end.
@@ -86,14 +68,12 @@ fn word_end(line: &[u8], from: usize) -> usize
     requires { from ≤ length line.now }
     ensures { (result ≡ from + length (up_to words_is_blank (drop from line.now))) × (result ≤ length line.now) }
 {
-    let mut i = from;
-    while i < line.len() {
+    for i in from..line.len() {
         if is_blank(line[i]) {
             return i;
         }
-        i += 1;
     }
-    i
+    line.len()
 }
 
 // The first word from a place on.
@@ -103,10 +83,7 @@ pub fn find_word(line: &[u8], from: usize) -> Word
 {
     let start = skip(line, from);
     let end = word_end(line, start);
-    Word {
-        start: start,
-        end: end,
-    }
+    Word { start, end }
 }
 
 // A name with blanks behind it.
@@ -119,33 +96,31 @@ pub fn fill(word: &[u8]) -> [u8; 16]
     name
 }
 
-// The reading that a word shows.
-pub fn reading_of(word: &[u8]) -> Count
+// The reading that a word shows, if it is one.
+pub fn reading_of(word: &[u8]) -> Option<u32>
     ensures { result ≡ reading_of word.now }
 {
     let n = word.len();
     if n == 0 {
-        return Count::Unread;
+        return None;
     }
     if 6 < n {
-        return Count::Unread;
+        return None;
     }
     let run = decimals::digits(word, 0, 0);
     if run.end != n {
-        return Count::Unread;
+        return None;
     }
-    Count::Shows(run.value as u32)
+    Some(run.value as u32)
 }
 
-// The number that a word is.
-pub fn number_of(word: &[u8]) -> Number
+// The decimal number that a word is, if it is one.
+pub fn number_of(word: &[u8]) -> Option<f64>
     ensures { result ≡ decimal_of word.now }
 {
-    let decimals::Reading::Number(x, end) = decimals::read(word, 0) else {
-        return Number::Missing;
-    };
-    if end != word.len() {
-        return Number::Missing;
+    let decimal = decimals::read(word, 0).ok()?;
+    if decimal.end != word.len() {
+        return None;
     }
-    Number::Is(x)
+    Some(decimal.value)
 }

@@ -16,8 +16,7 @@ use Rattle.numbers.specs.Numbers.{tab}
 use Rattle.numbers.proofs.Cases.{lt-or-ge}
 use Rattle.ascii.specs.Text.{ascii, decimal_from, decimal_text}
 use Rattle.ascii.proofs.Numerals.{glyph-is}
-use Rattle.decimals.specs.declared.Reading.TheVariants.{Number}
-use Rattle.decimals.specs.Decimal.{numeral_from, numeral, minus_text, is_digit, value_of, within, decimal_at}
+use Rattle.decimals.specs.Decimal.{number, numeral_from, numeral, minus_text, is_digit, value_of, within, decimal_at}
 use Rattle.decimals.specs.Claims.{are_digits, HalfAway}
 use Rattle.decimals.proofs.Runs.{numeral-append, in-limits}
 use Rattle.decimals.proofs.Grammar.{reads-point}
@@ -159,5 +158,5 @@ comes_back s m e front rest h z q =
           ap (λ (l : List ℕ). decimal_at (front ++ (l ++ rest)) (length front)) text
           ∙ reads-written front rest s t q
           ∙ sym (in-limits (s && ltb 0 t) t 3 (length front) (length front + length (signed_text s t)) (value_of (s && ltb 0 t) t 3) h (omega arith) refl)
-          ∙ ap (λ (l : List ℕ). Number (value_of (s && ltb 0 t) t 3) (length front + length l)) (sym text);
+          ∙ ap (λ (l : List ℕ). number (value_of (s && ltb 0 t) t 3) (length front + length l)) (sym text);
     }

@@ -5,7 +5,7 @@ use native.Mathlib.Nat.{div-div-eq-div-mul, div-le_self, le-div_iff_mul-le, one-
 use native.Mathlib.Omega.{arith}
 use lib.Dec.{lit<, lit≤}
 use lib.Pow.{pow-add, pow_pos, pow_mono}
-use lib.Ieee.{Float, binary64, size, units}
+use lib.Ieee.{Float, binary64, size}
 use lib.Ieee.Digits.{size-le, size_reaches}
 use lib.Ieee.Exact.{HasValue, units_val}
 use lib.Ieee.Fits.{nearest-le, kept-lt, round_is}

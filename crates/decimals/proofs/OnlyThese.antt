@@ -10,10 +10,11 @@ use lib.Dec.{leb, ltb, eqb, lit<}
 use lib.ListN.{length, drop, get_or}
 use lib.Seq.{drop-cons, drop-drop}
 use lib.Ieee.{Float}
+use Rattle.std.specs.Prelude.{Err}
 use Rattle.numbers.specs.Numbers.{tab}
-use Rattle.decimals.specs.declared.Reading.TheVariants.{Number, Fault}
 use Rattle.ascii.specs.Text.{ascii}
-use Rattle.decimals.specs.Decimal.{numeral, minus_text, is_digit, digits_of, value_of, choose, within, unsigned_at, decimal_at}
+use Rattle.decimals.specs.declared.Decimal.{Decimal}
+use Rattle.decimals.specs.Decimal.{number, numeral, minus_text, is_digit, digits_of, value_of, choose, within, unsigned_at, decimal_at}
 use Rattle.decimals.specs.Claims.{are_digits, point_text, IsDecimal, OnlyDecimals}
 use Rattle.decimals.proofs.Runs.{inside}
 
@@ -46,16 +47,18 @@ front-all (c ∷ cs) = go (is_digit c) refl (front-all cs)
     go false e h = rw e
 
 -- ---- what a number tells of the tests
-never : {A : Type 0} (at next : ℕ) (x : Float) → Fault at ≡ Number x next → A
+never : {A : Type 0} (at next : ℕ) (x : Float) → Err at ≡ number x next → A
 never at next x e = absurd (let n : ◌≡◌ {A = ℕ} 0 1 = cc in omega arith)
 
-within-tells : (s : Bool) (a k at end next : ℕ) (x : Float) → within s a k at end ≡ Number x next → (a < 10 ^ 15) × (k ≤ 22) × (x ≡ value_of s a k) × (next ≡ end)
+within-tells : (s : Bool) (a k at end next : ℕ) (x : Float) → within s a k at end ≡ number x next → (a < 10 ^ 15) × (k ≤ 22) × (x ≡ value_of s a k) × (next ≡ end)
 unfolding within
 within-tells s a k at end next x e = go (ltb a (10 ^ 15)) (leb k 22) refl refl e
   where
-    go : (p q : Bool) → ltb a (10 ^ 15) ≡ p → leb k 22 ≡ q → choose (p && q) (Number (value_of s a k) end) (Fault at) ≡ Number x next
+    go : (p q : Bool) → ltb a (10 ^ 15) ≡ p → leb k 22 ≡ q → choose (p && q) (number (value_of s a k) end) (Err at) ≡ number x next
         → (a < 10 ^ 15) × (k ≤ 22) × (x ≡ value_of s a k) × (next ≡ end)
-    go true true f g e = (ltb-true a (10 ^ 15) f, leb-true k 22 g, cc, cc)
+    go true true f g e =
+        let d : ◌≡◌ {A = Decimal} (record { value = value_of s a k; end = end }) (record { value = x; end = next }) = cc in
+        (ltb-true a (10 ^ 15) f, leb-true k 22 g, sym (ap (λ (r : Decimal). r.value) d), sym (ap (λ (r : Decimal). r.end) d))
     go true false f g e = never at next x e
     go false q f g e = never at next x e
 
@@ -107,7 +110,7 @@ module _ (bs : List ℕ) (s : Bool) (at start next : ℕ) (x : Float) where
   abbrev p : List ℕ
   p = digits_of (drop (end + 1) bs)
 
-  whole-only : 0 < length w → within s (numeral w) 0 at end ≡ Number x next → FromDigit bs s start next x
+  whole-only : 0 < length w → within s (numeral w) 0 at end ≡ number x next → FromDigit bs s start next x
   whole-only h e =
       let t = within-tells s (numeral w) 0 at end next x e in
       let n : w ++ [] ≡ w = append-nil w in
@@ -125,7 +128,7 @@ module _ (bs : List ℕ) (s : Bool) (at start next : ℕ) (x : Float) where
         value = rw n t.2;
       }
 
-  with-point : 0 < length w → get_or bs end 0 ≡ 46 → 0 < length p → within s (numeral (w ++ p)) (length p) at (end + 1 + length p) ≡ Number x next → FromDigit bs s start next x
+  with-point : 0 < length w → get_or bs end 0 ≡ 46 → 0 < length p → within s (numeral (w ++ p)) (length p) at (end + 1 + length p) ≡ number x next → FromDigit bs s start next x
   with-point h g m e =
       let t = within-tells s (numeral (w ++ p)) (length p) at (end + 1 + length p) next x e in
       let i : end < length bs = inside bs end 46 g (lit< tt) in
@@ -150,12 +153,12 @@ module _ (bs : List ℕ) (s : Bool) (at start next : ℕ) (x : Float) where
       count : (k : ℕ) → end + 1 + k ≡ end + suc k
       count k = omega arith
 
-  from-digit : unsigned_at bs s at start ≡ Number x next → FromDigit bs s start next x
+  from-digit : unsigned_at bs s at start ≡ number x next → FromDigit bs s start next x
   unfolding unsigned_at
   from-digit e = go (eqb end start) (eqb (get_or bs end 0) 46) (eqb (end + 1 + length p) (end + 1)) refl refl refl e
     where
       go : (a b c : Bool) → eqb end start ≡ a → eqb (get_or bs end 0) 46 ≡ b → eqb (end + 1 + length p) (end + 1) ≡ c
-          → choose a (Fault start) (choose b (choose c (Fault (end + 1)) (within s (numeral (w ++ p)) (length p) at (end + 1 + length p))) (within s (numeral w) 0 at end)) ≡ Number x next
+          → choose a (Err start) (choose b (choose c (Err (end + 1)) (within s (numeral (w ++ p)) (length p) at (end + 1 + length p))) (within s (numeral w) 0 at end)) ≡ number x next
           → FromDigit bs s start next x
       go true b c f g h e = never start next x e
       go false true true f g h e = never (end + 1) next x e
@@ -191,7 +194,7 @@ pub only-decimals : OnlyDecimals
 unfolding decimal_at
 only-decimals bs at next x e = go (eqb (get_or bs at 0) 45) refl e
   where
-    go : (b : Bool) → eqb (get_or bs at 0) 45 ≡ b → unsigned_at bs b at (cond b (at + 1) at) ≡ Number x next → IsDecimal bs at next x
+    go : (b : Bool) → eqb (get_or bs at 0) 45 ≡ b → unsigned_at bs b at (cond b (at + 1) at) ≡ number x next → IsDecimal bs at next x
     go true f e =
         let g = eqb-true (get_or bs at 0) 45 f in
         let i : at < length bs = inside bs at 45 g (lit< tt) in

@@ -7,14 +7,14 @@ use Prim.Native.Nat.{ℕ, suc, ◌+◌, ◌-◌, ◌*◌, ◌≤◌, ◌<◌}
 use native.Mathlib.Nat.{add-zero, min-eq_left, min-eq_right}
 use native.Mathlib.Omega.{arith}
 use borrow.Author.Tests.{lt-ltb, le-ltb, le-leb, lt-leb, eq-eqb, ne_eqb}
-use lib.Dec.{leb, ltb}
+use lib.Dec.{leb}
 use lib.ListN.{length, drop, get_or, drop_of_length-le, get_or-eq_default}
 use lib.Seq.{drop-cons}
 use lib.Ieee.{Float}
+use Rattle.std.specs.Prelude.{Err}
 use Rattle.numbers.proofs.Cases.{lt-or-ge}
 use Rattle.decimals.specs.declared.Run.{Run}
-use Rattle.decimals.specs.declared.Reading.TheVariants.{Number, Fault}
-use Rattle.decimals.specs.Decimal.{numeral_from, numeral, is_digit, digits_of, value_of, within, unsigned_at, decimal_at}
+use Rattle.decimals.specs.Decimal.{number, numeral_from, numeral, is_digit, digits_of, value_of, within, unsigned_at, decimal_at}
 use Rattle.decimals.specs.inner.Work.{capped, run_from}
 
 -- ---- bytes
@@ -94,15 +94,15 @@ run_more bs i v w l e f =
     rw (one_more bs i l e, p, q)
 
 -- ---- the limits
-pub many-digits : (s : Bool) (a k at next : ℕ) → 1000000000000000 ≤ a → Fault at ≡ within s a k at next
+pub many-digits : (s : Bool) (a k at next : ℕ) → 1000000000000000 ≤ a → Err at ≡ within s a k at next
 unfolding within
 many-digits s a k at next h = rw (le-ltb a 1000000000000000 h)
 
-pub many-places : (s : Bool) (a k at next : ℕ) → a < 1000000000000000 → 22 < k → Fault at ≡ within s a k at next
+pub many-places : (s : Bool) (a k at next : ℕ) → a < 1000000000000000 → 22 < k → Err at ≡ within s a k at next
 unfolding within
 many-places s a k at next h l = rw (lt-ltb a 1000000000000000 h, lt-leb k 22 l)
 
-pub in-limits : (s : Bool) (a k at next : ℕ) (x : Float) → a < 1000000000000000 → k ≤ 22 → x ≡ value_of s a k → Number x next ≡ within s a k at next
+pub in-limits : (s : Bool) (a k at next : ℕ) (x : Float) → a < 1000000000000000 → k ≤ 22 → x ≡ value_of s a k → number x next ≡ within s a k at next
 unfolding within
 in-limits s a k at next x h l e = rw (lt-ltb a 1000000000000000 h, le-leb k 22 l, e)
 
@@ -129,7 +129,7 @@ module _ (bs : List ℕ) (s : Bool) (at start : ℕ) (w : Run) (W : w ≡ run_fr
   pub value-le : w.value ≤ 1000000000000000
   value-le = rw value-is (capped_le (numeral whole))
 
-  pub no_digit : w.end ≡ start → Fault start ≡ unsigned_at bs s at start
+  pub no_digit : w.end ≡ start → Err start ≡ unsigned_at bs s at start
   unfolding unsigned_at whole
   no_digit e = rw (← end_is, eq-eqb w.end start e)
 
@@ -152,7 +152,7 @@ module _ (bs : List ℕ) (s : Bool) (at start : ℕ) (w : Run) (W : w ≡ run_fr
     pub next-ge : w.end + 1 ≤ p.end
     next-ge = omega (arith, next-is)
 
-    pub no_part : p.end ≡ w.end + 1 → Fault (w.end + 1) ≡ unsigned_at bs s at start
+    pub no_part : p.end ≡ w.end + 1 → Err (w.end + 1) ≡ unsigned_at bs s at start
     unfolding unsigned_at whole part
     no_part h = rw (← end_is, ne_eqb w.end start e, ← g, eq-eqb b 46 f, ← next-is, eq-eqb p.end (w.end + 1) h)
 

@@ -21,7 +21,7 @@ use Rattle.numbers.proofs.Patterns.{of_bits_is}
 use Rattle.numbers.specs.Numbers.{tab}
 use Rattle.ascii.specs.Text.{ascii, decimal_text}
 use Rattle.decimals.specs.Decimal.{minus_text}
-use Rattle.decimals.specs.Fixed.{thousandths, thousandths_text, signed_text, tiny_text, small_text, fixed_text}
+use Rattle.decimals.specs.Fixed.{thousandths, thousandths_text, signed_text, small_text, fixed_text}
 use Rattle.decimals.specs.inner.Units.{units_of}
 
 -- ---- the number of a pattern

@@ -1,8 +1,7 @@
 -- What is shown of decimals that are read: Grammar, OnlyThese and LastPlace of proofs/ prove it. Definitions only.
 use Rattle.std.specs.Prelude.{◌≡◌, Bool, true, ◌&&◌, List, [], ◌∷◌, ◌++◌, ℕ, ◌+◌, ◌*◌, ◌%◌, ◌^◌, ◌≤◌, ◌<◌, length, drop, get_or, Float}
 use Rattle.std.specs.Float.Ieee.Exact.{HasValue}
-use Rattle.decimals.specs.declared.Reading.TheVariants.{Number}
-use Rattle.decimals.specs.Decimal.{numeral, minus_text, is_digit, digits_of, value_of, within, decimal_at}
+use Rattle.decimals.specs.Decimal.{number, numeral, minus_text, is_digit, digits_of, value_of, within, decimal_at}
 
 -- ---- what is read
 
@@ -51,7 +50,7 @@ pub record IsDecimal (bytes : List ℕ) (at next : ℕ) (x : Float) : Type 0 whe
   pub value : x ≡ value_of s (numeral (w ++ p)) (length p)
 
 abbrev pub OnlyDecimals : Type 0
-OnlyDecimals = (bytes : List ℕ) (at next : ℕ) (x : Float) → decimal_at bytes at ≡ Number x next → IsDecimal bytes at next x
+OnlyDecimals = (bytes : List ℕ) (at next : ℕ) (x : Float) → decimal_at bytes at ≡ number x next → IsDecimal bytes at next x
 
 -- t is at most half away from a / b, and even where it is exactly half away
 pub record HalfAway (a b t : ℕ) : Type 0 where

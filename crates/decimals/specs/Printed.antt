@@ -4,8 +4,7 @@ use Rattle.std.specs.Float.{fin}
 use Rattle.std.specs.Float.Ieee.{up, down}
 use Rattle.io.specs.Digits.{last_digits}
 use Rattle.ascii.specs.Text.{decimal_text}
-use Rattle.decimals.specs.declared.Reading.TheVariants.{Number}
-use Rattle.decimals.specs.Decimal.{numeral, digits_of, value_of, within, decimal_at}
+use Rattle.decimals.specs.Decimal.{number, numeral, digits_of, value_of, within, decimal_at}
 use Rattle.decimals.specs.Claims.{HalfAway}
 use Rattle.decimals.specs.Fixed.{thousandths, signed_text, is_tiny, fixed_text}
 
@@ -31,7 +30,7 @@ ReadsWritten =
 pub record Back (s : Bool) (m : ℕ) (e : ℤ) (front rest : List ℕ) : Type 0 where
   pub t : ℕ
   pub near : HalfAway (1000 * (m * up e)) (down e) t
-  pub read : decimal_at (front ++ (fixed_text (fin s m e) ++ rest)) (length front) ≡ Number (value_of (s && ltb 0 t) t 3) (length front + length (fixed_text (fin s m e)))
+  pub read : decimal_at (front ++ (fixed_text (fin s m e) ++ rest)) (length front) ≡ number (value_of (s && ltb 0 t) t 3) (length front + length (fixed_text (fin s m e)))
 
 abbrev pub ComesBack : Type 0
 ComesBack = (s : Bool) (m : ℕ) (e : ℤ) (front rest : List ℕ) → thousandths (fin s m e) < 10 ^ 15 → is_tiny m (thousandths (fin s m e)) ≡ false → digits_of rest ≡ [] → Back s m e front rest

@@ -11,11 +11,11 @@ ghost use Rattle.decimals.specs.inner.Work.{capped, run_from};
 
 pub use print::put_fixed;
 
-// A number with the place after it, or the place of what is no number.
+// A number with the place after it.
 #[derive(Clone, Copy)]
-pub enum Reading {
-    Number(f64, usize),
-    Fault(usize),
+pub struct Decimal {
+    pub value: f64,
+    pub end: usize,
 }
 
 // The value of digits, and the place after them.
@@ -56,10 +56,7 @@ const POWERS: [f64; 23] = [
 fn byte_at(bytes: &[u8], i: usize) -> u8
     ensures { result ≡ get_or bytes.now i 0 }
 {
-    if i < bytes.len() {
-        return bytes[i];
-    }
-    0
+    bytes.get(i).copied().unwrap_or(0)
 }
 
 // Whether a byte is a digit.
@@ -77,22 +74,8 @@ fn more(value: u64, c: u8) -> u64
     requires { (value ≤ 1000000000000000) × (c < 58) }
     ensures { result ≡ capped (10 * value + (c - 48)) }
 {
-    let next = 10 * value + digit_of(c);
-    if next < 1000000000000000 {
-        return next;
-    }
-    1000000000000000
-}
-
-// The number that a digit stands for.
-fn digit_of(c: u8) -> u64
-    requires { c < 58 }
-    ensures { result ≡ c - 48 }
-{
-    if c < 48 {
-        return 0;
-    }
-    c as u64 - 48
+    let next = 10 * value + u64::from(c.saturating_sub(b'0'));
+    next.min(1000000000000000)
 }
 
 // The digits from a place on, after digits that stand for `value`.
@@ -101,16 +84,17 @@ pub fn digits(bytes: &[u8], from: usize, value: u64) -> Run
     ensures { result ≡ run_from bytes.now from value }
 {
     let mut v = value;
-    let mut i = from;
-    while i < bytes.len() {
+    for i in from..bytes.len() {
         let c = bytes[i];
         if !is_digit(c) {
             return Run { value: v, end: i };
         }
         v = more(v, c);
-        i += 1;
     }
-    Run { value: v, end: i }
+    Run {
+        value: v,
+        end: from.max(bytes.len()),
+    }
 }
 
 // 10^k.
@@ -133,27 +117,30 @@ fn quotient(negative: bool, a: u64, k: usize) -> f64
     q
 }
 
-// The number that was read, if it has not too many digits or places.
-fn within(negative: bool, a: u64, k: usize, at: usize, next: usize) -> Reading
+// The number that was read, if it has not too many digits or places; else the place of its first byte.
+fn within(negative: bool, a: u64, k: usize, at: usize, next: usize) -> Result<Decimal, usize>
     ensures { result ≡ decimal_within negative a k at next }
 {
     if 1000000000000000 <= a {
-        return Reading::Fault(at);
+        return Err(at);
     }
     if 22 < k {
-        return Reading::Fault(at);
+        return Err(at);
     }
-    Reading::Number(quotient(negative, a, k), next)
+    Ok(Decimal {
+        value: quotient(negative, a, k),
+        end: next,
+    })
 }
 
 // A number that starts at `at`, by its digits from `start` on.
-fn unsigned(bytes: &[u8], negative: bool, at: usize, start: usize) -> Reading
+fn unsigned(bytes: &[u8], negative: bool, at: usize, start: usize) -> Result<Decimal, usize>
     ensures { result ≡ unsigned_at bytes.now negative at start }
 {
     let whole = digits(bytes, start, 0);
     let end = whole.end;
     if end == start {
-        return Reading::Fault(start);
+        return Err(start);
     }
     if byte_at(bytes, end) != b'.' {
         return within(negative, whole.value, 0, at, end);
@@ -162,13 +149,13 @@ fn unsigned(bytes: &[u8], negative: bool, at: usize, start: usize) -> Reading
     let all = digits(bytes, first, whole.value);
     let next = all.end;
     if next == first {
-        return Reading::Fault(first);
+        return Err(first);
     }
     within(negative, all.value, next - first, at, next)
 }
 
-// Reads the decimal number `[-]digits[.digits]` at a place of a text, to the nearest f64.
-pub fn read(bytes: &[u8], at: usize) -> Reading
+// Reads the decimal number `[-]digits[.digits]` at a place of a text, to the nearest f64. An error is the place of what is no number.
+pub fn read(bytes: &[u8], at: usize) -> Result<Decimal, usize>
     ensures { result ≡ decimal_at bytes.now at }
 {
     if byte_at(bytes, at) == b'-' {

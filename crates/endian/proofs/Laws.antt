@@ -3,10 +3,10 @@ use mathlib.Core.Path.{◌≡◌, sym, ap, ◌∙◌, subst}
 use mathlib.Core.List.{List, [], ◌∷◌}
 use Prim.Native.Nat.{ℕ, zero, suc, ◌+◌, ◌^◌, ◌≤◌, ◌<◌}
 use native.Mathlib.Omega.{arith}
-use lib.ListN.{length, get_or, take, drop, length-drop}
-use lib.Seq.{length-take-le, get_or-take, get_or-drop}
+use lib.ListN.{length, take, drop, length-drop}
+use lib.Seq.{length-take-le, get_or-drop}
 use Rattle.endian.specs.Little.{little, bytes, number_at, placed}
-use Rattle.endian.specs.Claims.{AreBytes, BothWays, AllBothWays}
+use Rattle.endian.specs.Claims.{AreBytes, AllBothWays}
 use Rattle.endian.proofs.Placed.{part-text, take-front, drop-text, length-placed, placed_same}
 use Rattle.endian.proofs.Little.{length-bytes, little-bytes, bytes-little}
 

@@ -1,12 +1,12 @@
 -- Bytes at a place of a list: one more, one text after another, and what a part of the list is then.
 use mathlib.Core.Path.{◌≡◌, refl, sym, ap, ◌∙◌}
 use mathlib.Core.List.{List, [], ◌∷◌, ◌++◌, append_assoc}
-use Prim.Native.Nat.{ℕ, suc, ◌+◌, ◌-◌, ◌≤◌, ◌<◌}
+use Prim.Native.Nat.{ℕ, suc, ◌+◌, ◌≤◌, ◌<◌}
 use native.Mathlib.Nat.{add-zero, add_assoc}
 use native.Mathlib.Numerals.{add-one}
 use native.Mathlib.Omega.{arith}
 use lib.ListN.{length, take, drop, set, length-append, length-drop, take-append-drop}
-use lib.Seq.{length-take-le, take-append-le, drop-append-le, take-append-add, drop-append-add, take_at, drop_at, take-suc-set, drop-set-lt, take-take, drop-drop, append_snoc}
+use lib.Seq.{length-take-le, take_at, drop_at, take-suc-set, drop-set-lt, drop-drop}
 use Rattle.endian.specs.Little.{placed}
 
 pub placed-none : (at : ℕ) (s : List ℕ) → placed at [] s ≡ s

@@ -1,6 +1,6 @@
 -- The turns of `read` and `write`: a byte more of the number, and a byte less to write.
 use mathlib.Core.Path.{◌≡◌, sym, ap, ◌∙◌}
-use mathlib.Core.List.{List, [], ◌∷◌}
+use mathlib.Core.List.{List}
 use Prim.Native.Nat.{ℕ, suc, ◌+◌, ◌-◌, ◌*◌, ◌/◌, ◌%◌, ◌^◌, ◌≤◌, ◌<◌}
 use native.Mathlib.Nat.{pow-succ', pow-le-pow_right, sub-zero, add-zero, add_assoc}
 use native.Mathlib.Omega.{arith}

@@ -5,23 +5,14 @@
 ghost use Rattle.std.specs.Prelude.{◌≡◌, ◌+◌, ◌^◌, ◌≤◌, ◌<◌, length};
 ghost use Rattle.endian.specs.Little.{bytes, number_at, placed};
 
-// A byte as a number.
-fn wide(x: u8) -> u64
-    ensures { result ≡ x }
-{
-    x as u64
-}
-
-// The number in k bytes from a place on.
+// The number in k bytes from a place on: one loop for every width, where from_le_bytes would want each byte named in an array of the width.
 fn read(s: &[u8], at: usize, k: usize) -> u64
     requires { (at + k ≤ length s.now) × (k ≤ 8) }
     ensures { (result ≡ number_at k at s.now) × (result < 256 ^ k) }
 {
     let mut v: u64 = 0;
-    let mut i = k;
-    while i > 0 {
-        i -= 1;
-        v = wide(s[at + i]) + 256 * v;
+    for i in (0..k).rev() {
+        v = u64::from(s[at + i]) + 256 * v;
     }
     v
 }
@@ -58,7 +49,7 @@ fn write(s: &mut [u8], at: usize, k: usize, x: u64)
     let mut rest = x;
     for i in 0..k {
         s[at + i] = (rest % 256) as u8;
-        rest = rest / 256;
+        rest /= 256;
     }
 }
 
@@ -67,7 +58,7 @@ pub fn write_u16(s: &mut [u8], at: usize, x: u16)
     requires { at + 2 ≤ length s.old }
     ensures { s.new ≡ placed at (bytes 2 x) s.old }
 {
-    write(s, at, 2, x as u64);
+    write(s, at, 2, u64::from(x));
 }
 
 // Puts x in eight bytes from a place on; the rest of the slice stays.

@@ -13,11 +13,9 @@ use Rattle.workspace.specs.declared.Refusal.TheVariants.{Length, Width, Toleranc
 use Rattle.workspace.specs.Tables.{Answer, done, refused, number, number_of, output, call, test, is_dimension, is_constraints, is_room, is_tolerance}
 use Rattle.step_rows.specs.Problem.{Problem}
 use Rattle.step_call.specs.Promise.{are_kinds, are_widths}
-use Rattle.step_check.specs.Check.{Pasted, verdict, test_told, part_told, index_told}
-use Rattle.step_check.specs.declared.Verdict.{Verdict}
-use Rattle.step_check_call.specs.Promise.{are_pasted, check_call, outcome_of, Checks}
-use Rattle.step_check_call.specs.declared.Outcome.{Outcome}
-use Rattle.step_check_call.specs.declared.Outcome.TheVariants.{Done, Refused}
+use Rattle.step_check.specs.Check.{Pasted, Verdict, verdict, test_told, part_told, index_told}
+use Rattle.step_check_call.specs.Promise.{are_pasted, check_call, Outcome, outcome_of, Checks}
+use Rattle.std.specs.Prelude.{Ok, Err}
 use Rattle.gritstrut.specs.Checking.{verdict_entries, check_verdict_call, number_told, entries_left, VerdictTold, CheckLeaves, OneCheck}
 use Rattle.gritstrut.proofs.Leaves.{reported}
 
@@ -33,10 +31,10 @@ three (x ∷ y ∷ z ∷ u ∷ l) a b c h = absurd (omega arith)
 pub verdict-written : (v : Verdict) (l : List ℕ) (a b c : ℕ) → length l ≡ 3 → a ≡ test_told v → b ≡ part_told v → c ≡ index_told v → set (set (set l 0 a) 1 b) 2 c ≡ verdict_entries v
 verdict-written v l a b c h ea eb ec = three l a b c h ∙ rw (ea, eb, ec)
 
-pub done-tells : (o : Outcome) (v : Verdict) (r r' : List ℕ) → o ≡ Done v → r' ≡ verdict_entries v → VerdictTold o 0 r r'
+pub done-tells : (o : Outcome) (v : Verdict) (r r' : List ℕ) → o ≡ Ok v → r' ≡ verdict_entries v → VerdictTold o 0 r r'
 done-tells o v r r' e f = rw e (record { the_number = refl; the_entries = f })
 
-pub refused-tells : (o : Outcome) (why : Refusal) (k : ℕ) (r : List ℕ) → o ≡ Refused why → k ≡ number_of why → VerdictTold o k r r
+pub refused-tells : (o : Outcome) (why : Refusal) (k : ℕ) (r : List ℕ) → o ≡ Err why → k ≡ number_of why → VerdictTold o k r r
 refused-tells o why k r e h = rw e (record { the_number = h; the_entries = refl })
 
 -- ---- the call

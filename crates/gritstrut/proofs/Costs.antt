@@ -16,9 +16,8 @@ use Rattle.nnls.specs.Counted.{Counted}
 use Rattle.step_rows.specs.Problem.{Problem}
 use Rattle.step.specs.Step.{Step, step, report_of}
 use Rattle.step.specs.declared.Report.{Report}
-use Rattle.step_call.specs.declared.Outcome.{Outcome}
-use Rattle.step_call.specs.declared.Outcome.TheVariants.{Done, Failed, Refused}
-use Rattle.step_call.specs.Promise.{are_kinds, are_widths, are_lengths, step_call, refused_by, outcome_of, Steps}
+use Rattle.std.specs.Prelude.{Ok, Err}
+use Rattle.step_call.specs.Promise.{Outcome, are_kinds, are_widths, are_lengths, step_call, refused_by, outcome_of, Steps}
 use Rattle.step_call.specs.Strict.{bounds, strict_call}
 use Rattle.step_call.specs.Claims.{EitherSteps, cost_bound, factorings_told}
 use Rattle.step_call.proofs.Costs.{cost-bound, cost-most}
@@ -35,9 +34,8 @@ bound-told true r number place most = inl refl
 bound-told false r number place most = inr (omega arith)
 
 told : (o : Outcome) (most : ℕ) (r y : List ℕ) → factorings_told o ≤ most → Costs most r (report_left o r) y (tally_left o y)
-told (Done relaxation t) most r y h = (inr h, raised-most (nth y 1) (2 ^ 64 - 1) t.factorings most h)
-told (Failed k t) most r y h = (inr h, raised-most (nth y 1) (2 ^ 64 - 1) t.factorings most h)
-told (Refused k) most r y h = (bound-told (eqb (place_of k) nowhere) r (number_of k) (place_of k) most, omega arith)
+told (Ok s) most r y h = (inr h, raised-most (nth y 1) (2 ^ 64 - 1) s.report.factorings most h)
+told (Err k) most r y h = (bound-told (eqb (place_of k) nowhere) r (number_of k) (place_of k) most, omega arith)
 
 -- ---- of a call
 

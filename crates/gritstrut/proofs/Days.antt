@@ -4,7 +4,7 @@ use mathlib.Core.List.{List}
 use Prim.Native.Nat.{ℕ}
 use lib.Ieee.{Float}
 use Rattle.workspace.specs.Tables.{Answer, outcome_number}
-use Rattle.workspace.specs.declared.Outcome.{Outcome}
+use Rattle.workspace.specs.Tables.{Outcome}
 use Rattle.lsei.specs.Lsei.{Solution}
 use Rattle.reconcile_call.specs.Promise.{Reconciles}
 use Rattle.gritstrut.specs.Interface.{place_left}

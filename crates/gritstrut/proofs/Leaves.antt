@@ -12,17 +12,16 @@ use borrow.Author.Tests.{leb-true, eq-eqb}
 use Rattle.workspace.specs.Tables.{Answer, done, refused, call, test, number, number_of, place_of, nowhere, outcome_of, outcome_number, output, is_matrix, is_dimension, is_constraints, is_room, has}
 use Rattle.workspace.specs.declared.Refusal.TheVariants.{Size, Length, Width}
 use Rattle.workspace.specs.declared.Refusal.{Refusal}
-use Rattle.workspace.specs.declared.Outcome.{Outcome}
-use Rattle.workspace.specs.declared.Outcome.TheVariants.{Refused}
+use Rattle.workspace.specs.Tables.{Outcome}
+use Rattle.std.specs.Prelude.{Ok, Err}
 use Rattle.workspace.proofs.Tests.{and-true, matrix-le}
 use Rattle.householder.specs.Qr.{Factors, factor}
 use Rattle.householder.proofs.Rank.{factor-rank}
 use Rattle.householder_call.specs.Promise as Qr
-use Rattle.householder_call.specs.declared.Outcome.TheVariants as qr
 use Rattle.nnls.specs.Nnls.{nnls}
 use Rattle.nnls_call.specs.Promise as Nnls
 use Rattle.nnls_call.specs.Claims.{SoundCall}
-use Rattle.nnls_call.specs.declared.Outcome.TheVariants as nnls-told
+use Rattle.nnls.specs.declared.memory.Counts.{Counts}
 use Rattle.nnls_call.proofs.Calls.{call-sound}
 use Rattle.lsei.specs.Lsei.{Solution}
 use Rattle.lsei_call.specs.Promise.{Solves}
@@ -31,9 +30,8 @@ use Rattle.step_rows.specs.Problem.{Problem}
 use Rattle.nnls.specs.Counted.{Counted}
 use Rattle.step.specs.Step.{Step, report_of, stage_number, stage_place}
 use Rattle.step.specs.declared.Report.{Report}
-use Rattle.step_call.specs.declared.Outcome as StepTold
+use Rattle.step.specs.declared.Stepped.{Stepped}
 use Rattle.step_call.specs.Promise as Step
-use Rattle.step_call.specs.declared.Outcome.TheVariants as step-told
 use Rattle.gritstrut.specs.Interface.{QrLeaves, NnlsLeaves, SolveLeaves, place_left, PlaceLeaves, WriteLeaves, entries_of, bound_entries, raised_counts, Tells, report_call, StepLeaves}
 
 -- ---- operations that tell nothing beside their outputs
@@ -66,23 +64,23 @@ write-leaves c o k out out' w w' iw iw' p e = record {
 
 -- ---- QR
 
-qr-done : (c : Answer Factors) (rank old : ℕ) → qr.Done rank ≡ Qr.outcome_of c → (0 ≡ number c) × (rank ≡ output c (λ f. f.rank) old)
+qr-done : (c : Answer Factors) (rank old : ℕ) → Ok rank ≡ Qr.outcome_of c → (0 ≡ number c) × (rank ≡ output c (λ f. f.rank) old)
 qr-done (done f) rank old e = (refl, cc)
 qr-done (refused r) rank old e = let z : ◌≡◌ {A = ℕ} 0 1 = cc in absurd (let y : ⊥ = omega arith in y)
 
-qr-refused : (c : Answer Factors) (r : Refusal) (old : ℕ) → qr.Refused r ≡ Qr.outcome_of c → (number_of r ≡ number c) × (old ≡ output c (λ f. f.rank) old)
+qr-refused : (c : Answer Factors) (r : Refusal) (old : ℕ) → Err r ≡ Qr.outcome_of c → (number_of r ≡ number c) × (old ≡ output c (λ f. f.rank) old)
 qr-refused (done f) r old e = let z : ◌≡◌ {A = ℕ} 0 1 = cc in absurd (let y : ⊥ = omega arith in y)
 qr-refused (refused q) r old e = (let z : r ≡ q = cc in ap (λ (s : Refusal). number_of s) z, refl)
 
 module _ (c : Answer Factors) (r r' : List Float) (perm perm' : List ℕ) (u u' b b' w w' : List Float) (iw iw' : List ℕ) where
-  pub qr-leaves : (rank old : ℕ) → Qr.Factored c (qr.Done rank) r r' perm perm' u u' b b' w w' iw iw' → QrLeaves c 0 old rank r r' perm perm' u u' b b' w w' iw iw'
+  pub qr-leaves : (rank old : ℕ) → Qr.Factored c (Ok rank) r r' perm perm' u u' b b' w w' iw iw' → QrLeaves c 0 old rank r r' perm perm' u u' b b' w w' iw iw'
   qr-leaves rank old p = record {
     the_number = (qr-done c rank old p.the_outcome).0;
     the_call = record { the_outcome = refl; the_r = p.the_r; the_perm = p.the_perm; the_u = p.the_u; the_b = p.the_b; the_floats = p.the_floats; the_words = p.the_words };
     the_rank = (qr-done c rank old p.the_outcome).1;
   }
 
-  pub qr-keeps : (q : Refusal) (k old : ℕ) → Qr.Factored c (qr.Refused q) r r' perm perm' u u' b b' w w' iw iw' → k ≡ number_of q
+  pub qr-keeps : (q : Refusal) (k old : ℕ) → Qr.Factored c (Err q) r r' perm perm' u u' b b' w w' iw iw' → k ≡ number_of q
       → QrLeaves c k old old r r' perm perm' u u' b b' w w' iw iw'
   qr-keeps q k old p e = record {
     the_number = e ∙ (qr-refused c q old p.the_outcome).0;
@@ -91,14 +89,14 @@ module _ (c : Answer Factors) (r r' : List Float) (perm perm' : List ℕ) (u u' 
   }
 
 -- a done call has passed the test of its sizes, and its rank is that of the factors
-passed : (s l r : Bool) (f : Factors) (k : ℕ) → qr.Done k ≡ Qr.outcome_of (call s l r true (done f)) → (s ≡ true) × (k ≡ f.rank)
+passed : (s l r : Bool) (f : Factors) (k : ℕ) → Ok k ≡ Qr.outcome_of (call s l r true (done f)) → (s ≡ true) × (k ≡ f.rank)
 passed true true true f k e = (refl, cc)
 passed true true false f k e = let z : ◌≡◌ {A = ℕ} 0 1 = cc in absurd (let y : ⊥ = omega arith in y)
 passed true false r f k e = let z : ◌≡◌ {A = ℕ} 0 1 = cc in absurd (let y : ⊥ = omega arith in y)
 passed false l r f k e = let z : ◌≡◌ {A = ℕ} 0 1 = cc in absurd (let y : ⊥ = omega arith in y)
 
 pub rank-fits : (m n : ℕ) (a r r' : List Float) (perm perm' : List ℕ) (u u' b b' w w' : List Float) (iw iw' : List ℕ) (k : ℕ)
-    → Qr.Factored (Qr.qr_call m n a r perm u b w iw) (qr.Done k) r r' perm perm' u u' b b' w w' iw iw' → k < 2 ^ 32
+    → Qr.Factored (Qr.qr_call m n a r perm u b w iw) (Ok k) r r' perm perm' u u' b b' w w' iw iw' → k < 2 ^ 32
 rank-fits m n a r r' perm perm' u u' b b' w w' iw iw' k p =
     let e = passed (is_matrix m n) (has a (m * n) && has r (m * n) && has perm n && has u (min m n * m) && has b (min m n)) (is_room w iw) (factor m n a) k p.the_outcome in
     let h = matrix-le m n e.0 in
@@ -106,20 +104,20 @@ rank-fits m n a r r' perm perm' u u' b b' w w' iw iw' k p =
 
 -- ---- NNLS
 
-nnls-done : (c : Answer Nnls.Told) (r f oldr oldf : ℕ) → nnls-told.Done r f ≡ Nnls.outcome_of c
-    → (0 ≡ number c) × (r ≡ output c (λ t. t.rounds) oldr) × (f ≡ output c (λ t. t.factorings) oldf)
-nnls-done (done t) r f oldr oldf e = (refl, cc, cc)
-nnls-done (refused q) r f oldr oldf e = let z : ◌≡◌ {A = ℕ} 0 1 = cc in absurd (let y : ⊥ = omega arith in y)
+nnls-done : (c : Answer Nnls.Told) (s : Counts) (oldr oldf : ℕ) → Ok s ≡ Nnls.outcome_of c
+    → (0 ≡ number c) × (s.past ≡ output c (λ t. t.rounds) oldr) × (s.factorings ≡ output c (λ t. t.factorings) oldf)
+nnls-done (done t) s oldr oldf e = let z : s ≡ record { past = t.rounds; factorings = t.factorings } = cc in (refl, ap (λ (x : Counts). x.past) z, ap (λ (x : Counts). x.factorings) z)
+nnls-done (refused q) s oldr oldf e = let z : ◌≡◌ {A = ℕ} 0 1 = cc in absurd (let y : ⊥ = omega arith in y)
 
-nnls-refused : (c : Answer Nnls.Told) (r : Refusal) (oldr oldf : ℕ) → nnls-told.Refused r ≡ Nnls.outcome_of c
+nnls-refused : (c : Answer Nnls.Told) (r : Refusal) (oldr oldf : ℕ) → Err r ≡ Nnls.outcome_of c
     → (number_of r ≡ number c) × (oldr ≡ output c (λ t. t.rounds) oldr) × (oldf ≡ output c (λ t. t.factorings) oldf)
 nnls-refused (done t) r oldr oldf e = let z : ◌≡◌ {A = ℕ} 0 1 = cc in absurd (let y : ⊥ = omega arith in y)
 nnls-refused (refused q) r oldr oldf e = (let z : r ≡ q = cc in ap (λ (s : Refusal). number_of s) z, refl, refl)
 
 module _ (c : Answer Nnls.Told) (x x' w w' : List Float) (iw iw' : List ℕ) (oldr oldf : ℕ) where
-  pub nnls-leaves : (r f : ℕ) → Nnls.Nnls c (nnls-told.Done r f) x x' w w' iw iw' → NnlsLeaves c 0 oldr r oldf f x x' w w' iw iw'
-  nnls-leaves r f p =
-      let d = nnls-done c r f oldr oldf p.the_outcome in
+  pub nnls-leaves : (s : Counts) → Nnls.Nnls c (Ok s) x x' w w' iw iw' → NnlsLeaves c 0 oldr s.past oldf s.factorings x x' w w' iw iw'
+  nnls-leaves s p =
+      let d = nnls-done c s oldr oldf p.the_outcome in
       record {
         the_number = d.0;
         the_call = record { the_outcome = refl; the_x = p.the_x; the_floats = p.the_floats; the_words = p.the_words };
@@ -127,7 +125,7 @@ module _ (c : Answer Nnls.Told) (x x' w w' : List Float) (iw iw' : List ℕ) (ol
         the_factorings = d.2;
       }
 
-  pub nnls-keeps : (q : Refusal) (k : ℕ) → Nnls.Nnls c (nnls-told.Refused q) x x' w w' iw iw' → k ≡ number_of q → NnlsLeaves c k oldr oldr oldf oldf x x' w w' iw iw'
+  pub nnls-keeps : (q : Refusal) (k : ℕ) → Nnls.Nnls c (Err q) x x' w w' iw iw' → k ≡ number_of q → NnlsLeaves c k oldr oldr oldf oldf x x' w w' iw iw'
   nnls-keeps q k p e =
       let d = nnls-refused c q oldr oldf p.the_outcome in
       record {
@@ -141,27 +139,27 @@ module _ (c : Answer Nnls.Told) (x x' w w' : List Float) (iw iw' : List ℕ) (ol
 few : (n k f : ℕ) → n ≤ 66 → k ≤ 198 → f ≤ n * (k + 1) + k → f ≤ 13332
 few n k f hn hk h = let p : n * (k + 1) ≤ 66 * (k + 1) = mul-le-mul_right (k + 1) hn in omega (arith, p, h)
 
-sized : (s l r : Bool) (a : Answer Nnls.Told) (i j : ℕ) → nnls-told.Done i j ≡ Nnls.outcome_of (call s l r true a) → s ≡ true
-sized true l r a i j e = refl
-sized false l r a i j e = let z : ◌≡◌ {A = ℕ} 0 1 = cc in absurd (let y : ⊥ = omega arith in y)
+sized : (s l r : Bool) (a : Answer Nnls.Told) (i : Counts) → Ok i ≡ Nnls.outcome_of (call s l r true a) → s ≡ true
+sized true l r a i e = refl
+sized false l r a i e = let z : ◌≡◌ {A = ℕ} 0 1 = cc in absurd (let y : ⊥ = omega arith in y)
 
-pub counts-fit : (m n k : ℕ) (a b x x' w w' : List Float) (iw iw' : List ℕ) (r f : ℕ)
-    → Nnls.Nnls (Nnls.nnls_call m n k a b x w iw) (nnls-told.Done r f) x x' w w' iw iw' → (r < 2 ^ 32) × (f < 2 ^ 32)
-counts-fit m n k a b x x' w w' iw iw' r f p =
-    let t = and-true (is_matrix m n) (leb k (3 * n)) (sized (is_matrix m n && leb k (3 * n)) (has a (m * n) && has b m && has x n) (is_room w iw) (Nnls.tell (nnls m n a b k)) r f p.the_outcome) in
+pub counts-fit : (m n k : ℕ) (a b x x' w w' : List Float) (iw iw' : List ℕ) (s : Counts)
+    → Nnls.Nnls (Nnls.nnls_call m n k a b x w iw) (Ok s) x x' w w' iw iw' → (s.past < 2 ^ 32) × (s.factorings < 2 ^ 32)
+counts-fit m n k a b x x' w w' iw iw' s p =
+    let t = and-true (is_matrix m n) (leb k (3 * n)) (sized (is_matrix m n && leb k (3 * n)) (has a (m * n) && has b m && has x n) (is_room w iw) (Nnls.tell (nnls m n a b k)) s p.the_outcome) in
     let hn : n ≤ 66 = (matrix-le m n t.0).1 in
     let hk : k ≤ 198 = (let q = leb-true k (3 * n) t.1 in omega (arith, q, hn)) in
-    let s = call-sound m n k a b x x' w w' iw iw' r f p in
-    let hr : r ≤ k = s.rounds_most in
-    let hf : f ≤ 13332 = few n k f hn hk s.factorings_most in
+    let q = call-sound m n k a b x x' w w' iw iw' s.past s.factorings p in
+    let hr : s.past ≤ k = q.rounds_most in
+    let hf : s.factorings ≤ 13332 = few n k s.factorings hn hk q.factorings_most in
     (omega arith, omega arith)
 
 -- ---- a place, and a report
 
-pub some-place : (why : Refusal) (o : Outcome) (at old : ℕ) → o ≡ Refused why → at ≡ place_of why → eqb at nowhere ≡ false → at ≡ place_left o old
+pub some-place : (why : Refusal) (o : Outcome) (at old : ℕ) → o ≡ Err why → at ≡ place_of why → eqb at nowhere ≡ false → at ≡ place_left o old
 some-place why o at old q e h = rw (q, ← e, h)
 
-pub no_place : (why : Refusal) (o : Outcome) (at old : ℕ) → o ≡ Refused why → at ≡ place_of why → eqb at nowhere ≡ true → old ≡ place_left o old
+pub no_place : (why : Refusal) (o : Outcome) (at old : ℕ) → o ≡ Err why → at ≡ place_of why → eqb at nowhere ≡ true → old ≡ place_left o old
 no_place why o at old q e h = rw (q, ← e, h)
 
 pub six : (l : List ℕ) (a b c d e f : ℕ) → length l ≡ 6 → set (set (set (set (set (set l 0 a) 1 b) 2 c) 3 d) 4 e) 5 f ≡ a ∷ b ∷ c ∷ d ∷ e ∷ f ∷ []
@@ -176,16 +174,16 @@ six (x ∷ y ∷ z ∷ u ∷ v ∷ w ∷ s ∷ l) a b c d e f h = absurd (omega 
 
 -- ---- the step
 
--- what is told of each outcome
-pub done-tells : (o : StepTold.Outcome) (delta : Float) (t : Report) (old : Float) (r r' y y' : List ℕ) → o ≡ step-told.Done delta t → r' ≡ entries_of t → y' ≡ raised_counts y t.rounds t.factorings
-    → Tells o 0 old delta r r' y y'
-done-tells o delta t old r r' y y' e f g = rw e (record { the_number = refl; the_relaxation = refl; the_report = f; the_tally = g })
+-- what is told of a step that was tried, and of a refusal before it
+pub stepped-done : (s : Stepped) (delta old : Float) (r r' y y' : List ℕ) → s.relaxation ≡ Ok delta → r' ≡ entries_of s.report → y' ≡ raised_counts y s.report.rounds s.report.factorings
+    → Tells (Ok s) 0 old delta r r' y y'
+stepped-done s delta old r r' y y' e f g = record { the_number = rw e refl; the_relaxation = rw e refl; the_report = f; the_tally = g }
 
-pub failed-tells : (o : StepTold.Outcome) (why : Refusal) (t : Report) (k : ℕ) (old : Float) (r r' y y' : List ℕ) → o ≡ step-told.Failed why t → k ≡ number_of why → r' ≡ entries_of t
-    → y' ≡ raised_counts y t.rounds t.factorings → Tells o k old old r r' y y'
-failed-tells o why t k old r r' y y' e h f g = rw e (record { the_number = h; the_relaxation = refl; the_report = f; the_tally = g })
+pub stepped-failed : (s : Stepped) (why : Refusal) (k : ℕ) (old : Float) (r r' y y' : List ℕ) → s.relaxation ≡ Err why → k ≡ number_of why → r' ≡ entries_of s.report
+    → y' ≡ raised_counts y s.report.rounds s.report.factorings → Tells (Ok s) k old old r r' y y'
+stepped-failed s why k old r r' y y' e h f g = record { the_number = rw e h; the_relaxation = rw e refl; the_report = f; the_tally = g }
 
-pub refused-tells : (o : StepTold.Outcome) (why : Refusal) (k : ℕ) (old : Float) (r r' y : List ℕ) → o ≡ step-told.Refused why → k ≡ number_of why → r' ≡ bound_entries why r → Tells o k old old r r' y y
+pub refused-tells : (o : Step.Outcome) (why : Refusal) (k : ℕ) (old : Float) (r r' y : List ℕ) → o ≡ Err why → k ≡ number_of why → r' ≡ bound_entries why r → Tells o k old old r r' y y
 refused-tells o why k old r r' y e h f = rw e (record { the_number = h; the_relaxation = refl; the_report = f; the_tally = refl })
 
 -- a test that names a variable
@@ -212,13 +210,13 @@ module _ (p : Problem) (a : Answer Step) (d d' l l' : List Float) (r : List ℕ)
       ∙ ap (λ (b : Bool). call (is_dimension p.n && is_constraints p.m) (Step.are_lengths p d l && b) (is_room w iw) (Step.are_kinds p.kinds) (test (Step.are_widths p.kinds p.widths p.m) Width a))
       (sym (eq-eqb (length r) 6 entries))
 
-  pub step-leaves : (o : StepTold.Outcome) (k : ℕ) (x : Float) (r' y y' : List ℕ) → Step.Steps (tested p d l w iw a) (report_of p) o d d' l l' w w' iw iw'
+  pub step-leaves : (o : Step.Outcome) (k : ℕ) (x : Float) (r' y y' : List ℕ) → Step.Steps (tested p d l w iw a) (report_of p) o d d' l l' w w' iw iw'
       → Tells o k old x r r' y y' → StepLeaves (report_call p d l r w iw a) (report_of p) k old x r r' y y' d d' l l' w w' iw iw'
   step-leaves o k x r' y y' q t =
       let v = subst (λ (b : Answer Step). Step.Steps b (report_of p) o d d' l l' w w' iw iw') same q in
       record {
         the_call = record { the_outcome = refl; the_d = v.the_d; the_multipliers = v.the_multipliers; the_floats = v.the_floats; the_words = v.the_words };
-        told = subst (λ (b : StepTold.Outcome). Tells b k old x r r' y y') v.the_outcome t;
+        told = subst (λ (b : Step.Outcome). Tells b k old x r r' y y') v.the_outcome t;
       }
 
 -- a report of another length

@@ -5,7 +5,7 @@ use mathlib.Core.List.{List}
 use Prim.Native.Nat.{ℕ}
 use lib.Ieee.{Float}
 use Rattle.workspace.specs.Tables.{Answer, outcome_number}
-use Rattle.workspace.specs.declared.Outcome.{Outcome}
+use Rattle.workspace.specs.Tables.{Outcome}
 use Rattle.search.specs.Setup.{Setup}
 use Rattle.search.specs.Machine.{Machine}
 use Rattle.search.specs.Promise.{Runs}

@@ -4,21 +4,21 @@ use mathlib.Core.List.{List}
 use Prim.Native.Nat.{ℕ}
 use lib.Ieee.{Float}
 use Rattle.workspace.specs.declared.Refusal.{Refusal}
-use Rattle.workspace.specs.declared.Outcome.TheVariants as W
+use Rattle.std.specs.Prelude.{Ok, Err}
 use Rattle.workspace.specs.Tables.{Answer, done, refused, number, outcome_number, outcome_of, output}
 use Rattle.settle.specs.Settle.{Settled}
 use Rattle.settle_call.specs.Promise.{bound_of, Settles, Certifies}
-use Rattle.settle_call.specs.declared.Bounded.{Bounded}
-use Rattle.settle_call.specs.declared.Bounded.TheVariants as B
+use Rattle.settle_call.specs.Promise.{Bounded}
+use Rattle.std.specs.Prelude.{Ok, Err}
 use Rattle.gritstrut.specs.Interface.{place_left}
 use Rattle.gritstrut.specs.Settling.{number_told, bound_left, told_place, BoundTold, SettleLeaves, CertifyLeaves, OneSettled, OneCertified}
 
 -- ---- what is told
 
-pub done-tells : (b : Bounded) (far bound : Float) (place : ℕ) → b ≡ B.Done far → BoundTold b 0 bound far place place
+pub done-tells : (b : Bounded) (far bound : Float) (place : ℕ) → b ≡ Ok far → BoundTold b 0 bound far place place
 done-tells b far bound place q = rw q (record { the_number = refl; the_bound = refl; the_place = refl })
 
-pub refused-tells : (b : Bounded) (why : Refusal) (k : ℕ) (bound : Float) (place place' : ℕ) → b ≡ B.Refused why → (k ≡ outcome_number (W.Refused why)) × (place' ≡ place_left (W.Refused why) place)
+pub refused-tells : (b : Bounded) (why : Refusal) (k : ℕ) (bound : Float) (place place' : ℕ) → b ≡ Err why → (k ≡ outcome_number (Err why)) × (place' ≡ place_left (Err why) place)
     → BoundTold b k bound bound place place'
 refused-tells b why k bound place place' q h = rw q (record { the_number = h.0; the_bound = refl; the_place = h.1 })
 

@@ -5,24 +5,24 @@ use mathlib.Core.List.{List, [], ◌∷◌}
 use Prim.Native.Nat.{ℕ}
 use lib.Ieee.{Float}
 use Rattle.workspace.specs.declared.Refusal.{Refusal}
-use Rattle.workspace.specs.declared.Outcome.TheVariants as W
+use Rattle.std.specs.Prelude.{Ok, Err}
 use Rattle.workspace.specs.Tables.{Answer, done, refused, number, outcome_number, outcome_of, output}
 use Rattle.suspect.specs.Suspect.{Tests}
 use Rattle.suspect.specs.declared.Finding.{Finding}
 use Rattle.suspect_call.specs.Promise.{tested_of, Suspects}
-use Rattle.suspect_call.specs.declared.Tested.{Tested}
-use Rattle.suspect_call.specs.declared.Tested.TheVariants as T
+use Rattle.suspect_call.specs.Promise.{Tested}
+use Rattle.std.specs.Prelude.{Ok, Err}
 use Rattle.gritstrut.specs.Interface.{place_left}
 use Rattle.gritstrut.specs.Suspecting.{word, finding_entries, number_told, misfit_left, finding_left, told_place, FindingTold, SuspectLeaves, OneSuspect}
 
 -- ---- what is told
 
-pub done-tells : (t : Tested) (d : Finding) (a e : ℕ) (misfit : Float) (finding : List ℕ) (place : ℕ) → t ≡ T.Done d → a ≡ word d.agree → e ≡ word d.explained
+pub done-tells : (t : Tested) (d : Finding) (a e : ℕ) (misfit : Float) (finding : List ℕ) (place : ℕ) → t ≡ Ok d → a ≡ word d.agree → e ≡ word d.explained
     → FindingTold t 0 misfit d.misfit finding (d.freedom ∷ d.first ∷ a ∷ e ∷ []) place place
 done-tells t d a e misfit finding place q ea ee = rw (q, ea, ee) (record { the_number = refl; the_misfit = refl; the_finding = refl; the_place = refl })
 
-pub refused-tells : (t : Tested) (why : Refusal) (k : ℕ) (misfit : Float) (finding : List ℕ) (place place' : ℕ) → t ≡ T.Refused why
-    → (k ≡ outcome_number (W.Refused why)) × (place' ≡ place_left (W.Refused why) place) → FindingTold t k misfit misfit finding finding place place'
+pub refused-tells : (t : Tested) (why : Refusal) (k : ℕ) (misfit : Float) (finding : List ℕ) (place place' : ℕ) → t ≡ Err why
+    → (k ≡ outcome_number (Err why)) × (place' ≡ place_left (Err why) place) → FindingTold t k misfit misfit finding finding place place'
 refused-tells t why k misfit finding place place' q h = rw q (record { the_number = h.0; the_misfit = refl; the_finding = refl; the_place = h.1 })
 
 -- ---- the call

@@ -1,14 +1,11 @@
 -- The promise of the check's C function, and that it allows one answer only. Definitions only.
-use Rattle.std.specs.Prelude.{◌≡◌, ◌&&◌, List, [], ◌∷◌, ℕ, Float}
+use Rattle.std.specs.Prelude.{◌≡◌, ◌&&◌, List, [], ◌∷◌, ℕ, Float, Ok, Err}
 use Rattle.workspace.specs.declared.Refusal.TheVariants.{Width, Tolerance}
 use Rattle.workspace.specs.Tables.{Answer, done, number, number_of, output, call, test, is_dimension, is_constraints, is_room, is_tolerance, has}
 use Rattle.step_rows.specs.Problem.{Problem}
 use Rattle.step_call.specs.Promise.{are_kinds, are_widths}
-use Rattle.step_check.specs.Check.{Pasted, verdict, test_told, part_told, index_told}
-use Rattle.step_check.specs.declared.Verdict.{Verdict}
-use Rattle.step_check_call.specs.Promise.{are_pasted, outcome_of, Checks}
-use Rattle.step_check_call.specs.declared.Outcome.{Outcome}
-use Rattle.step_check_call.specs.declared.Outcome.TheVariants.{Done, Refused}
+use Rattle.step_check.specs.Check.{Pasted, Verdict, verdict, test_told, part_told, index_told}
+use Rattle.step_check_call.specs.Promise.{are_pasted, Outcome, outcome_of, Checks}
 
 -- a verdict's entries: test, part and index, all 0 with yes
 abbrev pub verdict_entries : Verdict → List ℕ
@@ -22,12 +19,12 @@ check_verdict_call p s tol r w iw =
 
 -- from an outcome: the number, and the entries, which are written where it is done
 abbrev pub number_told : Outcome → ℕ
-number_told (Done v) = 0
-number_told (Refused r) = number_of r
+number_told (Ok v) = 0
+number_told (Err r) = number_of r
 
 abbrev pub entries_left : Outcome → List ℕ → List ℕ
-entries_left (Done v) old = verdict_entries v
-entries_left (Refused r) old = old
+entries_left (Ok v) old = verdict_entries v
+entries_left (Err r) old = old
 
 pub record VerdictTold (o : Outcome) (k : ℕ) (r r' : List ℕ) : Type 0 where
   pub the_number : k ≡ number_told o

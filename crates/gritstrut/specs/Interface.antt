@@ -6,8 +6,8 @@ use Rattle.tally.specs.Tally.{saturated}
 use Rattle.workspace.specs.declared.Refusal.{Refusal}
 use Rattle.workspace.specs.declared.Refusal.TheVariants.{Width}
 use Rattle.workspace.specs.Tables.{Answer, number, number_of, output, place_of, nowhere, call, test, is_dimension, is_constraints, is_room, has}
-use Rattle.workspace.specs.declared.Outcome.{Outcome}
-use Rattle.workspace.specs.declared.Outcome.TheVariants.{Done, Refused}
+use Rattle.workspace.specs.Tables.{Outcome}
+use Rattle.std.specs.Prelude.{Result, Ok, Err}
 use Rattle.workspace.specs.Tables as Tables
 use Rattle.householder.specs.Qr.{Factors}
 use Rattle.householder_call.specs.Promise as Qr
@@ -19,8 +19,6 @@ use Rattle.nnls.specs.Counted.{Counted}
 use Rattle.step_rows.specs.Problem.{Problem}
 use Rattle.step.specs.Step.{Step, step, stage_number, stage_place}
 use Rattle.step.specs.declared.Report.{Report}
-use Rattle.step_call.specs.declared.Outcome as Told
-use Rattle.step_call.specs.declared.Outcome.TheVariants as told
 use Rattle.step_call.specs.Promise as Step
 use Rattle.step_call.specs.Strict.{bounds}
 
@@ -41,8 +39,8 @@ pub record SolveLeaves (c : Answer Solution) (k : ℕ) (x x' l l' w w' : List Fl
 
 -- the place that comes with a refusal is stored where there is one
 abbrev pub place_left : Outcome → ℕ → ℕ
-place_left Done old = old
-place_left (Refused r) old = cond (eqb (place_of r) nowhere) old (place_of r)
+place_left (Ok tt) old = old
+place_left (Err r) old = cond (eqb (place_of r) nowhere) old (place_of r)
 
 pub record PlaceLeaves (c : Answer Solution) (k place place' : ℕ) (x x' l l' w w' : List Float) (iw iw' : List ℕ) : Type 0 where
   pub the_number : k ≡ number c
@@ -79,28 +77,33 @@ strict_report_call p d l r w iw = report_call p d l r w iw (bounds p.lower p.upp
 abbrev pub bound_entries : Refusal → List ℕ → List ℕ
 bound_entries r old = cond (eqb (place_of r) nowhere) old (number_of r ∷ place_of r ∷ 0 ∷ nowhere ∷ 0 ∷ 0 ∷ [])
 
+-- the number of a step that was tried, and its relaxation, stored where it is done
+abbrev pub stepped_number : Result Float Refusal → ℕ
+stepped_number (Ok relaxation) = 0
+stepped_number (Err r) = number_of r
+
+abbrev pub stepped_relaxation : Result Float Refusal → Float → Float
+stepped_relaxation (Ok relaxation) old = relaxation
+stepped_relaxation (Err r) old = old
+
 -- From an outcome: the number; the relaxation, stored where the step is done; the tally, which moves unless a test before the arithmetic refuses; and the report, which such a test leaves too unless it names a variable.
-abbrev pub number_told : Told.Outcome → ℕ
-number_told (told.Done relaxation t) = 0
-number_told (told.Failed r t) = number_of r
-number_told (told.Refused r) = number_of r
+abbrev pub number_told : Step.Outcome → ℕ
+number_told (Ok s) = stepped_number s.relaxation
+number_told (Err r) = number_of r
 
-abbrev pub relaxation_left : Told.Outcome → Float → Float
-relaxation_left (told.Done relaxation t) old = relaxation
-relaxation_left (told.Failed r t) old = old
-relaxation_left (told.Refused r) old = old
+abbrev pub relaxation_left : Step.Outcome → Float → Float
+relaxation_left (Ok s) old = stepped_relaxation s.relaxation old
+relaxation_left (Err r) old = old
 
-abbrev pub report_left : Told.Outcome → List ℕ → List ℕ
-report_left (told.Done relaxation t) old = entries_of t
-report_left (told.Failed r t) old = entries_of t
-report_left (told.Refused r) old = bound_entries r old
+abbrev pub report_left : Step.Outcome → List ℕ → List ℕ
+report_left (Ok s) old = entries_of s.report
+report_left (Err r) old = bound_entries r old
 
-abbrev pub tally_left : Told.Outcome → List ℕ → List ℕ
-tally_left (told.Done relaxation t) old = raised_counts old t.rounds t.factorings
-tally_left (told.Failed r t) old = raised_counts old t.rounds t.factorings
-tally_left (told.Refused r) old = old
+abbrev pub tally_left : Step.Outcome → List ℕ → List ℕ
+tally_left (Ok s) old = raised_counts old s.report.rounds s.report.factorings
+tally_left (Err r) old = old
 
-pub record Tells (o : Told.Outcome) (k : ℕ) (relaxation relaxation' : Float) (r r' tally tally' : List ℕ) : Type 0 where
+pub record Tells (o : Step.Outcome) (k : ℕ) (relaxation relaxation' : Float) (r r' tally tally' : List ℕ) : Type 0 where
   pub the_number : k ≡ number_told o
   pub the_relaxation : relaxation' ≡ relaxation_left o relaxation
   pub the_report : r' ≡ report_left o r

@@ -1,25 +1,25 @@
 -- The promises of the C functions that settle and certify a day's volumes, and that they allow one answer only. Definitions only.
 use Rattle.std.specs.Prelude.{◌≡◌, List, ℕ, Float}
 use Rattle.workspace.specs.Tables.{Answer, number, number_of, output, outcome_of}
-use Rattle.workspace.specs.declared.Outcome.TheVariants as W
+use Rattle.std.specs.Prelude.{Ok, Err}
 use Rattle.settle.specs.Settle.{Settled}
 use Rattle.settle_call.specs.Promise.{bound_of, Settles, Certifies}
-use Rattle.settle_call.specs.declared.Bounded.{Bounded}
-use Rattle.settle_call.specs.declared.Bounded.TheVariants as B
+use Rattle.settle_call.specs.Promise.{Bounded}
+use Rattle.std.specs.Prelude.{Ok, Err}
 use Rattle.gritstrut.specs.Interface.{place_left}
 
 -- from what is told: the number; the bound, which is written where it is done; the place, which is where it is not
 abbrev pub number_told : Bounded → ℕ
-number_told (B.Done far) = 0
-number_told (B.Refused r) = number_of r
+number_told (Ok far) = 0
+number_told (Err r) = number_of r
 
 abbrev pub bound_left : Bounded → Float → Float
-bound_left (B.Done far) old = far
-bound_left (B.Refused r) old = old
+bound_left (Ok far) old = far
+bound_left (Err r) old = old
 
 abbrev pub told_place : Bounded → ℕ → ℕ
-told_place (B.Done far) old = old
-told_place (B.Refused r) old = place_left (W.Refused r) old
+told_place (Ok far) old = old
+told_place (Err r) old = place_left (Err r) old
 
 pub record BoundTold (b : Bounded) (k : ℕ) (bound bound' : Float) (place place' : ℕ) : Type 0 where
   pub the_number : k ≡ number_told b

@@ -1,12 +1,12 @@
 -- The promise of the C function of the tests of meters, and that it allows one answer only. Definitions only.
 use Rattle.std.specs.Prelude.{◌≡◌, Bool, cond, List, [], ◌∷◌, ℕ, Float}
 use Rattle.workspace.specs.Tables.{Answer, number, number_of, output, outcome_of}
-use Rattle.workspace.specs.declared.Outcome.TheVariants as W
+use Rattle.std.specs.Prelude.{Ok, Err}
 use Rattle.suspect.specs.Suspect.{Tests}
 use Rattle.suspect.specs.declared.Finding.{Finding}
 use Rattle.suspect_call.specs.Promise.{tested_of, Suspects}
-use Rattle.suspect_call.specs.declared.Tested.{Tested}
-use Rattle.suspect_call.specs.declared.Tested.TheVariants as T
+use Rattle.suspect_call.specs.Promise.{Tested}
+use Rattle.std.specs.Prelude.{Ok, Err}
 use Rattle.gritstrut.specs.Interface.{place_left}
 
 -- 1 for yes
@@ -19,20 +19,20 @@ finding_entries d = d.freedom ∷ d.first ∷ word d.agree ∷ word d.explained 
 
 -- from what is told: the number; misfit and finding, which are written where it is done; the place, which is where it is not
 abbrev pub number_told : Tested → ℕ
-number_told (T.Done d) = 0
-number_told (T.Refused r) = number_of r
+number_told (Ok d) = 0
+number_told (Err r) = number_of r
 
 abbrev pub misfit_left : Tested → Float → Float
-misfit_left (T.Done d) old = d.misfit
-misfit_left (T.Refused r) old = old
+misfit_left (Ok d) old = d.misfit
+misfit_left (Err r) old = old
 
 abbrev pub finding_left : Tested → List ℕ → List ℕ
-finding_left (T.Done d) old = finding_entries d
-finding_left (T.Refused r) old = old
+finding_left (Ok d) old = finding_entries d
+finding_left (Err r) old = old
 
 abbrev pub told_place : Tested → ℕ → ℕ
-told_place (T.Done d) old = old
-told_place (T.Refused r) old = place_left (W.Refused r) old
+told_place (Ok d) old = old
+told_place (Err r) old = place_left (Err r) old
 
 pub record FindingTold (t : Tested) (k : ℕ) (misfit misfit' : Float) (finding finding' : List ℕ) (place place' : ℕ) : Type 0 where
   pub the_number : k ≡ number_told t

@@ -5,7 +5,7 @@ ghost use Rattle.step_check.specs.Check.{pasted_of};
 ghost use Rattle.gritstrut.specs.Checking.{verdict_entries, check_verdict_call, VerdictTold, CheckLeaves};
 
 use step_check::Verdict;
-use step_check_call::{Check, Outcome};
+use step_check_call::Check;
 use workspace::Refusal;
 
 // The entries of a verdict: GRITSTRUT_VERDICT of the header.
@@ -16,22 +16,26 @@ fn write_verdict(v: Verdict, verdict: &mut [u32])
     requires { length verdict.old ≡ 3 }
     ensures { verdict.new ≡ verdict_entries v }
 {
-    verdict[0] = v.test();
-    verdict[1] = v.part();
-    verdict[2] = v.index();
+    let (test, part, index) = match v {
+        Ok(()) => (0, 0, 0),
+        Err(failure) => (failure.test.number(), failure.part.number(), failure.index),
+    };
+    verdict[0] = test;
+    verdict[1] = part;
+    verdict[2] = index;
 }
 
 // The verdict out, where there is one.
-fn tell_verdict(o: Outcome, verdict: &mut [u32]) -> u32
+fn tell_verdict(o: Result<Verdict, Refusal>, verdict: &mut [u32]) -> u32
     requires { length verdict.old ≡ 3 }
     ensures { VerdictTold o result verdict.old verdict.new }
 {
     match o {
-        Outcome::Done(v) => {
+        Ok(v) => {
             write_verdict(v, verdict);
             0
         }
-        Outcome::Refused(why) => why.number(),
+        Err(why) => why.number(),
     }
 }
 

@@ -83,11 +83,11 @@ pub fn gritstrut_qr(
 {
     let answer = Qr::factor(m, n, a, r, perm, u, b, w, iw);
     match answer {
-        householder_call::Outcome::Done(found) => {
+        Ok(found) => {
             *rank = found as u32;
             0
         }
-        householder_call::Outcome::Refused(why) => why.number(),
+        Err(why) => why.number(),
     }
 }
 
@@ -109,12 +109,12 @@ pub fn gritstrut_nnls(
 {
     let answer = Nnls::solve(m, n, k, a, b, x, w, iw);
     match answer {
-        nnls_call::Outcome::Done(past, spent) => {
-            *rounds = past as u32;
-            *factorings = spent as u32;
+        Ok(counts) => {
+            *rounds = counts.past as u32;
+            *factorings = counts.factorings as u32;
             0
         }
-        nnls_call::Outcome::Refused(why) => why.number(),
+        Err(why) => why.number(),
     }
 }
 
@@ -132,16 +132,16 @@ pub fn gritstrut_ldp(
     ensures { SolveLeaves (ldp_call m n g.now h.now x.old multipliers.old w.old iw.old) result x.old x.new multipliers.old multipliers.new w.old w.new iw.old iw.new }
 {
     let answer = Ldp::solve(m, n, g, h, x, multipliers, w, iw);
-    answer.number()
+    workspace::outcome_number(answer)
 }
 
 // The number of an outcome; the place that comes with it is stored.
-fn number_with_place(o: workspace::Outcome, place: &mut u32) -> u32
+fn number_with_place(o: Result<(), workspace::Refusal>, place: &mut u32) -> u32
     ensures { (result ≡ outcome_number o) × (place.new ≡ place_left o place.old) }
 {
     match o {
-        workspace::Outcome::Done => 0,
-        workspace::Outcome::Refused(why) => {
+        Ok(()) => 0,
+        Err(why) => {
             let number = why.number();
             let at = why.place();
             if at != workspace::NOWHERE {
@@ -204,7 +204,7 @@ pub fn gritstrut_identity(n: usize, b: &mut [f64], w: &mut [f64], iw: &mut [u32]
     ensures { WriteLeaves (identity_call n b.old w.old iw.old) result b.old b.new w.old w.new iw.old iw.new }
 {
     let answer = Hessian::identity(n, b, w, iw);
-    answer.number()
+    workspace::outcome_number(answer)
 }
 
 // The product B v.
@@ -219,7 +219,7 @@ pub fn gritstrut_times(
     ensures { WriteLeaves (times_call n b.now v.now out.old w.old iw.old) result out.old out.new w.old w.new iw.old iw.new }
 {
     let answer = Hessian::times(n, b, v, out, w, iw);
-    answer.number()
+    workspace::outcome_number(answer)
 }
 
 // The Cholesky factor of B.
@@ -227,7 +227,7 @@ pub fn gritstrut_cholesky(n: usize, b: &[f64], l: &mut [f64], w: &mut [f64], iw:
     ensures { WriteLeaves (cholesky_call n b.now l.old w.old iw.old) result l.old l.new w.old w.new iw.old iw.new }
 {
     let answer = Hessian::cholesky(n, b, l, w, iw);
-    answer.number()
+    workspace::outcome_number(answer)
 }
 
 // The damped update of B.
@@ -242,7 +242,7 @@ pub fn gritstrut_update(
     ensures { WriteLeaves (update_call n b.old s.now y.now w.old iw.old) result b.old b.new w.old w.new iw.old iw.new }
 {
     let answer = Hessian::update(n, b, s, y, w, iw);
-    answer.number()
+    workspace::outcome_number(answer)
 }
 
 // ---- the approximation B as its lower triangle
@@ -252,7 +252,7 @@ pub fn gritstrut_packed_identity(n: usize, b: &mut [f64], w: &mut [f64], iw: &mu
     ensures { WriteLeaves (packed_identity_call n b.old w.old iw.old) result b.old b.new w.old w.new iw.old iw.new }
 {
     let answer = Packed::identity(n, b, w, iw);
-    answer.number()
+    workspace::outcome_number(answer)
 }
 
 // The product B v.
@@ -267,7 +267,7 @@ pub fn gritstrut_packed_times(
     ensures { WriteLeaves (packed_times_call n b.now v.now out.old w.old iw.old) result out.old out.new w.old w.new iw.old iw.new }
 {
     let answer = Packed::times(n, b, v, out, w, iw);
-    answer.number()
+    workspace::outcome_number(answer)
 }
 
 // The Cholesky factor of B, square.
@@ -281,7 +281,7 @@ pub fn gritstrut_packed_cholesky(
     ensures { WriteLeaves (packed_cholesky_call n b.now l.old w.old iw.old) result l.old l.new w.old w.new iw.old iw.new }
 {
     let answer = Packed::cholesky(n, b, l, w, iw);
-    answer.number()
+    workspace::outcome_number(answer)
 }
 
 // The damped update of B.
@@ -296,5 +296,5 @@ pub fn gritstrut_packed_update(
     ensures { WriteLeaves (packed_update_call n b.old s.now y.now w.old iw.old) result b.old b.new w.old w.new iw.old iw.new }
 {
     let answer = Packed::update(n, b, s, y, w, iw);
-    answer.number()
+    workspace::outcome_number(answer)
 }

@@ -3,8 +3,7 @@ ghost use Rattle.std.specs.Prelude.{◌≡◌};
 ghost use Rattle.suspect_call.specs.Promise.{suspect_call};
 ghost use Rattle.gritstrut.specs.Suspecting.{word, FindingTold, SuspectLeaves};
 
-use suspect_call::{Meters, Tested};
-use workspace::Outcome;
+use suspect_call::Meters;
 
 // 1 for yes.
 fn word_of(yes: bool) -> u32
@@ -17,18 +16,23 @@ fn word_of(yes: bool) -> u32
 }
 
 // The misfit and what is found, where there is no refusal; else the place that comes with it.
-fn tell_finding(t: Tested, misfit: &mut f64, finding: &mut [u32; 4], place: &mut u32) -> u32
+fn tell_finding(
+    t: Result<suspect::Finding, workspace::Refusal>,
+    misfit: &mut f64,
+    finding: &mut [u32; 4],
+    place: &mut u32,
+) -> u32
     ensures { FindingTold t result misfit.old misfit.new finding.old finding.new place.old place.new }
 {
     match t {
-        Tested::Done(d) => {
+        Ok(d) => {
             let agree = word_of(d.agree);
             let explained = word_of(d.explained);
             *misfit = d.misfit;
             *finding = [d.freedom, d.first, agree, explained];
             0
         }
-        Tested::Refused(why) => crate::number_with_place(Outcome::Refused(why), place),
+        Err(why) => crate::number_with_place(Err(why), place),
     }
 }
 

@@ -3,7 +3,7 @@ ghost use Rattle.problem_write.specs.Lent.{lent_of};
 ghost use Rattle.problem_write_call.specs.Promise.{write_call};
 ghost use Rattle.gritstrut.specs.Writing.{FileLeaves};
 
-use problem_write_call::{Outcome, Problems};
+use problem_write_call::Problems;
 
 // Writes a problem, its numbers as bits, as the record program's input.
 pub fn gritstrut_write_problem(
@@ -30,12 +30,10 @@ pub fn gritstrut_write_problem(
         n, m, factor, gradient, kinds, values, widths, jacobian, lower, upper, out, w, iw,
     );
     match answer {
-        Outcome::Done(length) => {
+        Ok(length) => {
             *written = length;
             0
         }
-        Outcome::Refused(why) => {
-            crate::number_with_place(workspace::Outcome::Refused(why), place)
-        }
+        Err(why) => crate::number_with_place(Err(why), place),
     }
 }

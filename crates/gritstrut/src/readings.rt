@@ -2,7 +2,7 @@
 ghost use Rattle.mend_call.specs.Promise.{mend_call};
 ghost use Rattle.gritstrut.specs.Mending.{MendLeaves};
 
-use mend_call::{Outcome, Readings};
+use mend_call::Readings;
 
 // Mends a day's logger records.
 pub fn gritstrut_mend(
@@ -19,11 +19,11 @@ pub fn gritstrut_mend(
 {
     let answer = Readings::mend(records, kept, reasons, totals, rollovers);
     match answer {
-        Outcome::Done(found) => {
+        Ok(found) => {
             *count = found.kept;
             *meters = found.meters;
             0
         }
-        Outcome::Refused(why) => why.number(),
+        Err(why) => why.number(),
     }
 }

@@ -42,5 +42,5 @@ pub fn gritstrut_search_tell(
     ensures { RunLeaves false (setup_in machine.old words.old) (tell_call told.now machine.old words.old w.old iw.old) result machine.old machine.new words.old words.new w.old w.new iw.old iw.new }
 {
     let answer = Search::tell(told, machine, words, w, iw);
-    answer.number()
+    workspace::outcome_number(answer)
 }

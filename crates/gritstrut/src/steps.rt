@@ -1,10 +1,11 @@
 // The steps, each with its report in six entries and a tally of two counts.
-ghost use Rattle.std.specs.Prelude.{◌≡◌, cond, ◌&&◌, [], ◌∷◌, length};
+ghost use Rattle.std.specs.Prelude.{◌≡◌, cond, ◌&&◌, [], ◌∷◌, length, Ok};
 ghost use Rattle.workspace.specs.Tables.{is_dimension, is_constraints};
 ghost use Rattle.step_rows.specs.Problem.{problem_of};
 ghost use Rattle.step.specs.Step.{report_of};
 ghost use Rattle.gritstrut.specs.Interface.{entries_of, bound_entries, raised_counts, Tells, step_report_call, strict_report_call, StepLeaves};
 
+use step::Stepped;
 use step_call::Step;
 use tally::Tally;
 use workspace::Refusal;
@@ -30,14 +31,12 @@ fn write_report(t: step::Report, report: &mut [u32])
     requires { length report.old ≡ 6 }
     ensures { report.new ≡ entries_of t }
 {
-    let exact = t.exact;
-    let relaxed = t.relaxed;
     write_entries(
         report,
-        exact.number(),
-        exact.place(),
-        relaxed.number(),
-        relaxed.place(),
+        workspace::outcome_number(t.exact),
+        step::stage_place(t.exact),
+        workspace::outcome_number(t.relaxed),
+        step::stage_place(t.relaxed),
         t.rounds,
         t.factorings,
     );
@@ -68,9 +67,26 @@ pub fn gritstrut_tally_raise(tally: &mut [u64; 2], rounds: u64, factorings: u64)
     *tally = [after.rounds, after.factorings];
 }
 
-// What a step's outcome tells: its number, the relaxation, the report, and the tally raised by what was spent.
+// What a step tells that was tried: its number, the relaxation, the report, and the tally raised by what was spent.
+fn tell_step(s: Stepped, relaxation: &mut f64, report: &mut [u32], tally: &mut [u64; 2]) -> u32
+    requires { length report.old ≡ 6 }
+    ensures { Tells (Ok s) result relaxation.old relaxation.new report.old report.new tally.old tally.new }
+{
+    let t = s.report;
+    write_report(t, report);
+    gritstrut_tally_raise(tally, t.rounds as u64, t.factorings as u64);
+    match s.relaxation {
+        Ok(delta) => {
+            *relaxation = delta;
+            0
+        }
+        Err(why) => why.number(),
+    }
+}
+
+// What a call of the step tells: the step's, or why a test before it refuses.
 fn tell(
-    o: step_call::Outcome,
+    o: Result<Stepped, Refusal>,
     relaxation: &mut f64,
     report: &mut [u32],
     tally: &mut [u64; 2],
@@ -79,18 +95,8 @@ fn tell(
     ensures { Tells o result relaxation.old relaxation.new report.old report.new tally.old tally.new }
 {
     match o {
-        step_call::Outcome::Done(delta, t) => {
-            *relaxation = delta;
-            write_report(t, report);
-            gritstrut_tally_raise(tally, t.rounds as u64, t.factorings as u64);
-            0
-        }
-        step_call::Outcome::Failed(why, t) => {
-            write_report(t, report);
-            gritstrut_tally_raise(tally, t.rounds as u64, t.factorings as u64);
-            why.number()
-        }
-        step_call::Outcome::Refused(why) => {
+        Ok(s) => tell_step(s, relaxation, report, tally),
+        Err(why) => {
             write_bound(why, report);
             why.number()
         }

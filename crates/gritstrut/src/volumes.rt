@@ -4,19 +4,18 @@ ghost use Rattle.settle.specs.Settle.{measured};
 ghost use Rattle.settle_call.specs.Promise.{settle_call, certify_call};
 ghost use Rattle.gritstrut.specs.Settling.{BoundTold, SettleLeaves, CertifyLeaves};
 
-use settle_call::{Bounded, Volumes};
-use workspace::Outcome;
+use settle_call::Volumes;
 
 // The bound, where there is no refusal; else the place that comes with it.
-fn tell_bound(b: Bounded, bound: &mut f64, place: &mut u32) -> u32
+fn tell_bound(b: Result<f64, workspace::Refusal>, bound: &mut f64, place: &mut u32) -> u32
     ensures { BoundTold b result bound.old bound.new place.old place.new }
 {
     match b {
-        Bounded::Done(far) => {
+        Ok(far) => {
             *bound = far;
             0
         }
-        Bounded::Refused(why) => crate::number_with_place(Outcome::Refused(why), place),
+        Err(why) => crate::number_with_place(Err(why), place),
     }
 }
 

@@ -13,7 +13,7 @@ use Rattle.numbers.specs.Root.{sqrt_of}
 use Rattle.workspace.specs.Tables.{Answer, done, refused, bad_pivot, cleared}
 use Rattle.workspace.specs.declared.Refusal.{Refusal}
 use Rattle.workspace.specs.declared.Refusal.TheVariants.{Pivot}
-use Rattle.workspace.specs.declared.Outcome.TheVariants.{Done, Refused}
+use Rattle.std.specs.Prelude.{Ok, Err}
 use Rattle.hessian.specs.Hessian.{remainder, with_row, is_pivot, next_row, first_rows, cholesky}
 use Rattle.hessian.specs.inner.Work.{made_of, FactorMade}
 
@@ -97,12 +97,8 @@ rows-good n b i l e h = h ∙ ap (λ (t : ℕ). first_rows n b t) e
 
 -- ---- the answer
 
-pub made-bad : (a : Answer (List Float)) (l out : List Float) (r : Bool) → made_of r l ≡ a → r ≡ false → FactorMade a (Refused Pivot) out out
-made-bad a l out r h f =
-    let g : a ≡ bad_pivot = sym h ∙ ap (λ (t : Bool). made_of t l) f in
-    rw g (record { the_outcome = refl; the_clearing = refl; the_output = refl })
+pub made-bad : (a : Answer (List Float)) (out : List Float) (r : Refusal) → bad_pivot ≡ a → r ≡ Pivot → FactorMade a (Err r) out out
+made-bad a out r h p = rw (← h, p) (record { the_outcome = refl; the_clearing = refl; the_output = refl })
 
-pub made-good : (a : Answer (List Float)) (l out out' : List Float) (r : Bool) → made_of r l ≡ a → r ≡ true → out' ≡ l → FactorMade a Done out out'
-made-good a l out out' r h f e =
-    let g : a ≡ done l = sym h ∙ ap (λ (t : Bool). made_of t l) f in
-    rw g (record { the_outcome = refl; the_clearing = refl; the_output = e })
+pub made-good : (a : Answer (List Float)) (l out out' : List Float) → done l ≡ a → out' ≡ l → FactorMade a (Ok tt) out out'
+made-good a l out out' h e = rw (← h) (record { the_outcome = refl; the_clearing = refl; the_output = e })

@@ -1,12 +1,13 @@
 // The approximation B of the Hessian, n by n, row by row: the kernels of identity, product, Cholesky factor and damped BFGS update.
 #![tactic(auto)]
 
-ghost use Rattle.std.specs.Prelude.{◌≡◌, true, false, ◌&&◌, cond, ℕ, ◌+◌, ◌*◌, ◌≤◌, ◌<◌, eqb, length, take, drop, Float};
+ghost use Rattle.std.specs.Prelude.{◌≡◌, true, false, ◌&&◌, cond, ℕ, ◌+◌, ◌*◌, ◌≤◌, ◌<◌, eqb, length, take, drop, Float, is_ok, IfErr};
 ghost use Rattle.numbers.specs.Numbers.{+0, one, at, tab, ◌⊕◌, ◌⊖◌, ◌⊗◌, ◌⊘◌};
 ghost use Rattle.hessian.specs.Hessian.{identity, times, remainder, with_row, is_pivot, next_row, cholesky, theta, damped, revised, curved, update};
-ghost use Rattle.hessian.specs.inner.Work.{made_of, is_whole, FactorMade};
+ghost use Rattle.workspace.specs.declared.Refusal.TheVariants.{Pivot};
+ghost use Rattle.hessian.specs.inner.Work.{made_of, FactorMade};
 
-use workspace::{Outcome, Refusal};
+use workspace::Refusal;
 
 // The curvature fraction below which the update of B is damped.
 #[derive(Clone, Copy)]
@@ -108,38 +109,29 @@ fn next_row(n: usize, b: &[f64], l: &mut [f64], i: usize) -> bool
     true
 }
 
-// A factor that is whole, or one whose pivot was not good.
-#[derive(Clone, Copy)]
-enum Made {
-    Whole,
-    Broken,
-}
-
 // L in the place of `l`, whole or up to a pivot that is not good.
-fn factor(n: usize, b: &[f64], l: &mut [f64]) -> Made
+fn factor(n: usize, b: &[f64], l: &mut [f64]) -> Result<(), Refusal>
     requires { (n ≤ 16) × (length b.now ≡ n * n) × (length l.old ≡ n * n) }
-    ensures { made_of (is_whole result) l.new ≡ cholesky n b.now }
+    ensures made { made_of (is_ok result) l.new ≡ cholesky n b.now }
+    ensures why { IfErr result (λ r. r ≡ Pivot) }
 {
     workspace::wipe(l, n * n);
     for i in 0..n {
         if !next_row(n, b, l, i) {
-            return Made::Broken;
+            return Err(Refusal::Pivot);
         }
     }
-    Made::Whole
+    Ok(())
 }
 
 // L is made in `l` and copied to `out` where it is whole, so that a refusal leaves `out`.
-pub fn factor_into(n: usize, b: &[f64], out: &mut [f64], l: &mut [f64]) -> Outcome
+pub fn factor_into(n: usize, b: &[f64], out: &mut [f64], l: &mut [f64]) -> Result<(), Refusal>
     requires { (n ≤ 16) × (length b.now ≡ n * n) × (length out.old ≡ n * n) × (length l.old ≡ n * n) }
     ensures { FactorMade (cholesky n b.now) result out.old out.new }
 {
-    let made = factor(n, b, l);
-    let Made::Whole = made else {
-        return Outcome::Refused(Refusal::Pivot);
-    };
+    factor(n, b, l)?;
     workspace::unload(l, out, 0, n * n);
-    Outcome::Done
+    Ok(())
 }
 
 // ---- the damped update

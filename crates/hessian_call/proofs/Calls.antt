@@ -8,8 +8,8 @@ use lib.Ieee.{Float}
 use borrow.Author.Tests.{eqb-true}
 use Rattle.workspace.specs.Tables.{Answer, done, call, is_dimension, is_room, has}
 use Rattle.workspace.specs.declared.Refusal.TheVariants.{Size, Length, Room}
-use Rattle.workspace.specs.declared.Outcome.{Outcome}
-use Rattle.workspace.specs.declared.Outcome.TheVariants.{Done, Refused}
+use Rattle.workspace.specs.Tables.{Outcome}
+use Rattle.std.specs.Prelude.{Ok, Err}
 use Rattle.workspace.specs.Readings.{Cleared}
 use Rattle.workspace.proofs.Tests.{and-true, dimension-le, has-length, room-ge}
 use Rattle.hessian_call.specs.Promise.{Writes}
@@ -19,19 +19,19 @@ use Rattle.hessian_call.specs.inner.Work.{UpdateReady}
 -- ---- a test refuses
 
 module _ (s l r : Bool) (a : Answer (List Float)) (out w : List Float) (iw : List ℕ) where
-  pub size-refused : s ≡ false → Writes (call s l r true a) (Refused Size) out out w w iw iw
+  pub size-refused : s ≡ false → Writes (call s l r true a) (Err Size) out out w w iw iw
   size-refused hs = rw hs (record { the_outcome = refl; the_output = refl; the_floats = refl; the_words = refl })
 
-  pub length-refused : s ≡ true → l ≡ false → Writes (call s l r true a) (Refused Length) out out w w iw iw
+  pub length-refused : s ≡ true → l ≡ false → Writes (call s l r true a) (Err Length) out out w w iw iw
   length-refused hs hl = rw (hs, hl) (record { the_outcome = refl; the_output = refl; the_floats = refl; the_words = refl })
 
-  pub room-refused : s ≡ true → l ≡ true → r ≡ false → Writes (call s l r true a) (Refused Room) out out w w iw iw
+  pub room-refused : s ≡ true → l ≡ true → r ≡ false → Writes (call s l r true a) (Err Room) out out w w iw iw
   room-refused hs hl hr = rw (hs, hl, hr) (record { the_outcome = refl; the_output = refl; the_floats = refl; the_words = refl })
 
 -- ---- no test refuses
 
 pub made : (s l r : Bool) (v out out' w w' : List Float) (iw iw' : List ℕ)
-    → s ≡ true → l ≡ true → r ≡ true → out' ≡ v → Cleared w w' iw iw' → Writes (call s l r true (done v)) Done out out' w w' iw iw'
+    → s ≡ true → l ≡ true → r ≡ true → out' ≡ v → Cleared w w' iw iw' → Writes (call s l r true (done v)) (Ok tt) out out' w w' iw iw'
 made s l r v out out' w w' iw iw' hs hl hr e c =
     rw (hs, hl, hr) (record { the_outcome = refl; the_output = e; the_floats = c.floats; the_words = c.words })
 

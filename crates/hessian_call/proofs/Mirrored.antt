@@ -9,7 +9,7 @@ use native.Mathlib.Omega.{arith}
 use lib.Ieee.{Float}
 use Rattle.numbers.proofs.Cases.{lt-or-ge}
 use Rattle.workspace.specs.Tables.{Answer, done, call, outcome_of, outcome_number, output, is_dimension, is_room, has}
-use Rattle.workspace.specs.declared.Outcome.TheVariants.{Done}
+use Rattle.std.specs.Prelude.{Ok}
 use Rattle.workspace.proofs.Tests.{and-true, has-length}
 use Rattle.hessian.specs.Hessian.{identity}
 use Rattle.hessian.specs.Hessian as Definition
@@ -72,7 +72,7 @@ pub runs-mirror : RunsMirror
 runs-mirror n ss b r = (kept_run n ss (identity n) b (kept-identity n) r).mirror
 
 -- a call that answers done wrote its value
-wrote : (sizes lengths room : Bool) (v b : List Float) → Done ≡ outcome_of (call sizes lengths room true (done v)) → output (call sizes lengths room true (done v)) (λ u. u) b ≡ v
+wrote : (sizes lengths room : Bool) (v b : List Float) → (Ok tt) ≡ outcome_of (call sizes lengths room true (done v)) → output (call sizes lengths room true (done v)) (λ u. u) b ≡ v
 wrote false lengths room v b e = let z : ◌≡◌ {A = ℕ} 0 1 = ap outcome_number e in absurd (omega arith)
 wrote true false room v b e = let z : ◌≡◌ {A = ℕ} 0 2 = ap outcome_number e in absurd (omega arith)
 wrote true true false v b e = let z : ◌≡◌ {A = ℕ} 0 3 = ap outcome_number e in absurd (omega arith)
@@ -82,7 +82,7 @@ pub since-reset : SinceReset
 since-reset n w iw s ss b b' m d r =
     let f = r.1 in
     let a : answer_of s.made s.old ≡ answer_of (reset n w iw) s.old = ap (λ (c : Call). answer_of c s.old) m in
-    let o : Done ≡ outcome_of (answer_of (reset n w iw) s.old) = sym d ∙ f.the_outcome ∙ ap (λ (x : Answer (List Float)). outcome_of x) a in
+    let o : (Ok tt) ≡ outcome_of (answer_of (reset n w iw) s.old) = sym d ∙ f.the_outcome ∙ ap (λ (x : Answer (List Float)). outcome_of x) a in
     let v : s.new ≡ identity n =
     f.the_output ∙ ap (λ (x : Answer (List Float)). output x (λ u. u) s.old) a ∙ wrote (is_dimension n) (has s.old (n * n)) (is_room w iw) (identity n) s.old o in
     (kept_run n ss s.new b' (subst (λ (x : List Float). Kept n x) (sym v) (kept-identity n)) r.2).mirror

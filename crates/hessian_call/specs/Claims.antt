@@ -2,8 +2,8 @@
 use Rattle.std.specs.Prelude.{◌≡◌, List, [], ◌∷◌, ℕ, Float}
 use Rattle.numbers.specs.Numbers.{SameLower}
 use Rattle.workspace.specs.Tables.{Answer, output}
-use Rattle.workspace.specs.declared.Outcome.{Outcome}
-use Rattle.workspace.specs.declared.Outcome.TheVariants.{Done}
+use Rattle.workspace.specs.Tables.{Outcome}
+use Rattle.std.specs.Prelude.{Ok}
 use Rattle.hessian.specs.Hessian.{identity, cholesky}
 use Rattle.hessian.specs.Claims.{Mirror}
 use Rattle.hessian_call.specs.Promise.{Writes, identity_call, update_call}
@@ -75,4 +75,4 @@ RunsMirror = (n : ℕ) (ss : List Seen) (b : List Float) → Run ss (identity n)
 -- so B is its own mirror since any reset that was done, whatever it held before
 abbrev pub SinceReset : Type 0
 SinceReset = (n : ℕ) (w : List Float) (iw : List ℕ) (s : Seen) (ss : List Seen) (b b' : List Float)
-    → s.made ≡ reset n w iw → s.outcome ≡ Done → Run (s ∷ ss) b b' → Mirror n b'
+    → s.made ≡ reset n w iw → s.outcome ≡ Ok tt → Run (s ∷ ss) b b' → Mirror n b'

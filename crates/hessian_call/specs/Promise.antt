@@ -1,7 +1,7 @@
 -- What calls of the public operations on B answer and leave. Definitions only.
 use Rattle.std.specs.Prelude.{ℕ, ◌*◌, ◌≡◌, true, ◌&&◌, List, Float}
 use Rattle.workspace.specs.Tables.{Answer, done, call, outcome_of, output, floats, words, is_dimension, is_room, has}
-use Rattle.workspace.specs.declared.Outcome.{Outcome}
+use Rattle.workspace.specs.Tables.{Outcome}
 use Rattle.hessian.specs.Hessian.{identity, times, cholesky, update}
 
 -- the whole calls, on all that they are lent: `out` is the output

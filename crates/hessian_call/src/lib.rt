@@ -8,7 +8,7 @@ ghost use Rattle.hessian.specs.inner.Work.{FactorMade};
 ghost use Rattle.hessian_call.specs.Promise.{Writes, identity_call, times_call, cholesky_call, update_call};
 ghost use Rattle.hessian_call.specs.inner.Work.{UpdateReady};
 
-use workspace::{Outcome, Refusal};
+use workspace::Refusal;
 
 // The operations on B.
 #[derive(Clone, Copy)]
@@ -52,7 +52,13 @@ fn are_lengths(n: usize, bn: usize, sn: usize, yn: usize) -> bool
 // ---- the calls where no test refuses
 
 // The factor and the clearing of the workspaces, where no test refuses.
-fn cholesky_all(n: usize, b: &[f64], out: &mut [f64], w: &mut [f64], iw: &mut [u32]) -> Outcome
+fn cholesky_all(
+    n: usize,
+    b: &[f64],
+    out: &mut [f64],
+    w: &mut [f64],
+    iw: &mut [u32],
+) -> Result<(), Refusal>
     requires { (n ≤ 16) × (length b.now ≡ n * n) × (length out.old ≡ n * n) × (8192 ≤ length w.old) × (512 ≤ length iw.old) }
     ensures { FactorMade (cholesky n b.now) result out.old out.new × Cleared w.old w.new iw.old iw.new }
 {
@@ -76,21 +82,21 @@ fn update_all(n: usize, b: &mut [f64], s: &[f64], y: &[f64], w: &mut [f64], iw: 
 
 impl Hessian {
     // The identity, written to `out`.
-    pub fn identity(n: usize, out: &mut [f64], w: &mut [f64], iw: &mut [u32]) -> Outcome
+    pub fn identity(n: usize, out: &mut [f64], w: &mut [f64], iw: &mut [u32]) -> Result<(), Refusal>
         ensures { Writes (identity_call n out.old w.old iw.old) result out.old out.new w.old w.new iw.old iw.new }
     {
         if !workspace::is_dimension(n) {
-            return Outcome::Refused(Refusal::Size);
+            return Err(Refusal::Size);
         }
         if !is_square(n, out.len()) {
-            return Outcome::Refused(Refusal::Length);
+            return Err(Refusal::Length);
         }
         if !workspace::is_room(w.len(), iw.len()) {
-            return Outcome::Refused(Refusal::Room);
+            return Err(Refusal::Room);
         }
         hessian::identity_into(n, out);
         workspace::clear(w, iw);
-        Outcome::Done
+        Ok(())
     }
 
     // The product B v, written to `out`.
@@ -101,35 +107,41 @@ impl Hessian {
         out: &mut [f64],
         w: &mut [f64],
         iw: &mut [u32],
-    ) -> Outcome
+    ) -> Result<(), Refusal>
         ensures { Writes (times_call n b.now v.now out.old w.old iw.old) result out.old out.new w.old w.new iw.old iw.new }
     {
         if !workspace::is_dimension(n) {
-            return Outcome::Refused(Refusal::Size);
+            return Err(Refusal::Size);
         }
         if !are_lengths(n, b.len(), v.len(), out.len()) {
-            return Outcome::Refused(Refusal::Length);
+            return Err(Refusal::Length);
         }
         if !workspace::is_room(w.len(), iw.len()) {
-            return Outcome::Refused(Refusal::Room);
+            return Err(Refusal::Room);
         }
         hessian::times_into(n, b, v, out);
         workspace::clear(w, iw);
-        Outcome::Done
+        Ok(())
     }
 
     // The Cholesky factor of B, written to `out`.
-    pub fn cholesky(n: usize, b: &[f64], out: &mut [f64], w: &mut [f64], iw: &mut [u32]) -> Outcome
+    pub fn cholesky(
+        n: usize,
+        b: &[f64],
+        out: &mut [f64],
+        w: &mut [f64],
+        iw: &mut [u32],
+    ) -> Result<(), Refusal>
         ensures { Writes (cholesky_call n b.now out.old w.old iw.old) result out.old out.new w.old w.new iw.old iw.new }
     {
         if !workspace::is_dimension(n) {
-            return Outcome::Refused(Refusal::Size);
+            return Err(Refusal::Size);
         }
         if !are_squares(n, b.len(), out.len()) {
-            return Outcome::Refused(Refusal::Length);
+            return Err(Refusal::Length);
         }
         if !workspace::is_room(w.len(), iw.len()) {
-            return Outcome::Refused(Refusal::Room);
+            return Err(Refusal::Room);
         }
         cholesky_all(n, b, out, w, iw)
     }
@@ -142,19 +154,19 @@ impl Hessian {
         y: &[f64],
         w: &mut [f64],
         iw: &mut [u32],
-    ) -> Outcome
+    ) -> Result<(), Refusal>
         ensures { Writes (update_call n b.old s.now y.now w.old iw.old) result b.old b.new w.old w.new iw.old iw.new }
     {
         if !workspace::is_dimension(n) {
-            return Outcome::Refused(Refusal::Size);
+            return Err(Refusal::Size);
         }
         if !are_lengths(n, b.len(), s.len(), y.len()) {
-            return Outcome::Refused(Refusal::Length);
+            return Err(Refusal::Length);
         }
         if !workspace::is_room(w.len(), iw.len()) {
-            return Outcome::Refused(Refusal::Room);
+            return Err(Refusal::Room);
         }
         update_all(n, b, s, y, w, iw);
-        Outcome::Done
+        Ok(())
     }
 }

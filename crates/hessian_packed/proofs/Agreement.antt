@@ -14,7 +14,7 @@ use Rattle.numbers.proofs.Sums.{Σ-same}
 use Rattle.numbers.proofs.Lists.{tab-same, grid-same, grid-of, at_row, length-grid, entry-grid}
 use Rattle.numbers.proofs.Cases.{lt-or-ge}
 use Rattle.workspace.specs.Tables.{Answer}
-use Rattle.workspace.specs.declared.Outcome.{Outcome}
+use Rattle.workspace.specs.Tables.{Outcome}
 use Rattle.hessian.specs.Hessian.{theta, damped}
 use Rattle.hessian.specs.Hessian as Square
 use Rattle.hessian.specs.Claims.{Event, reset, update, refused}

@@ -6,8 +6,6 @@ ghost use Rattle.numbers.specs.Numbers.{Σ, at, tab, ◌⊗◌};
 ghost use Rattle.hessian.specs.inner.Work.{FactorMade};
 ghost use Rattle.hessian_packed.specs.Packed.{count, place, packed, unpacked, identity, times, cholesky, update};
 
-use workspace::Outcome;
-
 // ---- where the entries stand
 
 // How many numbers n rows have.
@@ -123,7 +121,12 @@ fn factor_room() -> [f64; 256]
 }
 
 // The factor, square, written to `out` where it is whole.
-pub fn factor_into(n: usize, p: &[f64], out: &mut [f64], square: &mut [f64]) -> Outcome
+pub fn factor_into(
+    n: usize,
+    p: &[f64],
+    out: &mut [f64],
+    square: &mut [f64],
+) -> Result<(), workspace::Refusal>
     requires { (n ≤ 16) × (length p.now ≡ count n) × (length out.old ≡ n * n) × (length square.old ≡ n * n) }
     ensures { FactorMade (cholesky n p.now) result out.old out.new }
 {

@@ -1,7 +1,7 @@
 -- What is shown of the operations on B as its lower triangle: they agree with the square form's after any calls. Definitions only.
 use Rattle.std.specs.Prelude.{ℕ, ◌≡◌, List, [], ◌∷◌, Float}
 use Rattle.workspace.specs.Tables.{Answer}
-use Rattle.workspace.specs.declared.Outcome.{Outcome}
+use Rattle.workspace.specs.Tables.{Outcome}
 use Rattle.hessian.specs.Hessian as Square
 use Rattle.hessian_call.specs.Promise.{Writes, times_call, cholesky_call}
 use Rattle.hessian_call.specs.Claims.{Call, reset, update, lent_floats, lent_words, Seen, Run}

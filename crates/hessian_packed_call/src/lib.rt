@@ -9,7 +9,7 @@ ghost use Rattle.hessian_packed.specs.Packed.{count, identity, cholesky, update}
 ghost use Rattle.hessian_packed_call.specs.Promise.{packed_identity_call, packed_times_call, packed_cholesky_call, packed_update_call};
 ghost use Rattle.hessian_packed_call.specs.inner.Work.{Ready};
 
-use workspace::{Outcome, Refusal};
+use workspace::Refusal;
 
 // The operations on B as its lower triangle.
 #[derive(Clone, Copy)]
@@ -63,7 +63,13 @@ fn identity_all(n: usize, out: &mut [f64], w: &mut [f64], iw: &mut [u32])
 }
 
 // The factor and the clearing of the workspaces.
-fn cholesky_all(n: usize, p: &[f64], out: &mut [f64], w: &mut [f64], iw: &mut [u32]) -> Outcome
+fn cholesky_all(
+    n: usize,
+    p: &[f64],
+    out: &mut [f64],
+    w: &mut [f64],
+    iw: &mut [u32],
+) -> Result<(), Refusal>
     requires { (n ≤ 16) × (length p.now ≡ count n) × (length out.old ≡ n * n) × (8192 ≤ length w.old) × (512 ≤ length iw.old) }
     ensures { FactorMade (cholesky n p.now) result out.old out.new × Cleared w.old w.new iw.old iw.new }
 {
@@ -87,20 +93,20 @@ fn update_all(n: usize, p: &mut [f64], s: &[f64], y: &[f64], w: &mut [f64], iw: 
 
 impl Packed {
     // The identity, written to `out`.
-    pub fn identity(n: usize, out: &mut [f64], w: &mut [f64], iw: &mut [u32]) -> Outcome
+    pub fn identity(n: usize, out: &mut [f64], w: &mut [f64], iw: &mut [u32]) -> Result<(), Refusal>
         ensures { Writes (packed_identity_call n out.old w.old iw.old) result out.old out.new w.old w.new iw.old iw.new }
     {
         if !workspace::is_dimension(n) {
-            return Outcome::Refused(Refusal::Size);
+            return Err(Refusal::Size);
         }
         if !is_triangle(n, out.len()) {
-            return Outcome::Refused(Refusal::Length);
+            return Err(Refusal::Length);
         }
         if !workspace::is_room(w.len(), iw.len()) {
-            return Outcome::Refused(Refusal::Room);
+            return Err(Refusal::Room);
         }
         identity_all(n, out, w, iw);
-        Outcome::Done
+        Ok(())
     }
 
     // The product B v, written to `out`.
@@ -111,35 +117,41 @@ impl Packed {
         out: &mut [f64],
         w: &mut [f64],
         iw: &mut [u32],
-    ) -> Outcome
+    ) -> Result<(), Refusal>
         ensures { Writes (packed_times_call n p.now v.now out.old w.old iw.old) result out.old out.new w.old w.new iw.old iw.new }
     {
         if !workspace::is_dimension(n) {
-            return Outcome::Refused(Refusal::Size);
+            return Err(Refusal::Size);
         }
         if !are_lengths(n, p.len(), v.len(), out.len()) {
-            return Outcome::Refused(Refusal::Length);
+            return Err(Refusal::Length);
         }
         if !workspace::is_room(w.len(), iw.len()) {
-            return Outcome::Refused(Refusal::Room);
+            return Err(Refusal::Room);
         }
         hessian_packed::times_into(n, p, v, out);
         workspace::clear(w, iw);
-        Outcome::Done
+        Ok(())
     }
 
     // The Cholesky factor of B, square, written to `out`.
-    pub fn cholesky(n: usize, p: &[f64], out: &mut [f64], w: &mut [f64], iw: &mut [u32]) -> Outcome
+    pub fn cholesky(
+        n: usize,
+        p: &[f64],
+        out: &mut [f64],
+        w: &mut [f64],
+        iw: &mut [u32],
+    ) -> Result<(), Refusal>
         ensures { Writes (packed_cholesky_call n p.now out.old w.old iw.old) result out.old out.new w.old w.new iw.old iw.new }
     {
         if !workspace::is_dimension(n) {
-            return Outcome::Refused(Refusal::Size);
+            return Err(Refusal::Size);
         }
         if !are_matrices(n, p.len(), out.len()) {
-            return Outcome::Refused(Refusal::Length);
+            return Err(Refusal::Length);
         }
         if !workspace::is_room(w.len(), iw.len()) {
-            return Outcome::Refused(Refusal::Room);
+            return Err(Refusal::Room);
         }
         cholesky_all(n, p, out, w, iw)
     }
@@ -152,19 +164,19 @@ impl Packed {
         y: &[f64],
         w: &mut [f64],
         iw: &mut [u32],
-    ) -> Outcome
+    ) -> Result<(), Refusal>
         ensures { Writes (packed_update_call n p.old s.now y.now w.old iw.old) result p.old p.new w.old w.new iw.old iw.new }
     {
         if !workspace::is_dimension(n) {
-            return Outcome::Refused(Refusal::Size);
+            return Err(Refusal::Size);
         }
         if !are_lengths(n, p.len(), s.len(), y.len()) {
-            return Outcome::Refused(Refusal::Length);
+            return Err(Refusal::Length);
         }
         if !workspace::is_room(w.len(), iw.len()) {
-            return Outcome::Refused(Refusal::Room);
+            return Err(Refusal::Room);
         }
         update_all(n, p, s, y, w, iw);
-        Outcome::Done
+        Ok(())
     }
 }

@@ -1,6 +1,6 @@
 -- What the search for the pivot rests on: a column whose sum of squares is not above the lead's has no larger norm, and one whose sum is clearly above has one.
 use mathlib.Core.Path.{◌≡◌, refl, sym, ap, ap₂, ◌∙◌, subst}
-use mathlib.Core.Bool.{Bool, true, false, cond, true≢false, false≢true}
+use mathlib.Core.Bool.{Bool, true, false, cond, true≢false}
 use mathlib.Core.List.{List}
 use Prim.Native.Nat.{ℕ, zero, suc, ◌+◌, ◌-◌, ◌*◌, ◌^◌, ◌<◌, ◌≤◌}
 use native.Mathlib.Numerals.{add-one}
@@ -31,9 +31,11 @@ use Rattle.numbers.proofs.Apart.{sets-apart, root_over, root-under, root_up_hold
 use Rattle.workspace.specs.Readings.{mat}
 use Rattle.workspace.proofs.Readings.{entry-mat}
 use Rattle.householder.specs.Qr.{column_norm, better, pivot}
-use Rattle.householder.specs.inner.Search.{product, squares, four, shown, taken, weighed, compared, clear, Rooted, Judged, JudgedFour, SureFour, Leads}
+use Rattle.householder.specs.inner.Search.{product, squares, four, shown, taken, weighed, compared, clear, Rooted, IsAhead, Judged, JudgedFour, SureFour, Leads}
 use Rattle.householder.specs.declared.Candidate.{Candidate}
 use Rattle.householder.specs.declared.search.Lead.{Lead}
+use Rattle.householder.specs.declared.search.Lead.TheVariants.{Squares, Norm}
+use Rattle.std.specs.Prelude.{Option, None, Some}
 use Rattle.householder.specs.declared.Four.{Four}
 
 -- ---- the code's literals
@@ -114,100 +116,73 @@ column-slice m n k j w km jn h =
     ∙ column-part m n k j w order jn (take (m - k) (drop p w)) (length-take-le (m - k) (drop p w) room) (λ t q. get_or-take (m - k) (drop p w) t nan q ∙ get_or-drop p w t nan)
 
 -- ---- `weigh`: one law for each way out
-module _ (old : Lead) (j : ℕ) (s : Float) where
-  pub weighed-clear : old.any ≡ true → old.rooted ≡ false → lt old.sum s ≡ true → lt (old.sum ⊗ gap) s ≡ true → taken j s ≡ weighed old j s
-  weighed-clear a r b c = rw (a, r, b, c)
+module _ (old : Option Lead) (j : ℕ) (s : Float) where
+  module _ (i : ℕ) (v : Float) (e : old ≡ taken i v) where
+    pub weighed-clear : lt v s ≡ true → lt (v ⊗ gap) s ≡ true → taken j s ≡ weighed old j s
+    weighed-clear b c = rw (e, b, c)
 
-  pub weighed-above : (x y : Float) → old.any ≡ true → old.rooted ≡ false → lt old.sum s ≡ true → lt (old.sum ⊗ gap) s ≡ false
-      → x ≡ sqrt_of old.sum → y ≡ sqrt_of s → lt x y ≡ true → taken j s ≡ weighed old j s
-  weighed-above x y a r b c e f h = rw (a, r, b, c, ← e, ← f, h)
-
-  pub weighed-tie : (x y : Float) → old.any ≡ true → old.rooted ≡ false → lt old.sum s ≡ true → lt (old.sum ⊗ gap) s ≡ false
-      → x ≡ sqrt_of old.sum → y ≡ sqrt_of s → lt x y ≡ false → old ≡ weighed old j s
-  weighed-tie x y a r b c e f h = rw (a, r, b, c, ← e, ← f, h)
-
-  pub weighed-below : old.any ≡ true → old.rooted ≡ false → lt old.sum s ≡ false → old ≡ weighed old j s
-  weighed-below a r b = rw (a, r, b)
-
-  pub weighed-root : (y : Float) → old.any ≡ true → old.rooted ≡ true → y ≡ sqrt_of s → lt old.sum y ≡ true → taken j s ≡ weighed old j s
-  weighed-root y a r e h = rw (a, r, ← e, h)
-
-  pub weighed-not : (y : Float) → old.any ≡ true → old.rooted ≡ true → y ≡ sqrt_of s → lt old.sum y ≡ false → old ≡ weighed old j s
-  weighed-not y a r e h = rw (a, r, ← e, h)
-
-  pub weighed-first : old.any ≡ false → le +0 s ≡ true → taken j s ≡ weighed old j s
-  weighed-first a b = rw (a, b)
-
-  pub weighed-none : old.any ≡ false → le +0 s ≡ false → old ≡ weighed old j s
-  weighed-none a b = rw (a, b)
+    pub weighed-tie : (x y : Float) → lt v s ≡ true → lt (v ⊗ gap) s ≡ false → x ≡ sqrt_of v → y ≡ sqrt_of s → lt x y ≡ false → old ≡ weighed old j s
+    weighed-tie x y b c d g h = rw (e, b, c, ← d, ← g, h)
 
 -- ---- `show`
 
 abbrev candidate : ℕ → Float → Candidate
 candidate i x = record { index = i; norm = x }
 
-pub shown-rooted : (top : Lead) → top.any ≡ true → top.rooted ≡ true → ◌≡◌ {A = Candidate} (record { index = top.index; norm = top.sum }) (shown top)
-shown-rooted top h r = rw (h, r)
+pub shown-none : (k : ℕ) (top : Option Lead) → top ≡ None → ◌≡◌ {A = Candidate} (record { index = k; norm = neg (of_bits binary64 4607182418800017408) }) (shown k top)
+shown-none k top e = rw e (ap (candidate k) lit--1)
 
-pub shown-some : (top : Lead) (x : Float) → top.any ≡ true → top.rooted ≡ false → x ≡ sqrt_of top.sum → ◌≡◌ {A = Candidate} (record { index = top.index; norm = x }) (shown top)
-shown-some top x h r e = rw (h, r) (ap (candidate top.index) e)
-
-pub shown-none : (top : Lead) → top.any ≡ false → ◌≡◌ {A = Candidate} (record { index = top.index; norm = neg (of_bits binary64 4607182418800017408) }) (shown top)
-shown-none top h = rw h (ap (candidate top.index) lit--1)
-
--- ---- one column, with the sum s, against a lead of the index i and the sum v
+-- ---- one column, with the sum s, against the lead
 
 clash : (t : Bool) → t ≡ true → t ≡ false → ⊥
 clash t e g = true≢false (sym e ∙ g)
 
-module _ (i j : ℕ) (v s : Float) (fit : T (fits binary64 s)) where
-  abbrev lead : Bool → Bool → Lead
-  lead a r = record { index = i; sum = v; any = a; rooted = r }
-
+module _ (k j : ℕ) (s : Float) (fit : T (fits binary64 s)) where
   abbrev next : Candidate
   next = record { index = j; norm = sqrt_of s }
 
-  some : (p q r : Bool) → lt v s ≡ p → lt (v ⊗ gap) s ≡ q → lt (sqrt_of v) (sqrt_of s) ≡ r → lt -1 (sqrt_of v) ≡ true
-      → Rooted (cond p (cond q (taken j s) (cond r (taken j s) (lead true false))) (lead true false))
-      × (shown (cond p (cond q (taken j s) (cond r (taken j s) (lead true false))) (lead true false)) ≡ cond r next (shown (lead true false)))
-  some false q true a b c g = absurd (clash (lt (sqrt_of v) (sqrt_of s)) c (keeps-order v s a))
-  some false q false a b c g = (λ _ _. g, refl)
-  some true true true a b c g = (λ _ _. root_up_holds v s g a, refl)
-  some true true false a b c g = absurd (clash (lt (sqrt_of v) (sqrt_of s)) (sets-apart v s fit g a b) c)
-  some true false true a b c g = (λ _ _. root_up_holds v s g a, refl)
-  some true false false a b c g = (λ _ _. g, refl)
+  -- the lead's sum is v
+  some : (i : ℕ) (v : Float) (p q r : Bool) → lt v s ≡ p → lt (v ⊗ gap) s ≡ q → lt (sqrt_of v) (sqrt_of s) ≡ r → lt -1 (sqrt_of v) ≡ true
+      → Rooted (cond p (cond q (taken j s) (cond r (taken j s) (taken i v))) (taken i v))
+      × (shown k (cond p (cond q (taken j s) (cond r (taken j s) (taken i v))) (taken i v)) ≡ cond r next (shown k (taken i v)))
+  some i v false q true a b c g = absurd (clash (lt (sqrt_of v) (sqrt_of s)) c (keeps-order v s a))
+  some i v false q false a b c g = (g, refl)
+  some i v true true true a b c g = (root_up_holds v s g a, refl)
+  some i v true true false a b c g = absurd (clash (lt (sqrt_of v) (sqrt_of s)) (sets-apart v s fit g a b) c)
+  some i v true false true a b c g = (root_up_holds v s g a, refl)
+  some i v true false false a b c g = (g, refl)
 
   -- the lead's root is taken already
-  known : (r : Bool) → lt v (sqrt_of s) ≡ r → lt -1 (sqrt_of s) ≡ true → Rooted (cond r (taken j s) (lead true true)) × (shown (cond r (taken j s) (lead true true)) ≡ cond r next (shown (lead true true)))
-  known true c g = (λ _ _. g, refl)
-  known false c g = ((λ _ e. absurd (true≢false e)), refl)
+  known : (c : Candidate) (r : Bool) → lt c.norm (sqrt_of s) ≡ r → lt -1 (sqrt_of s) ≡ true → Rooted (cond r (taken j s) (Some (Norm c))) × (shown k (cond r (taken j s) (Some (Norm c))) ≡ cond r next c)
+  known c true e g = (g, refl)
+  known c false e g = (tt, refl)
 
-  none : (x p r : Bool) → le +0 s ≡ p → lt -1 (sqrt_of s) ≡ r
-      → Rooted (cond p (taken j s) (lead false x)) × (shown (cond p (taken j s) (lead false x)) ≡ cond r next (shown (lead false x)))
-  none x true true a c = (λ _ _. c, refl)
-  none x true false a c = absurd (clash (lt -1 (sqrt_of s)) (root_over s a) c)
-  none x false true a c = absurd (clash (lt -1 (sqrt_of s)) c (root-under s a))
-  none x false false a c = ((λ e. absurd (false≢true e)), refl)
+  none : (p r : Bool) → le +0 s ≡ p → lt -1 (sqrt_of s) ≡ r
+      → Rooted (cond p (taken j s) None) × (shown k (cond p (taken j s) None) ≡ cond r next (shown k None))
+  none true true a c = (c, refl)
+  none true false a c = absurd (clash (lt -1 (sqrt_of s)) (root_over s a) c)
+  none false true a c = absurd (clash (lt -1 (sqrt_of s)) c (root-under s a))
+  none false false a c = (tt, refl)
 
-  right : (a r : Bool) → lt -1 (sqrt_of s) ≡ true → Rooted (lead a r) → Rooted (weighed (lead a r) j s) × (shown (weighed (lead a r) j s) ≡ better (shown (lead a r)) next)
-  right true false o g = some (lt v s) (lt (v ⊗ gap) s) (lt (sqrt_of v) (sqrt_of s)) refl refl refl (g refl refl)
-  right true true o g = known (lt v (sqrt_of s)) refl o
-  right false r o g = none r (le +0 s) (lt -1 (sqrt_of s)) refl refl
+  right : (old : Option Lead) → lt -1 (sqrt_of s) ≡ true → Rooted old → Rooted (weighed old j s) × (shown k (weighed old j s) ≡ better (shown k old) next)
+  right None o g = none (le +0 s) (lt -1 (sqrt_of s)) refl refl
+  right (Some (Squares i v)) o g = some i v (lt v s) (lt (v ⊗ gap) s) (lt (sqrt_of v) (sqrt_of s)) refl refl refl g
+  right (Some (Norm c)) o g = known c (lt c.norm (sqrt_of s)) refl o
 
 -- ---- `judge`
 
 -- column j's sum is its norm's square
-pub judged-sum : (m n k j : ℕ) (w : List Float) (old new : Lead) (f s : Float) → m ≤ 18 → k < m → j < n → s ≡ squares (m - k) (426 + j * 18 + k) w
+pub judged-sum : (m n k j : ℕ) (w : List Float) (old new : Option Lead) (f s : Float) → m ≤ 18 → k < m → j < n → s ≡ squares (m - k) (426 + j * 18 + k) w
     → ((t : ℕ) → t < m - k → T (fits binary64 (at w (426 + j * 18 + k + t)))) → IsUnits f (2 ^ (55 * (m - k) - 1)) → le f s ≡ true → le s most_sum ≡ true → new ≡ weighed old j s → Judged m n k j w old new
 judged-sum m n k j w old new f s m18 km jn es fits-w u lo hi en g =
     let fit : T (fits binary64 s) = subst (λ (x : Float). T (fits binary64 x)) (sym es) (squares-fits (m - k) (426 + j * 18 + k) w) in
     let root : lt -1 (sqrt_of s) ≡ true = root_over s (above-least f s (2 ^ (55 * (m - k) - 1)) u (pow_pos (55 * (m - k) - 1)) lo) in
-    let r = right old.index j old.sum s fit old.any old.rooted root g in
+    let r = right k j s fit old root g in
     let order : k ≤ m = omega arith in
     let pos : 0 < m - k = omega arith in
     let e : sqrt_of s ≡ column_norm m n k (mat 426 m n w) j =
     ap sqrt_of es ∙ sym (column-decided m n k j w order jn f m18 pos fits-w u (ap (le f) (sym es) ∙ lo) (ap (λ (x : Float). le x most_sum) (sym es) ∙ hi)) in
-    (subst Rooted (sym en) r.0, ap shown en ∙ r.1 ∙ ap (λ (x : Float). better (shown old) (candidate j x)) e)
+    (subst Rooted (sym en) r.0, ap (shown k) en ∙ r.1 ∙ ap (λ (x : Float). better (shown k old) (candidate j x)) e)
 
 -- column j's norm is at most 2 ^ -30, and the lead's root is at least that
 pub lit-clear : of_bits binary64 4336966441157787648 ≡ clear
@@ -228,54 +203,58 @@ not-less (fin false m e) h =
     let l : T (le clear (fin false m e)) = subst T (sym h) tt in
     no_less (m * up e * down (negsuc 59)) (1 * up (negsuc 59) * down e) (le→cross clear (fin false m e) tt (above_of_le clear (fin false m e) tt l) l)
 
-pub judged-dim : (m n k j : ℕ) (w : List Float) (old : Lead) (s : Float) → m ≤ 18 → k < m → j < n → s ≡ squares (m - k) (426 + j * 18 + k) w
-    → ((t : ℕ) → t < m - k → T (fits binary64 (at w (426 + j * 18 + k + t)))) → le +0 s ≡ true → le s faint_sum ≡ true
-    → (old.any ≡ true) × (old.rooted ≡ false) × (le clear old.sum ≡ true) → Judged m n k j w old old
+pub is-ahead : (old : Option Lead) (i : ℕ) (v : Float) → old ≡ taken i v → le clear v ≡ true → IsAhead old
+is-ahead old i v e h = rw e h
+
+ahead-shown : (k : ℕ) (old : Option Lead) → IsAhead old → lt (shown k old).norm faint_norm ≡ false
+ahead-shown k None h = absurd h
+ahead-shown k (Some (Squares i v)) h = ap (lt (sqrt_of v)) (sym root-clear) ∙ keeps-order v clear (not-less v h)
+ahead-shown k (Some (Norm c)) h = absurd h
+
+pub judged-dim : (m n k j : ℕ) (w : List Float) (old : Option Lead) (s : Float) → m ≤ 18 → k < m → j < n → s ≡ squares (m - k) (426 + j * 18 + k) w
+    → ((t : ℕ) → t < m - k → T (fits binary64 (at w (426 + j * 18 + k + t)))) → le +0 s ≡ true → le s faint_sum ≡ true → IsAhead old → Judged m n k j w old old
 judged-dim m n k j w old s m18 km jn es fits-w lo hi h g =
     let km' : k ≤ m = omega arith in
     let a : lt faint_norm (column_norm m n k (mat 426 m n w) j) ≡ false = column-bounded m n k j w km' jn m18 (omega arith) fits-w (ap (le +0) (sym es) ∙ lo) (ap (λ (x : Float). le x faint_sum) (sym es) ∙ hi) in
-    let b : lt (sqrt_of old.sum) faint_norm ≡ false = ap (lt (sqrt_of old.sum)) (sym root-clear) ∙ keeps-order old.sum clear (not-less old.sum h.2) in
-    let c : lt (shown old).norm (column_norm m n k (mat 426 m n w) j) ≡ false =
-    ap (λ (t : Bool). lt (cond t (cond old.rooted old.sum (sqrt_of old.sum)) -1) (column_norm m n k (mat 426 m n w) j)) h.0
-    ∙ ap (λ (t : Bool). lt (cond t old.sum (sqrt_of old.sum)) (column_norm m n k (mat 426 m n w) j)) h.1
-    ∙ not-lt-trans (sqrt_of old.sum) faint_norm (column_norm m n k (mat 426 m n w) j) faint-number b a in
-    (g, sym (ap (λ (t : Bool). cond t (candidate j (column_norm m n k (mat 426 m n w) j)) (shown old)) c))
+    let c : lt (shown k old).norm (column_norm m n k (mat 426 m n w) j) ≡ false =
+    not-lt-trans (shown k old).norm faint_norm (column_norm m n k (mat 426 m n w) j) faint-number (ahead-shown k old h) a in
+    (g, sym (ap (λ (t : Bool). cond t (candidate j (column_norm m n k (mat 426 m n w) j)) (shown k old)) c))
   where
     faint-number : faint_norm ≡ nan → ⊥
     faint-number e = let z : ◌≡◌ {A = ℕ} 0 1 = cc in omega arith
 
 -- `compare`: one law for each way out
-pub compared-above : (old : Lead) (j : ℕ) (y : Float) (c : Candidate) → c ≡ shown old → lt c.norm y ≡ true → ◌≡◌ {A = Lead} (record { index = j; sum = y; any = true; rooted = true }) (compared old j y)
-compared-above old j y c e h = let g : lt (shown old).norm y ≡ true = subst (λ (c : Candidate). lt c.norm y ≡ true) e h in rw g
+pub compared-above : (k : ℕ) (old : Option Lead) (j : ℕ) (y : Float) (c : Candidate) → c ≡ shown k old → lt c.norm y ≡ true → Some (Norm (record { index = j; norm = y })) ≡ compared k old j y
+compared-above k old j y c e h = let g : lt (shown k old).norm y ≡ true = subst (λ (c : Candidate). lt c.norm y ≡ true) e h in rw g
 
-pub compared-below : (old : Lead) (j : ℕ) (y : Float) (c : Candidate) → c ≡ shown old → lt c.norm y ≡ false → old ≡ compared old j y
-compared-below old j y c e h = let g : lt (shown old).norm y ≡ false = subst (λ (c : Candidate). lt c.norm y ≡ false) e h in rw g
+pub compared-below : (k : ℕ) (old : Option Lead) (j : ℕ) (y : Float) (c : Candidate) → c ≡ shown k old → lt c.norm y ≡ false → old ≡ compared k old j y
+compared-below k old j y c e h = let g : lt (shown k old).norm y ≡ false = subst (λ (c : Candidate). lt c.norm y ≡ false) e h in rw g
 
 -- column j's norm is worked out
-pub judged-norm : (m n k j : ℕ) (w : List Float) (old new : Lead) (y : Float) → y ≡ column_norm m n k (mat 426 m n w) j → new ≡ compared old j y → Judged m n k j w old new
+pub judged-norm : (m n k j : ℕ) (w : List Float) (old new : Option Lead) (y : Float) → y ≡ column_norm m n k (mat 426 m n w) j → new ≡ compared k old j y → Judged m n k j w old new
 judged-norm m n k j w old new y e en g =
-    let r = pick (lt (shown old).norm y) in
-    (subst Rooted (sym en) r.0, ap shown en ∙ r.1 ∙ ap (λ (x : Float). better (shown old) (candidate j x)) e)
+    let r = pick (lt (shown k old).norm y) in
+    (subst Rooted (sym en) r.0, ap (shown k) en ∙ r.1 ∙ ap (λ (x : Float). better (shown k old) (candidate j x)) e)
   where
-    pick : (t : Bool) → Rooted (cond t (record { index = j; sum = y; any = true; rooted = true }) old) × (shown (cond t (record { index = j; sum = y; any = true; rooted = true }) old) ≡ cond t (candidate j y) (shown old))
-    pick true = ((λ _ h. absurd (true≢false h)), refl)
+    pick : (t : Bool) → Rooted (cond t (Some (Norm (candidate j y))) old) × (shown k (cond t (Some (Norm (candidate j y))) old) ≡ cond t (candidate j y) (shown k old))
+    pick true = (tt, refl)
     pick false = (g, refl)
 
 -- ---- the columns one after the other
 
-pub leads-none : (m n k : ℕ) (w : List Float) (s : Float) → Leads m n k 0 w (record { index = k; sum = s; any = false; rooted = false })
+pub leads-none : (m n k : ℕ) (w : List Float) → Leads m n k 0 w None
 unfolding pivot
-leads-none m n k w s = record { rooted = λ e. absurd (false≢true e); best = refl }
+leads-none m n k w = record { rooted = tt; best = refl }
 
 -- column j, the next one
-pub leads-more : (m n k t j : ℕ) (w : List Float) (old new : Lead) → j ≡ k + t → Leads m n k t w old → Judged m n k j w old new → Leads m n k (t + 1) w new
+pub leads-more : (m n k t j : ℕ) (w : List Float) (old new : Option Lead) → j ≡ k + t → Leads m n k t w old → Judged m n k j w old new → Leads m n k (t + 1) w new
 unfolding pivot
 leads-more m n k t j w old new ej l h =
     let r = h l.rooted in
     record { rooted = r.0; best = r.1 ∙ ap (λ (c : Candidate). better c (candidate j (column_norm m n k (mat 426 m n w) j))) l.best ∙ rw (ej, add-one) }
 
 -- four columns, from j on
-pub leads-four : (m n k q j : ℕ) (w : List Float) (l₀ l₁ l₂ l₃ l₄ : Lead) → j ≡ k + q * 4 → Leads m n k (q * 4) w l₀
+pub leads-four : (m n k q j : ℕ) (w : List Float) (l₀ l₁ l₂ l₃ l₄ : Option Lead) → j ≡ k + q * 4 → Leads m n k (q * 4) w l₀
     → Judged m n k j w l₀ l₁ → Judged m n k (j + 1) w l₁ l₂ → Judged m n k (j + 2) w l₂ l₃ → Judged m n k (j + 3) w l₃ l₄ → Leads m n k ((q + 1) * 4) w l₄
 leads-four m n k q j w l₀ l₁ l₂ l₃ l₄ e b e₁ e₂ e₃ e₄ =
     let b₁ = leads-more m n k (q * 4) j w l₀ l₁ e b e₁ in
@@ -299,7 +278,7 @@ pub four-d : (m k j : ℕ) (w : List Float) (s : Four) → s ≡ four (m - k) (4
 four-d m k j w s e = ap (λ (f : Four). f.d) e ∙ ap (λ (z : ℕ). squares (m - k) z w) (let z : 426 + j * 18 + k + 54 ≡ 426 + (j + 3) * 18 + k = omega arith in z)
 
 -- four columns whose sums decide
-pub judged-four : (m n k j : ℕ) (w : List Float) (l₀ l₁ l₂ l₃ l₄ : Lead) (f : Float) (s : Four) → m ≤ 18 → k < m → j + 3 < n → s ≡ four (m - k) (426 + j * 18 + k) 18 (426 + j * 18 + k) w
+pub judged-four : (m n k j : ℕ) (w : List Float) (l₀ l₁ l₂ l₃ l₄ : Option Lead) (f : Float) (s : Four) → m ≤ 18 → k < m → j + 3 < n → s ≡ four (m - k) (426 + j * 18 + k) 18 (426 + j * 18 + k) w
     → ((t : ℕ) → t < 54 + (m - k) → T (fits binary64 (at w (426 + j * 18 + k + t)))) → IsUnits f (2 ^ (55 * (m - k) - 1)) → SureFour f s
     → l₁ ≡ weighed l₀ j s.a → l₂ ≡ weighed l₁ (j + 1) s.b → l₃ ≡ weighed l₂ (j + 2) s.c → l₄ ≡ weighed l₃ (j + 3) s.d → JudgedFour m n k j w l₀ l₄
 judged-four m n k j w l₀ l₁ l₂ l₃ l₄ f s m18 km jn es fit u sure e₁ e₂ e₃ e₄ q e b =

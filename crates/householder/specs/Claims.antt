@@ -2,7 +2,7 @@
 use Rattle.std.specs.Prelude.{◌≡◌, true, false, ◌⊎◌, List, ℕ, ◌+◌, ◌*◌, ◌<◌, min, length, Float}
 use Rattle.std.specs.Float.{nan}
 use Rattle.std.specs.Float.Ieee.{lt}
-use Rattle.numbers.specs.Numbers.{at, nth, -1}
+use Rattle.numbers.specs.Numbers.{nth, -1}
 use Rattle.householder.specs.Qr.{Factors, column_norm, pivot, factor}
 use Rattle.householder.specs.declared.Candidate.{Candidate}
 

@@ -1,5 +1,5 @@
 -- Householder QR with column pivoting, A P = Q R (docs/RULES.md, "QR with column pivoting"; Lawson and Hanson, Algorithms H1 and H2). Definitions only.
-use Rattle.std.specs.Prelude.{ℕ, zero, suc, ◌+◌, ◌-◌, ◌*◌, min, max, Bool, true, false, cond, List, [], ◌∷◌, ltb, eqb, drop, set, replicate, Float}
+use Rattle.std.specs.Prelude.{ℕ, zero, suc, ◌+◌, ◌-◌, ◌*◌, min, max, Bool, true, false, cond, List, ltb, eqb, drop, set, replicate, Float}
 use Rattle.std.specs.Float.Ieee.{eq, lt, le, neg}
 use Rattle.numbers.specs.Numbers.{+0, -1, near, epsilon, ◌⊕◌, ◌⊖◌, ◌⊗◌, ◌⊘◌, Σ, at, nth, tab, scatter, entry, rows, grid, row, column, transposed}
 use Rattle.norms.specs.Norm.{norm}

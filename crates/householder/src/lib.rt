@@ -43,11 +43,11 @@ pub struct Candidate {
 
 // Four sums, one for each of four columns.
 #[derive(Clone, Copy)]
-struct Four {
-    a: f64,
-    b: f64,
-    c: f64,
-    d: f64,
+pub struct Four {
+    pub a: f64,
+    pub b: f64,
+    pub c: f64,
+    pub d: f64,
 }
 
 // The sums of the products of the n numbers from q on, and from 18, 36 and 54 behind q on, with those from
@@ -66,12 +66,7 @@ fn products_four(w: &[f64], p: usize, s: usize, q: usize, n: usize) -> Four
         c = c + w[p + s * 2 + t] * w[q + 36 + t];
         d = d + w[p + s * 3 + t] * w[q + 54 + t];
     }
-    Four {
-        a: a,
-        b: b,
-        c: c,
-        d: d,
-    }
+    Four { a, b, c, d }
 }
 
 // ---- one step
@@ -157,27 +152,13 @@ fn count(iw: &mut [u32], n: usize)
     }
 }
 
-// The smaller of two numbers.
-pub fn smaller(m: usize, n: usize) -> usize
-    ensures { result ≡ min m n }
-{
-    if m <= n { m } else { n }
-}
-
-// The larger of two numbers.
-fn larger(m: usize, n: usize) -> usize
-    ensures { result ≡ max m n }
-{
-    if m <= n { n } else { m }
-}
-
 // The tolerance, which is fixed at step 0.
 fn tolerance_of(m: usize, n: usize, k: usize, largest: f64, old: f64) -> f64
     requires { (m ≤ 18) × (n ≤ 66) }
     ensures { result ≡ cond (eqb k 0) (tolerance m n largest) old }
 {
     if k == 0 {
-        let most = larger(m, n);
+        let most = m.max(n);
         let x = most as f64;
         return x * numbers::Binary64::EPSILON * largest;
     }
@@ -189,13 +170,12 @@ pub fn factor_in(w: &mut [f64], iw: &mut [u32], m: usize, n: usize) -> usize
     requires { (m ≤ 18) × (n ≤ 66) × (QR_MATRIX + n * 18 ≤ length w.old) × (n ≤ length iw.old) }
     ensures { held m n result w.new iw.new ≡ factor m n (mat QR_MATRIX m n w.old) }
 {
-    let c = smaller(m, n);
+    let c = m.min(n);
     workspace::blank(w, 0, c * 18);
     workspace::blank(w, QR_B, c);
     count(iw, n);
     let mut tol = 0.0;
-    let mut k = 0;
-    while k < c {
+    for k in 0..c {
         let top = pivot(w, m, n, k);
         let largest = top.norm;
         tol = tolerance_of(m, n, k, largest, tol);
@@ -203,9 +183,8 @@ pub fn factor_in(w: &mut [f64], iw: &mut [u32], m: usize, n: usize) -> usize
             return k;
         }
         step(w, iw, m, n, k, top);
-        k += 1;
     }
-    k
+    c
 }
 
 // ---- Q and R applied
@@ -235,9 +214,7 @@ pub fn apply_q(w: &mut [f64], m: usize, k: usize, o: usize)
     requires { (m ≤ 18) × (k ≤ m) × (QR_SIDE ≤ o) × (o + m ≤ length w.old) }
     ensures { AppliedQ m k o w.old w.new }
 {
-    let mut i = k;
-    while 0 < i {
-        i -= 1;
+    for i in (0..k).rev() {
         reflect(w, m, i, o);
     }
 }
@@ -247,10 +224,8 @@ pub fn solve_r(w: &mut [f64], k: usize)
     requires { (k ≤ 18) × (QR_MATRIX + k * 18 ≤ length w.old) }
     ensures { SolvedR k w.old w.new }
 {
-    let mut i = k;
-    while 0 < i {
-        let t = i;
-        i -= 1;
+    for i in (0..k).rev() {
+        let t = i + 1;
         let o = QR_MATRIX + i * 18 + i;
         let tail = numbers::dot_strided(w, o + 18, 18, w, QR_SIDE + t, 1, k - t);
         w[QR_SIDE + i] = (w[QR_SIDE + i] - tail) / w[o];

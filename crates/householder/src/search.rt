@@ -6,20 +6,17 @@ ghost use Rattle.numbers.specs.Root.{sqrt_of};
 ghost use Rattle.numbers.specs.Rounded.{IsUnits};
 ghost use Rattle.workspace.specs.Readings.{mat};
 ghost use Rattle.householder.specs.Qr.{pivot};
-ghost use Rattle.householder.specs.inner.Search.{shown, weighed, compared, clear, squares, four, SureFour, Judged, JudgedFour, Leads};
+ghost use Rattle.householder.specs.inner.Search.{shown, weighed, compared, IsAhead, squares, four, SureFour, Judged, JudgedFour, Leads};
 ghost use Rattle.householder.specs.inner.Work.{Kept};
 ghost use Rattle.householder.specs.inner.Places.{QR_MATRIX};
 
 use crate::{Candidate, Four, QR_MATRIX, QR_ROOTS, products_four};
 
-// The best column so far by its sum of squares, where there is one that has a norm; or by its norm, in
-// the sum's place, where the sum does not decide it.
+// The best column so far: by its sum of squares, or by its norm where the sum does not decide it.
 #[derive(Clone, Copy)]
-struct Lead {
-    index: usize,
-    sum: f64,
-    any: bool,
-    rooted: bool,
+enum Lead {
+    Squares(usize, f64),
+    Norm(Candidate),
 }
 
 impl Lead {
@@ -29,101 +26,84 @@ impl Lead {
     const CLEAR: f64 = 8.673617379884035e-19;
 
     // The lead's sum is 2^-60 at least.
-    fn ahead(old: Lead) -> bool
-        ensures { result ≡ true → (old.any ≡ true) × (old.rooted ≡ false) × (le clear old.sum ≡ true) }
+    fn ahead(old: Option<Lead>) -> bool
+        ensures { result ≡ true → IsAhead old }
     {
-        if old.any {
-            if old.rooted {
-                return false;
-            }
-            if old.sum >= Lead::CLEAR {
-                return true;
-            }
+        match old {
+            Some(Lead::Squares(_, sum)) => sum >= Lead::CLEAR,
+            _ => false,
         }
-        false
     }
 }
 
 // Column j with the sum of squares s, whose root is its norm, against the lead: only a strictly larger norm
-// replaces it, and roots are taken only of a near tie.
-fn weigh(old: Lead, j: usize, s: f64) -> Lead
+// replaces it, and roots are taken only of a near tie. The first column leads that has a root at all.
+fn weigh(old: Option<Lead>, j: usize, s: f64) -> Option<Lead>
     ensures { result ≡ weighed old j s }
 {
-    let new = Lead {
-        index: j,
-        sum: s,
-        any: true,
-        rooted: false,
-    };
-    if old.any {
-        if old.rooted {
+    let new = Some(Lead::Squares(j, s));
+    match old {
+        Some(Lead::Squares(_, sum)) => {
+            if s > sum {
+                if s > sum * Lead::GAP {
+                    return new;
+                }
+                let x = numbers::sqrt(sum);
+                let y = numbers::sqrt(s);
+                if y > x {
+                    return new;
+                }
+            }
+            old
+        }
+        Some(Lead::Norm(best)) => {
             let z = numbers::sqrt(s);
-            if z > old.sum {
-                return new;
-            }
-            return old;
+            if z > best.norm { new } else { old }
         }
-        if s > old.sum {
-            if s > old.sum * Lead::GAP {
-                return new;
-            }
-            let x = numbers::sqrt(old.sum);
-            let y = numbers::sqrt(s);
-            if y > x {
-                return new;
-            }
-            return old;
-        }
-        return old;
-    }
-    if s >= 0.0 {
-        return new;
-    }
-    old
-}
-
-// The lead with its norm.
-fn show(top: Lead) -> Candidate
-    ensures { result ≡ shown top }
-{
-    if top.any {
-        if top.rooted {
-            return Candidate {
-                index: top.index,
-                norm: top.sum,
-            };
-        }
-        let x = numbers::sqrt(top.sum);
-        return Candidate {
-            index: top.index,
-            norm: x,
-        };
-    }
-    Candidate {
-        index: top.index,
-        norm: -1.0,
+        None => { if s >= 0.0 { new } else { old } }
     }
 }
 
-// Column j with the norm y, against the lead.
-fn compare(old: Lead, j: usize, y: f64) -> Lead
-    ensures { result ≡ compared old j y }
+// The lead with its norm; where no column from k on leads, column k with -1.
+fn show(top: Option<Lead>, k: usize) -> Candidate
+    ensures { result ≡ shown k top }
 {
-    let c = show(old);
+    match top {
+        Some(Lead::Squares(index, sum)) => {
+            let norm = numbers::sqrt(sum);
+            Candidate { index, norm }
+        }
+        Some(Lead::Norm(best)) => best,
+        None => Candidate {
+            index: k,
+            norm: -1.0,
+        },
+    }
+}
+
+// Column j with the norm y, against the lead of those from k on.
+fn compare(old: Option<Lead>, k: usize, j: usize, y: f64) -> Option<Lead>
+    ensures { result ≡ compared k old j y }
+{
+    let c = show(old, k);
     let most = c.norm;
     if y > most {
-        return Lead {
-            index: j,
-            sum: y,
-            any: true,
-            rooted: true,
-        };
+        return Some(Lead::Norm(Candidate { index: j, norm: y }));
     }
     old
 }
 
 // Column j from row k on, with the sum s of its squares, against the lead. f is the floor for m - k squares.
-fn judge(w: &[f64], m: usize, n: usize, k: usize, j: usize, old: Lead, f: f64, s: f64) -> Lead
+fn judge(
+    w: &[f64],
+    m: usize,
+    n: usize,
+    k: usize,
+    j: usize,
+    old: Option<Lead>,
+    f: f64,
+    s: f64,
+) -> Option<Lead>
     requires { (m ≤ 18) × (k < m) × (j < n) × (QR_MATRIX + n * 18 ≤ length w.now) × (s ≡ squares (m - k) (QR_MATRIX + j * 18 + k) w.now) × IsUnits f (2 ^ (55 * (m - k) - 1)) }
     ensures { Judged m n k j w.now old result }
 {
@@ -144,7 +124,7 @@ fn judge(w: &[f64], m: usize, n: usize, k: usize, j: usize, old: Lead, f: f64, s
     let e = p + (m - k);
     let part = &w[p..e];
     let y = norms::scaled_norm(part);
-    compare(old, j, y)
+    compare(old, k, j, y)
 }
 
 // Each of the four sums decides its column's norm.
@@ -155,18 +135,20 @@ fn sure_four(f: f64, s: Four) -> bool
     let b = norms::Deciding::holds(f, s.b);
     let c = norms::Deciding::holds(f, s.c);
     let d = norms::Deciding::holds(f, s.d);
-    if a {
-        if b {
-            if c {
-                return d;
-            }
-        }
-    }
-    false
+    a && b && c && d
 }
 
 // Columns j to j + 3 from row k on, with the sums of their squares, against the lead.
-fn judge_four(w: &[f64], m: usize, n: usize, k: usize, j: usize, old: Lead, f: f64, s: Four) -> Lead
+fn judge_four(
+    w: &[f64],
+    m: usize,
+    n: usize,
+    k: usize,
+    j: usize,
+    old: Option<Lead>,
+    f: f64,
+    s: Four,
+) -> Option<Lead>
     requires { (m ≤ 18) × (k < m) × (j + 3 < n) × (QR_MATRIX + n * 18 ≤ length w.now) × (s ≡ four (m - k) (QR_MATRIX + j * 18 + k) 18 (QR_MATRIX + j * 18 + k) w.now) × IsUnits f (2 ^ (55 * (m - k) - 1)) }
     ensures { JudgedFour m n k j w.now old result }
 {
@@ -185,16 +167,11 @@ fn judge_four(w: &[f64], m: usize, n: usize, k: usize, j: usize, old: Lead, f: f
 }
 
 // The lead among the columns from k on, by fours: up to three columns are left.
-fn pivot_fours(w: &[f64], m: usize, n: usize, k: usize, f: f64) -> Lead
+fn pivot_fours(w: &[f64], m: usize, n: usize, k: usize, f: f64) -> Option<Lead>
     requires { (m ≤ 18) × (n ≤ 66) × (k < m) × (k < n) × (QR_MATRIX + n * 18 ≤ length w.now) × IsUnits f (2 ^ (55 * (m - k) - 1)) }
     ensures { Leads m n k ((n - k) / 4 * 4) w.now result }
 {
-    let mut top = Lead {
-        index: k,
-        sum: 0.0,
-        any: false,
-        rooted: false,
-    };
+    let mut top = None;
     let c = (n - k) / 4;
     for q in 0..c {
         let j = k + q * 4;
@@ -206,9 +183,9 @@ fn pivot_fours(w: &[f64], m: usize, n: usize, k: usize, f: f64) -> Lead
 }
 
 // The lead among the columns from k on.
-fn lead_from(w: &[f64], m: usize, n: usize, k: usize) -> Lead
+fn lead_from(w: &[f64], m: usize, n: usize, k: usize) -> Option<Lead>
     requires { (m ≤ 18) × (n ≤ 66) × (k < m) × (k < n) × (QR_MATRIX + n * 18 ≤ length w.now) }
-    ensures { shown result ≡ pivot m n k (mat QR_MATRIX m n w.now) (n - k) }
+    ensures { shown k result ≡ pivot m n k (mat QR_MATRIX m n w.now) (n - k) }
 {
     let f = norms::Deciding::least(m - k);
     let mut top = pivot_fours(w, m, n, k, f);
@@ -238,25 +215,19 @@ fn root_in(w: &mut [f64], n: usize, x: f64) -> f64
 }
 
 // The lead with its norm, whose root may be remembered.
-fn show_in(w: &mut [f64], n: usize, top: Lead) -> Candidate
-    ensures { (result ≡ shown top) × Kept n w.old w.new }
+fn show_in(w: &mut [f64], n: usize, top: Option<Lead>, k: usize) -> Candidate
+    ensures { (result ≡ shown k top) × Kept n w.old w.new }
 {
-    if top.any {
-        if top.rooted {
-            return Candidate {
-                index: top.index,
-                norm: top.sum,
-            };
+    match top {
+        Some(Lead::Squares(index, sum)) => {
+            let norm = root_in(w, n, sum);
+            Candidate { index, norm }
         }
-        let x = root_in(w, n, top.sum);
-        return Candidate {
-            index: top.index,
-            norm: x,
-        };
-    }
-    Candidate {
-        index: top.index,
-        norm: -1.0,
+        Some(Lead::Norm(best)) => best,
+        None => Candidate {
+            index: k,
+            norm: -1.0,
+        },
     }
 }
 
@@ -266,5 +237,5 @@ pub fn pivot(w: &mut [f64], m: usize, n: usize, k: usize) -> Candidate
     ensures { (result ≡ pivot m n k (mat QR_MATRIX m n w.old) (n - k)) × Kept n w.old w.new }
 {
     let top = lead_from(w, m, n, k);
-    show_in(w, n, top)
+    show_in(w, n, top, k)
 }

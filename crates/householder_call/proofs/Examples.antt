@@ -1,13 +1,13 @@
 -- The factors of some matrices, by computing.
 use mathlib.Core.Path.{◌≡◌, refl}
-use mathlib.Core.List.{List, [], ◌∷◌}
+use mathlib.Core.List.{[], ◌∷◌}
 use Prim.Native.Nat.{ℕ}
 use lib.Count.{count_trailing_zeros}
 use lib.Ieee.{Float, add, sub, mul, div, neg, lt, le, eq, is_nan, sum, round, size, units, odd, span, climb}
 use Rattle.numbers.specs.Numbers.{+0, near, Σ, tab, dot, rows, grid, row, column, transposed}
 use Rattle.numbers.specs.Root.{floor_root, root_of, sqrt_of}
 use Rattle.norms.specs.Norm.{plain_norm, scaled, has_nan, has_inf, largest, reduced, rescaled, norm}
-use Rattle.householder.specs.Qr.{Factors, along, image, column_norm, pivot, swapped, reflector, pinned, advance, steps, factor}
+use Rattle.householder.specs.Qr.{along, image, column_norm, pivot, swapped, reflector, pinned, advance, steps, factor}
 
 abbrev plus : ℕ → Float
 plus n = near n 1

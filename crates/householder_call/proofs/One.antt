@@ -1,6 +1,5 @@
 -- The promise allows one answer only.
 use mathlib.Core.Path.{sym, ◌∙◌}
-use Rattle.householder_call.specs.Promise.{Factored}
 use Rattle.householder_call.specs.Claims.{OneAnswer}
 
 pub one_answer : OneAnswer

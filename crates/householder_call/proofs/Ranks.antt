@@ -6,15 +6,15 @@ use mathlib.Core.Logic.{◌⊎◌, inl, inr, ⊎_elim}
 use Prim.Native.Nat.{ℕ, zero, suc, ◌+◌, ◌-◌, ◌*◌, ◌≤◌, ◌<◌, min, max}
 use native.Mathlib.Omega.{arith}
 use lib.Dec.{eqb}
-use lib.ListN.{length, get_or, set, replicate, get_or-replicate}
+use lib.ListN.{length, get_or-replicate}
 use lib.Seq.{get_or-set_other}
-use lib.Ieee.{Float, nan, inf, fin, binary64, round, size, units, add, mul, neg, lt, le, eq}
+use lib.Ieee.{Float, nan, inf, fin, round, size, units, mul, lt, le, eq}
 use borrow.Author.Tests.{ne_eqb}
-use Rattle.numbers.specs.Numbers.{+0, -1, near, epsilon, ◌⊗◌, at, entry, rows, row, column}
+use Rattle.numbers.specs.Numbers.{+0, -1, near, epsilon, ◌⊗◌, at, entry, row, column}
 use Rattle.numbers.proofs.Lists.{length-tab, get_d-tab, entry-rows, length-row, row_fits}
 use Rattle.numbers.proofs.Cases.{last-or-before}
 use Rattle.norms.specs.Norm.{norm}
-use Rattle.workspace.specs.Tables.{Answer, done, refused, call, is_matrix, is_room, has}
+use Rattle.workspace.specs.Tables.{done, call, is_matrix, is_room, has}
 use Rattle.workspace.specs.declared.Refusal.{Refusal}
 use Rattle.workspace.proofs.Tests.{and-true, matrix-le}
 use Rattle.householder.specs.Qr.{Factors, column_norm, pivot, swapped, signed, reflector, advance, tolerance, stop_if, steps, start, factor}
@@ -22,9 +22,9 @@ use Rattle.householder.specs.Claims.{FirstLargest}
 use Rattle.householder.specs.declared.Candidate.{Candidate}
 use Rattle.householder.proofs.Largest.{pivot-is-first}
 use Rattle.householder.proofs.Rank.{factor-rank}
-use Rattle.householder_call.specs.Promise.{qr_call, outcome_of, Factored}
+use Rattle.householder_call.specs.Promise.{Factored}
 use Rattle.householder_call.specs.Claims.{RankTold, CallRank}
-use Rattle.householder_call.specs.declared.Outcome.TheVariants.{Done, Refused}
+use Rattle.std.specs.Prelude.{Result, Ok, Err}
 
 -- ---- past the rank
 
@@ -173,13 +173,16 @@ module _ (m n : ℕ) (a : List Float) (small : m ≤ 18) (few : n ≤ 66) where
 -- ---- the call
 
 module _ (m n : ℕ) (a r r' : List Float) (perm perm' : List ℕ) (u u' b b' w w' : List Float) (iw iw' : List ℕ) (rank : ℕ) where
-  never : {A : Type 0} (k : Refusal) → Done rank ≡ Refused k → A
+  abbrev ranked : ℕ → Result ℕ Refusal
+  ranked k = Ok k
+
+  never : {A : Type 0} (k : Refusal) → ranked rank ≡ Err k → A
   never k e = let z : ◌≡◌ {A = ℕ} 0 1 = cc in absurd (let y : ⊥ = omega (arith, z) in y)
 
-  same_rank : (k : ℕ) → Done rank ≡ Done k → rank ≡ k
+  same_rank : (k : ℕ) → ranked rank ≡ ranked k → rank ≡ k
   same_rank k e = cc
 
-  told : (s t x : Bool) → is_matrix m n ≡ s → Factored (call s t x true (done (factor m n a))) (Done rank) r r' perm perm' u u' b b' w w' iw iw' → RankTold m n a rank u' b'
+  told : (s t x : Bool) → is_matrix m n ≡ s → Factored (call s t x true (done (factor m n a))) (Ok rank) r r' perm perm' u u' b b' w w' iw iw' → RankTold m n a rank u' b'
   told false t x e q = never _ q.the_outcome
   told true false x e q = never _ q.the_outcome
   told true true false e q = never _ q.the_outcome

@@ -14,19 +14,12 @@ use workspace::Refusal;
 #[derive(Clone, Copy)]
 pub struct Qr {}
 
-// What a call answers: the rank, or why it is refused.
-#[derive(Clone, Copy)]
-pub enum Outcome {
-    Done(usize),
-    Refused(Refusal),
-}
-
 // The lengths of the matrix and of the outputs.
 fn are_lengths(m: usize, n: usize, a: usize, r: usize, perm: usize, u: usize, b: usize) -> bool
     requires { (m ≤ 18) × (n ≤ 66) }
     ensures { result ≡ (eqb a (m * n) && eqb r (m * n) && eqb perm n && eqb u (min m n * m) && eqb b (min m n)) }
 {
-    let c = householder::smaller(m, n);
+    let c = m.min(n);
     if a != m * n {
         return false;
     }
@@ -65,7 +58,7 @@ fn give_reflectors(w: &[f64], u: &mut [f64], b: &mut [f64], m: usize, n: usize)
     requires { (m ≤ 18) × (8192 ≤ length w.now) × (length u.old ≡ min m n * m) × (length b.old ≡ min m n) }
     ensures { (u.new ≡ stack 0 (min m n) m w.now) × (b.new ≡ vec QR_B (min m n) w.now) }
 {
-    let c = householder::smaller(m, n);
+    let c = m.min(n);
     workspace::unload_stack(w, u, 0, c, m);
     workspace::unload(w, b, householder::QR_B, c);
 }
@@ -82,22 +75,22 @@ impl Qr {
         b: &mut [f64],
         w: &mut [f64],
         iw: &mut [u32],
-    ) -> Outcome
+    ) -> Result<usize, Refusal>
         ensures { Factored (qr_call m n a.now r.old perm.old u.old b.old w.old iw.old) result r.old r.new perm.old perm.new u.old u.new b.old b.new w.old w.new iw.old iw.new }
     {
         if !workspace::is_matrix(m, n) {
-            return Outcome::Refused(Refusal::Size);
+            return Err(Refusal::Size);
         }
         if !are_lengths(m, n, a.len(), r.len(), perm.len(), u.len(), b.len()) {
-            return Outcome::Refused(Refusal::Length);
+            return Err(Refusal::Length);
         }
         if !workspace::is_room(w.len(), iw.len()) {
-            return Outcome::Refused(Refusal::Room);
+            return Err(Refusal::Room);
         }
         let rank = run(a, &mut w[..8192], &mut iw[..512], m, n);
         give_r(w, iw, r, perm, m, n);
         give_reflectors(w, u, b, m, n);
         workspace::clear(w, iw);
-        Outcome::Done(rank)
+        Ok(rank)
     }
 }

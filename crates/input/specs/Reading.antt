@@ -1,21 +1,11 @@
 -- What reading an input tells. Definitions only.
-use Rattle.std.specs.Prelude.{List, ℕ, Option, ◌<◌, length, take}
+use Rattle.std.specs.Prelude.{List, ℕ, Option, Result, IfOk, ◌<◌, length, take}
 use Rattle.std.specs.Io.KnownBytes.{Consumes, IsAtEnd}
-use Rattle.io.specs.Counts.{IsPrefixLen}
-use Rattle.input.specs.declared.Reading.{Reading}
-use Rattle.input.specs.declared.Reading.TheVariants.{Bytes, Failed}
 
--- where it did not fail, it put so many bytes at the start of the buffer
-abbrev pub Read : Reading → List ℕ → Type 0
-Read (Bytes n) buf = IsPrefixLen n buf
-Read (Failed e) buf = Unit
-
--- these bytes are the first that the reader had left, where those are known, and it has lost them
-abbrev pub Takes : Option (List ℕ) → Option (List ℕ) → Reading → List ℕ → Type 0
-Takes old new (Bytes n) buf = Consumes old new (take n buf)
-Takes old new (Failed e) buf = Unit
+-- where it did not fail, these bytes are the first that the reader had left, where those are known, and it has lost them
+abbrev pub Takes : {E : Type 0} → Option (List ℕ) → Option (List ℕ) → Result ℕ E → List ℕ → Type 0
+Takes old new r buf = IfOk r (λ n. Consumes old new (take n buf))
 
 -- the reader has none left where they are fewer than the buffer holds
-abbrev pub Ends : Option (List ℕ) → Reading → List ℕ → Type 0
-Ends new (Bytes n) buf = n < length buf → IsAtEnd new
-Ends new (Failed e) buf = Unit
+abbrev pub Ends : {E : Type 0} → Option (List ℕ) → Result ℕ E → List ℕ → Type 0
+Ends new r buf = IfOk r (λ n. n < length buf → IsAtEnd new)

@@ -6,18 +6,11 @@ mod names;
 ghost use Rattle.std.specs.Prelude.{length, ◌≡◌};
 ghost use Rattle.std.specs.Io.{ReadsAtMost};
 ghost use Rattle.std.specs.Io.KnownBytes.{ReadConsumes};
-ghost use Rattle.input.specs.Reading.{Read, Takes, Ends};
+ghost use Rattle.input.specs.Reading.{Takes, Ends};
 
-pub use names::{complain, path, tell_error};
+pub use names::{argument, complain, has_argument, path, tell_error};
 use std::io;
-use std::io::{Error, ErrorKind};
-
-// What reading gave: so many bytes before the end, or a read that failed.
-#[derive(Clone, Copy)]
-pub enum Reading {
-    Bytes(usize),
-    Failed(Error),
-}
+use std::io::ErrorKind;
 
 // How often a read that a signal interrupts is tried again.
 const TRIES: usize = 64;
@@ -36,19 +29,18 @@ fn read_some<R: io::Read>(reader: &mut R, buf: &mut [u8]) -> io::Result<usize>
     reader.read(buf)
 }
 
-// Reads until `buf` is full or the input ends.
-pub fn fill<R: io::Read>(reader: &mut R, buf: &mut [u8]) -> Reading
-    ensures bound { Read result buf.new }
+// Reads until `buf` is full or the input ends, and answers how many bytes it read. A `while`: each read gives as many as it can.
+pub fn fill<R: io::Read>(reader: &mut R, buf: &mut [u8]) -> io::Result<usize>
+    ensures bound { ReadsAtMost result buf.new }
     ensures bytes { Takes (R.remaining reader.old) (R.remaining reader.new) result buf.new }
     ensures end { Ends (R.remaining reader.new) result buf.new }
 {
     let mut done = 0;
     while done < buf.len() {
-        match read_some(reader, &mut buf[done..]) {
-            Err(e) => return Reading::Failed(e),
-            Ok(0) => return Reading::Bytes(done),
-            Ok(more) => done += more,
+        match read_some(reader, &mut buf[done..])? {
+            0 => return Ok(done),
+            more => done += more,
         }
     }
-    Reading::Bytes(done)
+    Ok(done)
 }

@@ -1,4 +1,7 @@
 // Files by the bytes of their names, and what is told where one cannot be used.
+ghost use Rattle.std.specs.Prelude.{◌≤◌, length};
+
+use std::env::{Env, FillError};
 use std::io::{Error, ErrorKind};
 use std::{io, str};
 
@@ -32,4 +35,17 @@ pub fn complain(rt: &HostRuntime, what: &[u8], name: &[u8], why: Error) {
         Ok(error) => rt.eprintln(words(error.as_str())),
         Err(_) => rt.eprintln(why),
     };
+}
+
+// An argument, and how long it is: 0 where it is missing, or longer than there is room.
+pub fn argument(rt: &HostRuntime, i: usize, buf: &mut [u8]) -> usize
+    ensures { result ≤ length buf.new }
+{
+    rt.arg(i, buf).unwrap_or(0)
+}
+
+// Whether there is an argument, however long.
+pub fn has_argument(rt: &HostRuntime, i: usize) -> bool {
+    let mut buf = [0u8; 1];
+    !matches!(rt.arg(i, &mut buf), Err(FillError::NotPresent))
 }

@@ -210,10 +210,8 @@ pub fn dot(n: usize, a: &[f64], b: &[f64]) -> Interval
     ensures { result ≡ Definition.sum_within n (λ i. Definition.product (at a.now i) (at b.now i)) }
 {
     let mut sum = Interval::of(0.0);
-    let mut i = 0;
-    while i < n {
+    for i in 0..n {
         sum = sum.add(Interval::product(a[i], b[i]));
-        i += 1;
     }
     sum
 }
@@ -233,12 +231,10 @@ pub fn dot_strided(
     ensures { result ≡ Definition.sum_within n (λ i. Definition.product (at xs.now (a + i * s)) (at ys.now (b + i * t))) }
 {
     let mut sum = Interval::of(0.0);
-    let mut i = 0;
-    while i < n {
+    for i in 0..n {
         let x = xs[a + i * s];
         let y = ys[b + i * t];
         sum = sum.add(Interval::product(x, y));
-        i += 1;
     }
     sum
 }

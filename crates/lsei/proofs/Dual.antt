@@ -3,29 +3,29 @@ use mathlib.Core.Path.{◌≡◌, refl, sym, ap, ap₂, ◌∙◌}
 use mathlib.Core.Bool.{Bool, true, false, cond}
 use mathlib.Core.List.{List}
 use mathlib.Core.Logic.{⊎_elim}
-use Prim.Native.Nat.{ℕ, ◌+◌, ◌*◌, ◌^◌, ◌<◌, ◌≤◌}
+use Prim.Native.Nat.{ℕ, ◌+◌, ◌*◌, ◌<◌, ◌≤◌}
 use native.Mathlib.Omega.{arith}
 use lib.Count.{count_trailing_zeros}
 use lib.Dec.{ltb, T, lt→ltb, ltb→lt}
 use lib.ListN.{length, set}
 use lib.Ieee.{Float, nan, binary64, of_bits, of_fields, odd, units, size, span, climb, round, le, neg}
-use Rattle.numbers.specs.Numbers.{+0, one, near, at, tab, entry, Σ, ◌⊖◌, ◌⊗◌, ◌⊘◌}
+use Rattle.numbers.specs.Numbers.{+0, one, at, tab, entry, Σ, ◌⊖◌, ◌⊗◌, ◌⊘◌}
 use Rattle.numbers.proofs.Cases.{lt-or-ge}
-use Rattle.numbers.proofs.Lists.{get_d-tab, tab-same}
+use Rattle.numbers.proofs.Lists.{get_d-tab}
 use Rattle.numbers.proofs.Sums.{Σ-same}
-use Rattle.workspace.specs.Tables.{Answer, done, infeasible, iteration_cap}
-use Rattle.workspace.specs.Readings.{vec, mat, stack, nums, Block}
+use Rattle.workspace.specs.Tables.{Answer}
+use Rattle.workspace.specs.Readings.{vec, mat, stack, Block}
 use Rattle.workspace.proofs.Readings.{at-vec, vec-is, entry-mat, mat-is, mat-same, entry_stack}
 use Rattle.workspace.proofs.Writes.{written-more, written_as, block-vec}
-use Rattle.nnls.specs.Counted.{Counted, then, and_then}
+use Rattle.nnls.specs.Counted.{Counted, and_then}
 use Rattle.nnls.specs.Nnls.{Accepted, nnls}
 use Rattle.nnls.specs.inner.State.{State, read, ended_answer, Rounded}
-use Rattle.nnls.specs.declared.RoundsEnd as Nnls
 use Rattle.lsei.specs.Lsei.{Solution, infeasibility, unless_small, dual_matrix, dual_side, dual_residual, primal, ldp}
 use Rattle.lsei.specs.inner.Work.{ending_answer, ended_solution, sides, distance_in}
-use Rattle.nnls.specs.declared.RoundsEnd.TheVariants as nnls-end
-use Rattle.lsei.specs.declared.Ending.{Ending}
-use Rattle.lsei.specs.declared.Ending.TheVariants.{Done, Infeasible, Capped}
+use Rattle.nnls.specs.declared.memory.Counts.{Counts}
+use Rattle.lsei.specs.declared.Unsolved.{Unsolved}
+use Rattle.lsei.specs.declared.Unsolved.TheVariants.{Infeasible, Capped}
+use Rattle.std.specs.Prelude.{Result, Ok, Err, ⊤}
 
 -- ---- the code's literals
 
@@ -106,15 +106,15 @@ module _ (m n : ℕ) (w w₁ : List Float) (m66 : m ≤ 66) (n17 : n ≤ 17) (f 
   unfolding primal
   tested c b ec h = ap (λ (t : Bool). unless_small t ratios) (sym h ∙ ap₂ le denominator-is ec)
 
-  pub not-finished : (c : Float) → c ≡ infeasibility → le (neg (at w₁ (1272 + n))) c ≡ true → ending_answer Infeasible (distance_in m n w₁) ≡ primal m n (vec 1206 m w) res
+  pub not-finished : (c : Float) → c ≡ infeasibility → le (neg (at w₁ (1272 + n))) c ≡ true → ending_answer (Err Infeasible) (distance_in m n w₁) ≡ primal m n (vec 1206 m w) res
   not-finished c ec h = tested c true ec h
 
   pub finished : (c : Float) (w₂ w₃ : List Float) → c ≡ infeasibility → le (neg (at w₁ (1272 + n))) c ≡ false
       → Block 1404 n (λ t. at w₁ (1272 + t) ⊘ neg (at w₁ (1272 + n))) w₁ w₂
       → Block 1338 m (λ t. at w₂ (1206 + t) ⊘ neg (at w₁ (1272 + n))) w₂ w₃
-      → ending_answer Done (distance_in m n w₃) ≡ primal m n (vec 1206 m w) res
+      → ending_answer (Ok tt) (distance_in m n w₃) ≡ primal m n (vec 1206 m w) res
   finished c w₂ w₃ ec h X U =
-      ap₂ {C = Answer Solution} (λ (x : List Float) (u : List Float). ending_answer Done (record { x = x; multipliers = u }))
+      ap₂ {C = Answer Solution} (λ (x : List Float) (u : List Float). ending_answer (Ok tt) (record { x = x; multipliers = u }))
       (vec-is 1404 n w₃ _ (λ t l. U.after (1404 + t) (omega arith) ∙ X.inside t l ∙ ap₂ ◌⊘◌ (entry-is t (omega arith)) denominator-is))
       (vec-is 1338 m w₃ _
       (λ t l.
@@ -124,7 +124,7 @@ module _ (m n : ℕ) (w w₁ : List Float) (m66 : m ≤ 66) (n17 : n ≤ 17) (f 
 
 -- ---- the whole, from the answer of NNLS
 
-module _ (m n : ℕ) (w w₁ w₂ : List Float) (l l₂ : List ℕ) (e : Nnls.RoundsEnd) (m66 : m ≤ 66) (n17 : n ≤ 17) (B : Block 1188 (n + 1) (λ j. cond (ltb j n) +0 one) w w₁)
+module _ (m n : ℕ) (w w₁ w₂ : List Float) (l l₂ : List ℕ) (e : Result Counts Counts) (m66 : m ≤ 66) (n17 : n ≤ 17) (B : Block 1188 (n + 1) (λ j. cond (ltb j n) +0 one) w w₁)
     (N : Rounded (nnls (n + 1) m (mat 0 (n + 1) m w₁) (vec 1188 (n + 1) w₁) (3 * m)) e (read (n + 1) m w₁ l) (read (n + 1) m w₂ l₂)) where
   abbrev matrix : List Float
   matrix = dual_matrix m n (stack 0 m n w) (sides 0 m n w)
@@ -149,15 +149,15 @@ module _ (m n : ℕ) (w w₁ w₂ : List Float) (l l₂ : List ℕ) (e : Nnls.Ro
       ∙ ap (λ (a : List Float). and_then (nnls (n + 1) m matrix (dual_side n) (3 * m)) (onward a)) matrix₂
 
   -- from how NNLS ended
-  from-ended : Nnls.RoundsEnd → Counted Solution
+  from-ended : Result Counts Counts → Counted Solution
   from-ended t = and_then (ended_answer t (read (n + 1) m w₂ l₂)) (onward (mat 0 (n + 1) m w₂))
 
-  pub ldp-capped : (r f : ℕ) → e ≡ nnls-end.Capped r f → (s : Solution) → ended_solution (record { ending = Capped; rounds = r; factorings = f }) s ≡ ldp m n (stack 0 m n w) (sides 0 m n w)
+  pub ldp-capped : (t : Counts) → e ≡ Err t → (s : Solution) → ended_solution (record { ending = Err Capped; rounds = t.past; factorings = t.factorings }) s ≡ ldp m n (stack 0 m n w) (sides 0 m n w)
   unfolding from-ended
-  ldp-capped r f h s = ap from-ended (sym h) ∙ whole
+  ldp-capped t h s = ap from-ended (sym h) ∙ whole
 
-  pub ldp-ended : (r f : ℕ) → e ≡ nnls-end.Accepted r f → (o : Ending) (s : Solution)
+  pub ldp-ended : (t : Counts) → e ≡ Ok t → (o : Result ⊤ Unsolved) (s : Solution)
       → ending_answer o s ≡ primal m n (vec 1206 m w₂) (dual_residual m n (mat 0 (n + 1) m w₂) (vec 1206 m w₂))
-      → ended_solution (record { ending = o; rounds = r; factorings = f }) s ≡ ldp m n (stack 0 m n w) (sides 0 m n w)
+      → ended_solution (record { ending = o; rounds = t.past; factorings = t.factorings }) s ≡ ldp m n (stack 0 m n w) (sides 0 m n w)
   unfolding from-ended
-  ldp-ended r f h o s q = ap (λ (a : Answer Solution). record { answer = a; rounds = r; factorings = f }) q ∙ ap from-ended (sym h) ∙ whole
+  ldp-ended t h o s q = ap (λ (a : Answer Solution). record { answer = a; rounds = t.past; factorings = t.factorings }) q ∙ ap from-ended (sym h) ∙ whole

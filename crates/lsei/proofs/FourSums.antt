@@ -1,5 +1,5 @@
 -- The dual's residual, four entries at a time.
-use mathlib.Core.Path.{◌≡◌, ap, ap₂, ◌∙◌}
+use mathlib.Core.Path.{◌≡◌, ap, ap₂}
 use mathlib.Core.List.{List}
 use Prim.Native.Nat.{ℕ, ◌+◌, ◌*◌, ◌≤◌, ◌<◌}
 use native.Mathlib.Omega.{arith}
@@ -8,7 +8,7 @@ use Rattle.numbers.specs.Numbers.{at, Σ, ◌⊖◌, ◌⊗◌}
 use Rattle.numbers.proofs.Sums.{Σ-same}
 use Rattle.workspace.specs.Readings.{Block}
 use Rattle.nnls.specs.inner.Dual.{sum_at, four_of}
-use Rattle.nnls.specs.declared.dual.Four.{Four}
+use Rattle.householder.specs.declared.Four.{Four}
 use Rattle.lsei.specs.inner.Work.{residual_in}
 
 abbrev made : (a b c d : Float) → Four

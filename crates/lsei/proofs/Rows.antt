@@ -7,16 +7,16 @@ use native.Mathlib.Omega.{arith}
 use lib.ListN.{length, set, length-set}
 use lib.Seq.{get_or-set_same, get_or-set_other}
 use lib.Ieee.{Float, nan}
-use Rattle.numbers.specs.Numbers.{at, nth, tab, gather, row, dot, Σ, ◌⊖◌, ◌⊗◌}
+use Rattle.numbers.specs.Numbers.{at, nth, gather, row, dot, Σ, ◌⊖◌, ◌⊗◌}
 use Rattle.numbers.proofs.Cases.{lt-or-ge}
 use Rattle.numbers.proofs.Lists.{tab-same, get_d-tab}
 use Rattle.numbers.proofs.Sums.{Σ-same}
 use Rattle.workspace.specs.Readings.{vec, stack, nums, Block}
-use Rattle.workspace.proofs.Readings.{at-vec, vec-is, vec-same, nth-nums, row-stack, stack_is, stack_same}
-use Rattle.householder.specs.Qr.{Factors, apply_qt, solve_rt}
+use Rattle.workspace.proofs.Readings.{at-vec, vec-is, vec-same, nth-nums, row-stack, stack_is}
+use Rattle.householder.specs.Qr.{Factors, solve_rt}
 use Rattle.householder.specs.inner.Work.{held, AppliedQt, SolvedRt, SolvedFour}
 use Rattle.nnls.specs.inner.Dual.{row_sum, four_rows}
-use Rattle.nnls.specs.declared.dual.Four.{Four}
+use Rattle.householder.specs.declared.Four.{Four}
 use Rattle.lsei.specs.Lsei.{reduced_rows, reduced_sides}
 use Rattle.lsei.specs.inner.Work.{sides, PermutedRow, Permuted, SolvedRows, Shifted, Reduced}
 use Rattle.householder.proofs.Held.{held_same}

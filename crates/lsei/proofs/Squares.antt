@@ -1,28 +1,27 @@
 -- Laws of LSI: x restored from LDP's, and the whole.
 use mathlib.Core.Path.{◌≡◌, refl, sym, ap, ap₂, ◌∙◌}
 use mathlib.Core.Bool.{Bool, true, false}
-use mathlib.Core.List.{List, [], ◌∷◌}
-use Prim.Native.Nat.{ℕ, ◌+◌, ◌*◌, ◌<◌, ◌≤◌}
+use mathlib.Core.List.{List}
+use Prim.Native.Nat.{ℕ, ◌+◌, ◌≤◌}
 use native.Mathlib.Omega.{arith}
-use types.Run.{OneOf}
-use denote.Enum.Declared.{tag_of}
 use lib.Dec.{ltb}
 use lib.ListN.{replicate}
 use lib.Ieee.{Float}
-use Rattle.numbers.specs.Numbers.{+0, at, nth, tab, scatter, ◌⊕◌}
+use Rattle.numbers.specs.Numbers.{+0, at, nth, scatter, ◌⊕◌}
 use Rattle.numbers.proofs.Lists.{tab-replicate, scatter-same}
 use Rattle.workspace.specs.Tables.{Answer, done, rank_deficient}
 use Rattle.workspace.specs.Readings.{vec, nums, Block}
 use Rattle.workspace.proofs.Readings.{at-vec, vec-is, vec-same, nth-nums}
 use Rattle.workspace.proofs.Writes.{block-vec}
 use Rattle.householder.specs.Qr.{Factors, factor, apply_qt, solve_r, standing}
-use Rattle.householder.specs.inner.Work.{held, SolvedR, Placed}
+use Rattle.householder.specs.inner.Work.{SolvedR, Placed}
 use Rattle.nnls.specs.Counted.{Counted, and_then, factored, unless, at_once}
 use Rattle.lsei.specs.Lsei.{Solution, ldp, reduced_rows, reduced_sides, restored, lsi_from, lsi}
 use Rattle.lsei.specs.inner.Work.{ended_solution, Restored}
 use Rattle.lsei.specs.declared.Ended.{Ended}
-use Rattle.lsei.specs.declared.Ending.TheVariants.{Done, Deficient}
-use Rattle.lsei.specs.contracts.Ending.{the_type}
+use Rattle.lsei.specs.declared.Unsolved.{Unsolved}
+use Rattle.lsei.specs.declared.Unsolved.TheVariants.{Deficient}
+use Rattle.std.specs.Prelude.{Ok, Err, ⊤}
 use Rattle.lsei.proofs.Answers.{further, refused-on, done_on}
 use Rattle.householder.proofs.Held.{held_same}
 
@@ -60,7 +59,7 @@ module _ (n me mg : ℕ) (e f g h : List Float) (q : Factors) (fq : q ≡ factor
       ap (λ (z : Bool). factored (unless z (rank_deficient (standing q)) (lsi_from n me mg q f g h))) (sym t)
       ∙ ap (λ (p : Factors). factored (unless (ltb p.rank n) (rank_deficient (standing p)) (lsi_from n me mg p f g h))) fq
 
-  pub lsi-deficient : ltb q.rank n ≡ true → (place : ℕ) → place ≡ standing q → (s : Solution) → ended_solution (record { ending = Deficient place; rounds = 0; factorings = 1 }) s ≡ lsi n me mg e f g h
+  pub lsi-deficient : ltb q.rank n ≡ true → (place : ℕ) → place ≡ standing q → (s : Solution) → ended_solution (record { ending = Err (Deficient place); rounds = 0; factorings = 1 }) s ≡ lsi n me mg e f g h
   lsi-deficient t place h s = ap (λ (j : ℕ). factored (at_once (rank_deficient j))) h ∙ tested true t
 
   module _ (full : ltb q.rank n ≡ false) (qf reduced bounds : List Float) (eqf : qf ≡ apply_qt me q f) (er : reduced ≡ reduced_rows n mg q g)
@@ -75,10 +74,10 @@ module _ (n me mg : ℕ) (e f g h : List Float) (q : Factors) (fq : q ≡ factor
         (L ∙ ap₂ (ldp mg n) er (eb ∙ ap₂ (λ (r : List Float) (a : List Float). reduced_sides n mg r a h) er eqf))
         ∙ tested false full
 
-    pub lsi-refused : (t : Solution) → OneOf (1 ∷ 2 ∷ 3 ∷ 4 ∷ []) (tag_of the_type E.ending) → ended_solution (further E) t ≡ lsi n me mg e f g h
+    pub lsi-refused : (t : Solution) → {u : Unsolved} → E.ending ≡ Err u → ended_solution (further E) t ≡ lsi n me mg e f g h
     lsi-refused t o = refused-on E s onward t o ∙ whole
 
-    pub lsi-done : (x u : List Float) → E.ending ≡ Done → x ≡ restored n q qf s.x → u ≡ s.multipliers
+    pub lsi-done : (x u : List Float) → {v : ⊤} → E.ending ≡ Ok v → x ≡ restored n q qf s.x → u ≡ s.multipliers
         → ended_solution (further E) (record { x = x; multipliers = u }) ≡ lsi n me mg e f g h
     lsi-done x u d ex eu =
         done_on E s onward (record { x = x; multipliers = u }) d

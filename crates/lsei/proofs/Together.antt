@@ -1,12 +1,8 @@
 -- The steps of LSI's kernel put together: the factors of E, the reduced inequalities, LDP in its part, and x.
-use mathlib.Core.Path.{◌≡◌, refl, sym, ap, ap₂, ◌∙◌}
-use mathlib.Core.Bool.{true, false}
-use mathlib.Core.List.{List, [], ◌∷◌}
+use mathlib.Core.Path.{◌≡◌, sym, ap, ap₂, ◌∙◌}
+use mathlib.Core.List.{List}
 use Prim.Native.Nat.{ℕ, ◌+◌, ◌-◌, ◌*◌, ◌<◌, ◌≤◌}
 use native.Mathlib.Omega.{arith}
-use types.Run.{OneOf}
-use denote.Enum.Declared.{tag_of}
-use lib.Dec.{ltb}
 use lib.ListN.{length, drop}
 use lib.Seq.{get_or-drop}
 use lib.Ieee.{Float, nan}
@@ -17,17 +13,18 @@ use Rattle.numbers.proofs.Lists.{tab-same}
 use Rattle.workspace.specs.Readings.{vec, mat, stack}
 use Rattle.workspace.proofs.Readings.{vec-same, vec-part, stack_same, stack-part, nth-front}
 use Rattle.workspace.proofs.Parts.{lent_is, back-part, back-get}
-use Rattle.householder.specs.Qr.{Factors, factor, apply_qt}
+use Rattle.householder.specs.Qr.{Factors, apply_qt}
 use Rattle.householder.specs.inner.Work.{held}
 use Rattle.householder.proofs.Held.{held_same}
 use Rattle.nnls.specs.Counted.{Counted}
 use Rattle.lsei.specs.Lsei.{Solution, ldp, reduced_rows, reduced_sides, restored, lsi}
 use Rattle.lsei.specs.inner.Work.{ended_solution, sides, distance_in, squares_in, FactoredFront, Reduced, Restored}
 use Rattle.lsei.specs.declared.Ended.{Ended}
-use Rattle.lsei.specs.declared.Ending.TheVariants.{Done, Deficient}
-use Rattle.lsei.specs.contracts.Ending.{the_type}
+use Rattle.lsei.specs.declared.Unsolved.{Unsolved}
+use Rattle.lsei.specs.declared.Unsolved.TheVariants.{Deficient}
+use Rattle.std.specs.Prelude.{Ok, Err, ⊤}
 use Rattle.lsei.proofs.Answers.{further}
-use Rattle.lsei.proofs.Costs.{most, ldp-most, few}
+use Rattle.lsei.proofs.Costs.{ldp-most, few}
 use Rattle.lsei.proofs.Kept.{rank_most, full-factors}
 use Rattle.lsei.proofs.Squares.{lsi-deficient, lsi-refused, lsi-done}
 
@@ -78,7 +75,7 @@ module _ (n me mg k : ℕ) (w w₁ : List Float) (l₁ : List ℕ) (n17 : n ≤ 
   abbrev goal : Counted Solution
   goal = lsi n me mg (mat 426 me n w) (vec 732 me w) (stack 750 mg n w) (sides 750 mg n w)
 
-  pub deficient-is : k < n → (place : ℕ) → place ≡ nth l₁ k → (s : Solution) → ended_solution (record { ending = Deficient place; rounds = 0; factorings = 1 }) s ≡ goal
+  pub deficient-is : k < n → (place : ℕ) → place ≡ nth l₁ k → (s : Solution) → ended_solution (record { ending = Err (Deficient place); rounds = 0; factorings = 1 }) s ≡ goal
   deficient-is h place e s =
       lsi-deficient n me mg (mat 426 me n w) (vec 732 me w) (stack 750 mg n w) (sides 750 mg n w) (held me n k w₁ l₁) F.factors (lt-ltb k n h) place (e ∙ sym (nth-front n k l₁ h)) s
 
@@ -100,7 +97,7 @@ module _ (n me mg k : ℕ) (w w₁ : List Float) (l₁ : List ℕ) (n17 : n ≤ 
     bounds-are =
         R.bounds ∙ ap (reduced_sides n mg (stack 750 mg n w₂) (vec 732 me w₂)) (sides-same 750 mg n w w₁ (λ i h. F.after (750 + i * 18 + n) (omega arith)))
 
-    pub refused-is : (t : Solution) → OneOf (1 ∷ 2 ∷ 3 ∷ 4 ∷ []) (tag_of the_type E.ending) → ended_solution (further E) t ≡ goal
+    pub refused-is : (t : Solution) → {u : Unsolved} → E.ending ≡ Err u → ended_solution (further E) t ≡ goal
     refused-is t o =
         lsi-refused n me mg (mat 426 me n w) (vec 732 me w) (stack 750 mg n w) (sides 750 mg n w) q (full-factors me n 732 k w w₁ l₁ F full) (le-ltb n n (omega arith))
         (vec 732 me w₂) (stack 750 mg n w₂) (sides 750 mg n w₂) turned-is rows_are bounds-are E (left n mg w₂ v E len S) (ldp-told n mg w₂ v E len S) t o
@@ -123,7 +120,7 @@ module _ (n me mg k : ℕ) (w w₁ : List Float) (l₁ : List ℕ) (n17 : n ≤ 
           ∙ R.factors)
           (vec-same 732 me w₂ w₃ (λ i h. front (732 + i) (omega arith)))
 
-      pub done-is : E.ending ≡ Done → ended_solution (further E) (squares_in n mg w₄) ≡ goal
+      pub done-is : {v : ⊤} → E.ending ≡ Ok v → ended_solution (further E) (squares_in n mg w₄) ≡ goal
       done-is d =
           lsi-done n me mg (mat 426 me n w) (vec 732 me w) (stack 750 mg n w) (sides 750 mg n w) q (full-factors me n 732 k w w₁ l₁ F full) (le-ltb n n (omega arith))
           (vec 732 me w₂) (stack 750 mg n w₂) (sides 750 mg n w₂) turned-is rows_are bounds-are E (left n mg w₂ v E len S) (ldp-told n mg w₂ v E len S)

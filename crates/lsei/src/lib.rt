@@ -5,14 +5,14 @@
 ghost use Rattle.std.specs.Prelude.{◌≡◌, cond, List, ℕ, ◌+◌, ◌*◌, ◌/◌, ◌<◌, ◌≤◌, ltb, Float, length};
 ghost use Rattle.numbers.specs.Numbers.{+0, one, at, nth, Σ, ◌⊕◌, ◌⊖◌, ◌⊗◌, ◌⊘◌};
 ghost use Rattle.workspace.specs.Readings.{vec, mat, stack, Block};
-ghost use Rattle.workspace.specs.Tables.{outcome_of};
-ghost use Rattle.lsei.specs.Lsei.{Solution, dual_side, dual_residual, primal, ldp, lsi};
+ghost use Rattle.lsei.specs.Lsei.{dual_side, dual_residual, primal, ldp, lsi};
 ghost use Rattle.nnls.specs.inner.Dual.{four_of};
-ghost use Rattle.lsei.specs.inner.Work.{ending_answer, ended_solution, sides, distance_in, squares_in, FactoredFront, PermutedRow, Permuted, SolvedRows, Shifted, Reduced, Restored, residual_in};
+ghost use Rattle.lsei.specs.inner.Work.{refusal_of, ending_answer, ended_solution, sides, distance_in, squares_in, FactoredFront, PermutedRow, Permuted, SolvedRows, Shifted, Reduced, Restored, residual_in};
 ghost use Rattle.householder.specs.inner.Places.{QR_MATRIX, QR_SIDE};
 ghost use Rattle.lsei.specs.inner.Places.{LDP_RESIDUAL, LDP_ROOM, LDP_SIDE, LDP_U, LDP_WORDS, LSI_E, LSI_F, LSI_G, LSI_LDP_X, LSI_ROOM, LSI_WORDS};
 
-use workspace::{Outcome, Refusal};
+use householder::Four;
+use workspace::Refusal;
 
 // ---- where things stand in the part of LDP, which is that of nonnegative least squares for its dual
 //
@@ -54,10 +54,9 @@ pub const LSI_LDP_WORDS: usize = 18;
 // How many u32 it takes.
 pub const LSI_WORDS: usize = LSI_LDP_WORDS + LDP_WORDS;
 
-// How a solve ends.
+// Why a solve ends with no answer.
 #[derive(Clone, Copy)]
-pub enum Ending {
-    Done,
+pub enum Unsolved {
     // E is short of rank: the column that could not be taken.
     Deficient(u32),
     // The equality matrix is: the equality that could not be taken.
@@ -66,25 +65,24 @@ pub enum Ending {
     Capped,
 }
 
-impl Ending {
-    // What a caller is told of it.
-    pub fn outcome(self) -> Outcome
-        ensures { (s : Solution) → result ≡ outcome_of (ending_answer self s) }
-    {
-        match self {
-            Ending::Done => Outcome::Done,
-            Ending::Deficient(place) => Outcome::Refused(Refusal::Deficient(place)),
-            Ending::Dependent(place) => Outcome::Refused(Refusal::Dependent(place)),
-            Ending::Infeasible => Outcome::Refused(Refusal::Infeasible),
-            Ending::Capped => Outcome::Refused(Refusal::Capped),
+// What a caller is told of it.
+impl From<Unsolved> for Refusal {
+    ghost from_gives = { λ unsolved refusal. refusal ≡ refusal_of unsolved };
+
+    fn from(unsolved: Unsolved) -> Refusal {
+        match unsolved {
+            Unsolved::Deficient(place) => Refusal::Deficient(place),
+            Unsolved::Dependent(place) => Refusal::Dependent(place),
+            Unsolved::Infeasible => Refusal::Infeasible,
+            Unsolved::Capped => Refusal::Capped,
         }
     }
 }
 
-// With the rounds and the factorings that it took.
+// How a solve ends, with the rounds and the factorings that it took.
 #[derive(Clone, Copy)]
 pub struct Ended {
-    pub ending: Ending,
+    pub ending: Result<(), Unsolved>,
     pub rounds: usize,
     pub factorings: usize,
 }
@@ -119,12 +117,12 @@ fn residual_at(w: &[f64], j: usize, m: usize) -> f64
 }
 
 // Entries j to j + 3, side by side: each is summed in its own order.
-fn residual_four(w: &[f64], j: usize, m: usize) -> nnls::Four
+fn residual_four(w: &[f64], j: usize, m: usize) -> Four
     requires { (j < 15) × (m ≤ 66) × (LDP_ROOM ≤ length w.now) }
     ensures { result ≡ four_of (λ i. residual_in m i w.now) j }
 {
     let s = nnls::sums_four(w, j, LDP_U, m);
-    nnls::Four {
+    Four {
         a: s.a - w[LDP_SIDE + j],
         b: s.b - w[LDP_SIDE + (j + 1)],
         c: s.c - w[LDP_SIDE + (j + 2)],
@@ -167,18 +165,18 @@ fn divide(w: &mut [f64], p: usize, q: usize, c: usize, d: f64)
 }
 
 // From the dual's solution its residual, the test of the denominator, x and the multipliers.
-fn finish(w: &mut [f64], m: usize, n: usize) -> Ending
+fn finish(w: &mut [f64], m: usize, n: usize) -> Result<(), Unsolved>
     requires { (m ≤ 66) × (n ≤ 17) × (LDP_ROOM ≤ length w.old) × (vec LDP_SIDE (n + 1) w.old ≡ dual_side n) }
     ensures { ending_answer result (distance_in m n w.new) ≡ primal m n (vec LDP_U m w.old) (dual_residual m n (mat 0 (n + 1) m w.old) (vec LDP_U m w.old)) }
 {
     residual_all(w, n + 1, m);
     let d = -w[LDP_RESIDUAL + n];
     if d <= Ldp::INFEASIBILITY {
-        return Ending::Infeasible;
+        return Err(Unsolved::Infeasible);
     }
     divide(w, LDP_RESIDUAL, LDP_X, n, d);
     divide(w, LDP_U, LDP_MULTIPLIERS, m, d);
-    Ending::Done
+    Ok(())
 }
 
 // LDP of the m inequalities in the part, in n unknowns.
@@ -189,17 +187,17 @@ pub fn solve_ldp(w: &mut [f64], iw: &mut [u32], m: usize, n: usize) -> Ended
     write_side(w, n);
     let e = nnls::solve_in(w, iw, n + 1, m, 3 * m);
     match e {
-        nnls::RoundsEnd::Capped(rounds, factorings) => Ended {
-            ending: Ending::Capped,
-            rounds,
-            factorings,
+        Err(counts) => Ended {
+            ending: Err(Unsolved::Capped),
+            rounds: counts.past,
+            factorings: counts.factorings,
         },
-        nnls::RoundsEnd::Accepted(rounds, factorings) => {
+        Ok(counts) => {
             let ending = finish(w, m, n);
             Ended {
                 ending,
-                rounds,
-                factorings,
+                rounds: counts.past,
+                factorings: counts.factorings,
             }
         }
     }
@@ -335,7 +333,7 @@ pub fn solve_lsi(w: &mut [f64], iw: &mut [u32], n: usize, me: usize, mg: usize) 
     if rank < n {
         let place = iw[rank];
         return Ended {
-            ending: Ending::Deficient(place),
+            ending: Err(Unsolved::Deficient(place)),
             rounds: 0,
             factorings: 1,
         };
@@ -348,7 +346,7 @@ pub fn solve_lsi(w: &mut [f64], iw: &mut [u32], n: usize, me: usize, mg: usize) 
         rounds: e.rounds,
         factorings: e.factorings + 1,
     };
-    let Ending::Done = ending else {
+    let Ok(()) = ending else {
         return total;
     };
     restore(w, iw, n);

@@ -8,19 +8,19 @@ use lib.Ieee.{Float}
 use Rattle.numbers.specs.Numbers.{at}
 use Rattle.workspace.specs.Tables.{Answer, done, refused, call, is_width, is_equalities, is_inequalities, is_room, has}
 use Rattle.workspace.specs.declared.Refusal.{Refusal}
-use Rattle.workspace.specs.declared.Outcome.TheVariants.{Done, Refused}
-use Rattle.nnls.specs.Counted.{Counted}
+use Rattle.workspace.specs.Tables.{Outcome}
+use Rattle.std.specs.Prelude.{Ok, Err}
 use Rattle.nnls.specs.Claims.{NotNegative}
 use Rattle.lsei.specs.Lsei.{Solution, ldp, lsi, lsei}
 use Rattle.lsei_call.specs.Promise.{Solves}
 use Rattle.lsei_call.specs.Claims.{ClearFrom, LdpCallClear, LsiCallClear, LseiCallClear}
 use Rattle.lsei_call.proofs.Clear.{ldp-clear, lsi-clear, lsei-clear}
 
-never : {A : Type 0} (r : Refusal) → Done ≡ Refused r → A
-never r e = let z : ◌≡◌ {A = ℕ} 0 1 = cc in absurd (let y : ⊥ = omega arith in y)
+never : {A : Type 0} (r : Refusal) → ◌≡◌ {A = Outcome} (Ok tt) (Err r) → A
+never r e = absurd (let y : ⊥ = cc in y)
 
 from-tests : (o m : ℕ) (a : Answer Solution) → ClearFrom o m a → (s l r : Bool) (x x' y y' w w' : List Float) (iw iw' : List ℕ)
-    → Solves (call s l r true a) Done x x' y y' w w' iw iw' → (i : ℕ) → i < m → NotNegative (at y' (o + i))
+    → Solves (call s l r true a) (Ok tt) x x' y y' w w' iw iw' → (i : ℕ) → i < m → NotNegative (at y' (o + i))
 from-tests o m a c false l r x x' y y' w w' iw iw' p i h = never _ p.the_outcome
 from-tests o m a c true false r x x' y y' w w' iw iw' p i h = never _ p.the_outcome
 from-tests o m a c true true false x x' y y' w w' iw iw' p i h = never _ p.the_outcome

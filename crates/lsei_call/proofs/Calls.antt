@@ -3,27 +3,27 @@ use mathlib.Core.Path.{◌≡◌, refl}
 use mathlib.Core.Bool.{Bool, true, false, ◌&&◌}
 use mathlib.Core.List.{List}
 use Prim.Native.Nat.{ℕ, ◌+◌, ◌*◌, ◌≤◌}
-use lib.Dec.{leb, eqb}
+use lib.Dec.{eqb}
 use lib.ListN.{length}
 use lib.Ieee.{Float}
-use borrow.Author.Tests.{leb-true, eqb-true}
+use borrow.Author.Tests.{eqb-true}
 use Rattle.workspace.specs.Tables.{Answer, call, is_width, is_equalities, is_inequalities, has}
 use Rattle.workspace.specs.declared.Refusal.TheVariants.{Size, Length, Room}
-use Rattle.workspace.specs.declared.Outcome.{Outcome}
-use Rattle.workspace.specs.declared.Outcome.TheVariants.{Refused}
+use Rattle.workspace.specs.Tables.{Outcome}
+use Rattle.std.specs.Prelude.{Err}
 use Rattle.workspace.proofs.Tests.{and-true, width-le, equalities-le, inequalities-le}
 use Rattle.lsei.specs.Lsei.{Solution}
 use Rattle.lsei_call.specs.Promise.{Solves}
 use Rattle.lsei_call.specs.inner.Work.{LdpInput, LsiInput, LseiInput}
 
 module _ (s t r : Bool) (a : Answer Solution) (x l w : List Float) (iw : List ℕ) where
-  pub size-refused : s ≡ false → Solves (call s t r true a) (Refused Size) x x l l w w iw iw
+  pub size-refused : s ≡ false → Solves (call s t r true a) (Err Size) x x l l w w iw iw
   size-refused hs = rw hs (record { the_outcome = refl; the_x = refl; the_multipliers = refl; the_floats = refl; the_words = refl })
 
-  pub length-refused : s ≡ true → t ≡ false → Solves (call s t r true a) (Refused Length) x x l l w w iw iw
+  pub length-refused : s ≡ true → t ≡ false → Solves (call s t r true a) (Err Length) x x l l w w iw iw
   length-refused hs ht = rw (hs, ht) (record { the_outcome = refl; the_x = refl; the_multipliers = refl; the_floats = refl; the_words = refl })
 
-  pub room-refused : s ≡ true → t ≡ true → r ≡ false → Solves (call s t r true a) (Refused Room) x x l l w w iw iw
+  pub room-refused : s ≡ true → t ≡ true → r ≡ false → Solves (call s t r true a) (Err Room) x x l l w w iw iw
   room-refused hs ht hr = rw (hs, ht, hr) (record { the_outcome = refl; the_x = refl; the_multipliers = refl; the_floats = refl; the_words = refl })
 
 -- no test refuses

@@ -6,7 +6,7 @@ use Prim.Native.Nat.{ℕ, ◌+◌, ◌-◌, ◌*◌, ◌^◌, ◌<◌}
 use native.Mathlib.Omega.{arith}
 use native.Mathlib.Nat.{zero-add}
 use lib.Dec.{ltb, eqb, lt→ltb}
-use lib.IntN.{pos, negsuc}
+use lib.IntN.{negsuc}
 use lib.Count.{count_trailing_zeros}
 use lib.ListN.{length, get_or, replicate, length-replicate}
 use lib.Seq.{get_or-append-add}
@@ -21,7 +21,7 @@ use Rattle.householder.specs.Qr.{Factors, factor, apply_qt, apply_q, solve_r, st
 use Rattle.nnls.specs.Counted.{Counted, then, unless}
 use Rattle.nnls_passive.specs.Passive.{solve_of}
 use Rattle.nnls.specs.Nnls.{Accepted, dual_of, nnls}
-use Rattle.nnls.specs.Claims.{NotNegative, Sound, SoundAnswer, SoundCounted}
+use Rattle.nnls.specs.Claims.{NotNegative, SoundAnswer}
 use Rattle.nnls.proofs.Signs.{negative, or-true-l, div-sign, clear-sign}
 use Rattle.nnls.proofs.Loops.{values-clear}
 use Rattle.nnls.proofs.Solves.{nnls-sound}

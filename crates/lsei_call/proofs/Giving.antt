@@ -1,31 +1,27 @@
 -- Laws of answers: the multipliers out of two places, the outcome of an ending, and what a call then leaves.
 use mathlib.Core.Path.{◌≡◌, refl, sym, ap, ap₂, ◌∙◌}
-use mathlib.Core.Bool.{true, cond}
-use mathlib.Core.List.{List, [], ◌∷◌, ◌++◌}
+use mathlib.Core.List.{List, ◌++◌}
 use mathlib.Core.Logic.{⊎_elim}
 use Prim.Native.Nat.{ℕ, ◌+◌, ◌-◌, ◌*◌, ◌<◌, ◌≤◌}
 use native.Mathlib.Omega.{arith}
-use types.Run.{OneOf}
-use denote.Enum.Declared.{tag_of}
 use lib.ListN.{length, drop, length-append, get_or-append}
 use lib.Seq.{ext_get_or, get_or-append-add}
 use lib.Ieee.{Float, nan}
 use Rattle.numbers.specs.Numbers.{+0, at, tab}
 use Rattle.numbers.proofs.Cases.{lt-or-ge}
-use Rattle.workspace.specs.Tables.{Answer, outcome_of, floats, words, cleared}
-use Rattle.workspace.specs.declared.Outcome.{Outcome}
-use Rattle.workspace.specs.declared.Outcome.TheVariants.{Done}
+use Rattle.workspace.specs.Tables.{floats, words, cleared}
+use Rattle.workspace.specs.Tables.{Outcome}
+use Rattle.std.specs.Prelude.{Result, Ok, Err, ⊤}
 use Rattle.workspace.specs.Readings.{vec, Block, Cleared}
 use Rattle.workspace.proofs.Readings.{at-vec, length-vec}
 use Rattle.workspace.proofs.Parts.{vec-front, front-cleared}
 use Rattle.nnls.specs.Counted.{Counted}
 use Rattle.lsei.specs.Lsei.{Solution}
 use Rattle.lsei_call.specs.Promise.{Solves}
-use Rattle.lsei.specs.inner.Work.{ending_answer, ended_solution}
+use Rattle.lsei.specs.inner.Work.{refusal_of, ending_answer, ended_solution}
 use Rattle.lsei.specs.declared.Ended.{Ended}
-use Rattle.lsei.specs.declared.Ending.{Ending}
-use Rattle.lsei.specs.declared.Ending.TheVariants as E
-use Rattle.lsei.specs.contracts.Ending.{the_type}
+use Rattle.lsei.specs.declared.Unsolved.{Unsolved}
+use Rattle.lsei.specs.declared.Unsolved.TheVariants.{Deficient, Dependent, Infeasible, Capped}
 use Rattle.lsei_call.specs.inner.Work.{SolutionGiven}
 
 -- two blocks that fill a list
@@ -60,31 +56,27 @@ no-first q w v = refl
 
 -- ---- what is given by an ending
 
-pub given-none : (o : Ending) (s : Solution) (k : Outcome) (x l : List Float) → OneOf (1 ∷ 2 ∷ 3 ∷ 4 ∷ []) (tag_of the_type o) → k ≡ outcome_of (ending_answer o s) → SolutionGiven (ending_answer o s) k x x l l
-given-none E.Done s k x l h e = absurd (⊎_elim (λ e. omega arith) (λ g. ⊎_elim (λ e. omega arith) (λ k. ⊎_elim (λ e. omega arith) (λ e. omega arith) k) g) h)
-given-none (E.Deficient place) s k x l h e = record { the_outcome = e; the_x = refl; the_multipliers = refl }
-given-none (E.Dependent place) s k x l h e = record { the_outcome = e; the_x = refl; the_multipliers = refl }
-given-none E.Infeasible s k x l h e = record { the_outcome = e; the_x = refl; the_multipliers = refl }
-given-none E.Capped s k x l h e = record { the_outcome = e; the_x = refl; the_multipliers = refl }
+pub given-none : (o : Result ⊤ Unsolved) (s : Solution) (u : Unsolved) (x l : List Float) → o ≡ Err u → SolutionGiven (ending_answer o s) (Err (refusal_of u)) x x l l
+given-none o s u x l h = rw h (record { the_outcome = refl; the_x = refl; the_multipliers = refl })
 
-pub given-all : (o : Ending) (s : Solution) (x x' l l' : List Float) → o ≡ E.Done → x' ≡ s.x → l' ≡ s.multipliers → SolutionGiven (ending_answer o s) Done x x' l l'
+pub given-all : (o : Result ⊤ Unsolved) (s : Solution) (x x' l l' : List Float) {v : ⊤} → o ≡ Ok v → x' ≡ s.x → l' ≡ s.multipliers → SolutionGiven (ending_answer o s) (Ok tt) x x' l l'
 given-all o s x x' l l' d ex el = rw d (record { the_outcome = refl; the_x = ex; the_multipliers = el })
 
 -- ---- a call that reached the arithmetic: v and u are what the kernel left in the first 8,192 and 512 entries
 
-floats-of : (o : Ending) (s : Solution) (w : List Float) → floats (ending_answer o s) w ≡ cleared +0 8192 w
-floats-of E.Done s w = refl
-floats-of (E.Deficient place) s w = refl
-floats-of (E.Dependent place) s w = refl
-floats-of E.Infeasible s w = refl
-floats-of E.Capped s w = refl
+floats-of : (o : Result ⊤ Unsolved) (s : Solution) (w : List Float) → floats (ending_answer o s) w ≡ cleared +0 8192 w
+floats-of (Ok v) s w = refl
+floats-of (Err (Deficient place)) s w = refl
+floats-of (Err (Dependent place)) s w = refl
+floats-of (Err Infeasible) s w = refl
+floats-of (Err Capped) s w = refl
 
-words_of : (o : Ending) (s : Solution) (iw : List ℕ) → words (ending_answer o s) iw ≡ cleared 0 512 iw
-words_of E.Done s iw = refl
-words_of (E.Deficient place) s iw = refl
-words_of (E.Dependent place) s iw = refl
-words_of E.Infeasible s iw = refl
-words_of E.Capped s iw = refl
+words_of : (o : Result ⊤ Unsolved) (s : Solution) (iw : List ℕ) → words (ending_answer o s) iw ≡ cleared 0 512 iw
+words_of (Ok v) s iw = refl
+words_of (Err (Deficient place)) s iw = refl
+words_of (Err (Dependent place)) s iw = refl
+words_of (Err Infeasible) s iw = refl
+words_of (Err Capped) s iw = refl
 
 pub solved : (c : Counted Solution) (o : Ended) (s : Solution) (k : Outcome) (x x' l l' w v w' : List Float) (iw u iw' : List ℕ) → length v ≡ 8192 → length u ≡ 512 → ended_solution o s ≡ c
     → SolutionGiven (ending_answer o.ending s) k x x' l l' → Cleared (v ++ drop 8192 w) w' (u ++ drop 512 iw) iw' → Solves c.answer k x x' l l' w w' iw iw'

@@ -1,5 +1,5 @@
 -- Laws of problems that are loaded: they read back as they were given.
-use mathlib.Core.Path.{◌≡◌, refl, sym, ap, ◌∙◌}
+use mathlib.Core.Path.{◌≡◌, sym, ap, ◌∙◌}
 use mathlib.Core.List.{List}
 use Prim.Native.Nat.{ℕ, ◌+◌, ◌*◌, ◌<◌, ◌≤◌}
 use native.Mathlib.Omega.{arith}
@@ -7,7 +7,7 @@ use lib.ListN.{length}
 use lib.Ieee.{Float}
 use Rattle.numbers.specs.Numbers.{at}
 use Rattle.numbers.proofs.Lists.{tab-same, by_entries}
-use Rattle.workspace.specs.Readings.{vec, mat, stack, Block, Loaded, Stacked}
+use Rattle.workspace.specs.Readings.{vec, Block, Loaded, Stacked}
 use Rattle.workspace.proofs.Readings.{vec-same, mat-same, stack_same}
 use Rattle.workspace.proofs.Writes.{block-vec}
 use Rattle.lsei.specs.inner.Work.{sides, Spaced}

@@ -1,6 +1,5 @@
 -- The promise allows one answer only.
 use mathlib.Core.Path.{sym, ◌∙◌}
-use Rattle.lsei_call.specs.Promise.{Solves}
 use Rattle.lsei_call.specs.Claims.{OneAnswer}
 
 pub one_answer : OneAnswer

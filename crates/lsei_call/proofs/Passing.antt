@@ -1,8 +1,8 @@
 -- A NaN denominator of LDP passes on, and LDP with no inequalities answers -0 in each place.
-use mathlib.Core.Path.{◌≡◌, refl, sym, ap, ap₂, ◌∙◌}
-use mathlib.Core.Bool.{Bool, true, false, cond}
+use mathlib.Core.Path.{◌≡◌, ap, ap₂, ◌∙◌}
+use mathlib.Core.Bool.{Bool, false, cond}
 use mathlib.Core.List.{List, []}
-use Prim.Native.Nat.{ℕ, ◌+◌, ◌*◌, ◌<◌, ◌≤◌}
+use Prim.Native.Nat.{ℕ, ◌+◌, ◌<◌}
 use native.Mathlib.Omega.{arith}
 use lib.Count.{count_trailing_zeros}
 use lib.Dec.{ltb}
@@ -12,8 +12,8 @@ use borrow.Author.Tests.{lt-ltb, le-ltb}
 use Rattle.numbers.specs.Numbers.{+0, -0, one, at, tab, Σ, ◌⊖◌, ◌⊘◌}
 use Rattle.numbers.proofs.Lists.{get_d-tab, tab-same, tab-replicate}
 use Rattle.workspace.specs.Tables.{Answer, done}
-use Rattle.nnls.specs.Counted.{Counted, then, at_once}
-use Rattle.nnls.specs.Nnls.{Accepted, nnls, active_set, rounds, pass, tries, lastly, dual_of, residual}
+use Rattle.nnls.specs.Counted.{then, at_once}
+use Rattle.nnls.specs.Nnls.{Accepted, nnls, active_set, rounds, pass, tries, lastly}
 use Rattle.lsei.specs.Lsei.{Solution, infeasibility, unless_small, primal, dual_matrix, dual_side, dual_residual, ldp}
 use Rattle.lsei_call.specs.Claims.{NanPasses, Unconstrained}
 

@@ -2,30 +2,29 @@
 use mathlib.Core.Path.{◌≡◌, refl, ap, sym, ◌∙◌}
 use mathlib.Core.Bool.{Bool, true, false, ◌&&◌, true≢false}
 use mathlib.Core.List.{List}
-use Prim.Native.Nat.{ℕ, zero, suc, ◌+◌, ◌-◌, ◌*◌, ◌<◌, ◌≤◌, min}
+use Prim.Native.Nat.{ℕ, zero, suc, ◌+◌, ◌-◌, ◌*◌, ◌<◌, ◌≤◌}
 use native.Mathlib.Nat.{lt_irrefl, lt_trans}
 use native.Mathlib.Omega.{arith}
 use lib.Dec.{ltb}
 use lib.ListN.{length}
 use lib.Ieee.{Float, le, neg}
 use borrow.Author.Tests.{lt-ltb, ltb-true, ltb-false}
-use Rattle.numbers.specs.Numbers.{◌⊘◌, at, nth, tab, entry, transposed}
+use Rattle.numbers.specs.Numbers.{◌⊘◌, at, tab, entry, transposed}
 use Rattle.numbers.proofs.Lists.{length-grid, length-transposed}
 use Rattle.workspace.specs.Tables.{Answer, done, refused, rank_deficient, dependent, number_of, place_of, is_late, call, outcome_of, is_width, is_equalities, is_inequalities, is_room, has}
 use Rattle.workspace.specs.declared.Refusal.{Refusal}
 use Rattle.workspace.specs.declared.Refusal.TheVariants.{Size, Length, Room, Deficient, Dependent, Infeasible, Capped}
-use Rattle.workspace.specs.declared.Outcome.{Outcome}
-use Rattle.workspace.specs.declared.Outcome.TheVariants.{Done, Refused}
+use Rattle.workspace.specs.Tables.{Outcome}
+use Rattle.std.specs.Prelude.{Err}
 use Rattle.householder.specs.Qr.{Factors, factor, standing}
-use Rattle.householder.specs.Claims.{Permutation, SoundFactors}
+use Rattle.householder.specs.Claims.{Permutation}
 use Rattle.householder.proofs.Rank.{factor-rank}
 use Rattle.householder.proofs.Sound.{factor-sound}
 use Rattle.nnls.specs.Counted.{Counted, then, unless}
 use Rattle.nnls_passive.specs.Passive.{Solved}
-use Rattle.nnls.specs.Nnls.{PassEnd, kept, ended, Accepted, lastly, pass, round_next, rounds, active_set, nnls}
-use Rattle.lsei.specs.Lsei.{Solution, infeasibility, dual_matrix, dual_side, dual_residual, unless_small, primal, ldp, reduced_rows, reduced_sides, lsi_from, lsi, fixed, turned, tail_of, shifted, rejoined, lsei_from, lsei}
-use Rattle.lsei_call.specs.Promise.{lsi_call, lsei_call, Solves}
-use Rattle.lsei_call.specs.Claims.{IsNext, Reached, LsiPlaces, LsiPlaced, of_equalities, of_rest, LseiPlaces, LseiPlaced}
+use Rattle.nnls.specs.Nnls.{PassEnd, kept, ended, lastly, pass, round_next, rounds, active_set, nnls}
+use Rattle.lsei.specs.Lsei.{Solution, infeasibility, dual_matrix, dual_side, dual_residual, unless_small, primal, ldp, lsi_from, lsi, fixed, turned, tail_of, shifted, rejoined, lsei_from, lsei}
+use Rattle.lsei_call.specs.Claims.{IsNext, Reached, LsiPlaced, of_equalities, of_rest, LseiPlaced}
 use Rattle.lsei_call.proofs.Calls.{lsi-input}
 
 -- ---- refusals without a place
@@ -200,7 +199,7 @@ rest-next n mc me mg place c d e f g h r =
 -- ---- the calls
 
 -- a refusal of the arithmetic is its own
-late : (s t r : Bool) (a : Answer Solution) (k : Refusal) → is_late k ≡ true → Refused k ≡ outcome_of (call s t r true a) → (s ≡ true) × (t ≡ true) × (a ≡ refused k)
+late : (s t r : Bool) (a : Answer Solution) (k : Refusal) → is_late k ≡ true → Err k ≡ outcome_of (call s t r true a) → (s ≡ true) × (t ≡ true) × (a ≡ refused k)
 late false t r a k l e = let z : k ≡ Size = cc in absurd (true≢false (sym l ∙ ap is_late z))
 late true false r a k l e = let z : k ≡ Length = cc in absurd (true≢false (sym l ∙ ap is_late z))
 late true true false a k l e = let z : k ≡ Room = cc in absurd (true≢false (sym l ∙ ap is_late z))

@@ -6,9 +6,9 @@ use Rattle.workspace.specs.Tables.{Answer, done, refused, is_late}
 use Rattle.householder.specs.Qr.{Factors, factor, standing}
 use Rattle.workspace.specs.declared.Refusal.{Refusal}
 use Rattle.workspace.specs.declared.Refusal.TheVariants.{Deficient, Dependent}
-use Rattle.workspace.specs.declared.Outcome.{Outcome}
-use Rattle.workspace.specs.declared.Outcome.TheVariants.{Done, Refused}
-use Rattle.nnls.specs.Counted.{Counted, at_once}
+use Rattle.workspace.specs.Tables.{Outcome}
+use Rattle.std.specs.Prelude.{Ok, Err}
+use Rattle.nnls.specs.Counted.{at_once}
 use Rattle.nnls.specs.Nnls.{Accepted, nnls}
 use Rattle.nnls.specs.Claims.{NotNegative}
 use Rattle.lsei.specs.Lsei.{Solution, dual_matrix, dual_side, dual_residual, ldp, lsi, turned, tail_of, lsei}
@@ -42,17 +42,17 @@ Unconstrained = (n : ℕ) (g h : List Float) → ldp 0 n g h ≡ at_once (done (
 
 -- where a call is done, no inequality multiplier that it leaves is negative or -0
 abbrev pub LdpCallClear : Type 0
-LdpCallClear = (m n : ℕ) (g h x x' l l' w w' : List Float) (iw iw' : List ℕ) → Solves (ldp_call m n g h x l w iw) Done x x' l l' w w' iw iw'
+LdpCallClear = (m n : ℕ) (g h x x' l l' w w' : List Float) (iw iw' : List ℕ) → Solves (ldp_call m n g h x l w iw) (Ok tt) x x' l l' w w' iw iw'
     → (i : ℕ) → i < m → NotNegative (at l' i)
 
 abbrev pub LsiCallClear : Type 0
-LsiCallClear = (n me mg : ℕ) (e f g h x x' l l' w w' : List Float) (iw iw' : List ℕ) → Solves (lsi_call n me mg e f g h x l w iw) Done x x' l l' w w' iw iw'
+LsiCallClear = (n me mg : ℕ) (e f g h x x' l l' w w' : List Float) (iw iw' : List ℕ) → Solves (lsi_call n me mg e f g h x l w iw) (Ok tt) x x' l l' w w' iw iw'
     → (i : ℕ) → i < mg → NotNegative (at l' i)
 
 -- the equalities' multipliers stand first
 abbrev pub LseiCallClear : Type 0
 LseiCallClear = (n mc me mg : ℕ) (c d e f g h x x' l l' w w' : List Float) (iw iw' : List ℕ)
-    → Solves (lsei_call n mc me mg c d e f g h x l w iw) Done x x' l l' w w' iw iw' → (i : ℕ) → i < mg → NotNegative (at l' (mc + i))
+    → Solves (lsei_call n mc me mg c d e f g h x l w iw) (Ok tt) x x' l l' w w' iw iw' → (i : ℕ) → i < mg → NotNegative (at l' (mc + i))
 
 -- ---- where rank was lost
 
@@ -65,13 +65,13 @@ pub record IsNext (n : ℕ) (q : Factors) (place : ℕ) : Type 0 where
 
 -- no test before the arithmetic has refused
 abbrev pub Reached : Outcome → Type 0
-Reached o = (r : Refusal) → o ≡ Refused r → is_late r ≡ true
+Reached o = (r : Refusal) → o ≡ Err r → is_late r ≡ true
 
 -- LSI, where E is factored to q: 5 names a column of E, and is told wherever E falls short; 11 is never told
 pub record LsiPlaces (n : ℕ) (q : Factors) (o : Outcome) : Type 0 where
-  pub five : (place : ℕ) → o ≡ Refused (Deficient place) → IsNext n q place
-  pub always : Reached o → q.rank < n → o ≡ Refused (Deficient (standing q))
-  pub never_eleven : (place : ℕ) → o ≡ Refused (Dependent place) → ⊥
+  pub five : (place : ℕ) → o ≡ Err (Deficient place) → IsNext n q place
+  pub always : Reached o → q.rank < n → o ≡ Err (Deficient (standing q))
+  pub never_eleven : (place : ℕ) → o ≡ Err (Dependent place) → ⊥
 
 abbrev pub LsiPlaced : Type 0
 LsiPlaced = (n me mg : ℕ) (e f g h x x' l l' w w' : List Float) (iw iw' : List ℕ) (o : Outcome) → Solves (lsi_call n me mg e f g h x l w iw) o x x' l l' w w' iw iw'
@@ -87,11 +87,11 @@ of_rest n mc me c e = factor me (n - mc) (tail_of n mc me (turned n me (of_equal
 -- LSEI, where these are q and s: 11 names an equality, a column of C', and is told wherever C' falls short, as it does with more equalities than variables;
 -- 5 names a column of what is left of E, where C' does not fall short, and is told wherever that does
 pub record LseiPlaces (n mc : ℕ) (q s : Factors) (o : Outcome) : Type 0 where
-  pub eleven : (place : ℕ) → o ≡ Refused (Dependent place) → IsNext mc q place
-  pub always_eleven : Reached o → q.rank < mc → o ≡ Refused (Dependent (standing q))
-  pub too_many : Reached o → n < mc → o ≡ Refused (Dependent (standing q))
-  pub five : (place : ℕ) → o ≡ Refused (Deficient place) → (q.rank ≡ mc) × IsNext (n - mc) s place
-  pub always_five : Reached o → q.rank ≡ mc → s.rank < n - mc → o ≡ Refused (Deficient (standing s))
+  pub eleven : (place : ℕ) → o ≡ Err (Dependent place) → IsNext mc q place
+  pub always_eleven : Reached o → q.rank < mc → o ≡ Err (Dependent (standing q))
+  pub too_many : Reached o → n < mc → o ≡ Err (Dependent (standing q))
+  pub five : (place : ℕ) → o ≡ Err (Deficient place) → (q.rank ≡ mc) × IsNext (n - mc) s place
+  pub always_five : Reached o → q.rank ≡ mc → s.rank < n - mc → o ≡ Err (Deficient (standing s))
 
 abbrev pub LseiPlaced : Type 0
 LseiPlaced = (n mc me mg : ℕ) (c d e f g h x x' l l' w w' : List Float) (iw iw' : List ℕ) (o : Outcome)

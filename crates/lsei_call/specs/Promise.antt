@@ -1,8 +1,7 @@
 -- What calls of the public LDP, LSI and LSEI answer and leave. Definitions only.
 use Rattle.std.specs.Prelude.{ℕ, ◌+◌, ◌*◌, ◌≡◌, true, ◌&&◌, List, Float}
 use Rattle.workspace.specs.Tables.{Answer, call, outcome_of, output, floats, words, is_width, is_equalities, is_inequalities, is_room, has}
-use Rattle.workspace.specs.declared.Outcome.{Outcome}
-use Rattle.nnls.specs.Counted.{Counted}
+use Rattle.workspace.specs.Tables.{Outcome}
 use Rattle.lsei.specs.Lsei.{Solution, ldp, lsi, lsei}
 
 -- the whole calls, on all that they are lent

@@ -16,7 +16,7 @@ use crate::arguments::{
     are_lengths_ldp, are_lengths_lsei, are_lengths_lsi, is_ldp, is_lsei, is_lsi,
 };
 use crate::inputs::{load_lsei, load_lsi, load_rows};
-use workspace::{Outcome, Refusal};
+use workspace::Refusal;
 
 // ---- problems in, answers out
 
@@ -29,28 +29,26 @@ fn give_multipliers(w: &[f64], l: &mut [f64], q: usize, c: usize, r: usize, m: u
     workspace::copy_strided(w, l, r, 1, c, m);
 }
 
-// Where the ending is Done, the n numbers at p out to x, and the multipliers out to l.
+// Where the solve ended well, the n numbers at p out to x, and the multipliers out to l.
 fn give(
     w: &[f64],
     x: &mut [f64],
     l: &mut [f64],
-    ending: lsei::Ending,
+    ending: Result<(), lsei::Unsolved>,
     p: usize,
     n: usize,
     q: usize,
     c: usize,
     r: usize,
     m: usize,
-) -> Outcome
+) -> Result<(), Refusal>
     requires { (p + n ≤ length w.now) × (q + c ≤ length w.now) × (r + m ≤ length w.now) × (length x.old ≡ n) × (length l.old ≡ c + m) }
     ensures { SolutionGiven (ending_answer ending (record { x = vec p n w.now; multipliers = vec q c w.now ++ vec r m w.now })) result x.old x.new l.old l.new }
 {
-    let lsei::Ending::Done = ending else {
-        return ending.outcome();
-    };
+    ending?;
     workspace::unload(w, x, p, n);
     give_multipliers(w, l, q, c, r, m);
-    Outcome::Done
+    Ok(())
 }
 
 // ---- least distance programming
@@ -74,7 +72,7 @@ fn solve_all_ldp(
     iw: &mut [u32],
     m: usize,
     n: usize,
-) -> Outcome
+) -> Result<(), Refusal>
     requires { LdpInput m n g.now h.now × (length x.old ≡ n) × (length l.old ≡ m) × (8192 ≤ length w.old) × (512 ≤ length iw.old) }
     ensures { Solves (Definition.ldp m n g.now h.now).answer result x.old x.new l.old l.new w.old w.new iw.old iw.new }
 {
@@ -111,17 +109,17 @@ impl Ldp {
         l: &mut [f64],
         w: &mut [f64],
         iw: &mut [u32],
-    ) -> Outcome
+    ) -> Result<(), Refusal>
         ensures { Solves (ldp_call m n g.now h.now x.old l.old w.old iw.old) result x.old x.new l.old l.new w.old w.new iw.old iw.new }
     {
         if !is_ldp(m, n) {
-            return Outcome::Refused(Refusal::Size);
+            return Err(Refusal::Size);
         }
         if !are_lengths_ldp(m, n, g.len(), h.len(), x.len(), l.len()) {
-            return Outcome::Refused(Refusal::Length);
+            return Err(Refusal::Length);
         }
         if !workspace::is_room(w.len(), iw.len()) {
-            return Outcome::Refused(Refusal::Room);
+            return Err(Refusal::Room);
         }
         solve_all_ldp(g, h, x, l, w, iw, m, n)
     }
@@ -161,7 +159,7 @@ fn solve_all_lsi(
     n: usize,
     me: usize,
     mg: usize,
-) -> Outcome
+) -> Result<(), Refusal>
     requires { LsiInput n me mg e.now f.now g.now h.now × (length x.old ≡ n) × (length l.old ≡ mg) × (8192 ≤ length w.old) × (512 ≤ length iw.old) }
     ensures { Solves (Definition.lsi n me mg e.now f.now g.now h.now).answer result x.old x.new l.old l.new w.old w.new iw.old iw.new }
 {
@@ -201,11 +199,11 @@ impl Lsi {
         l: &mut [f64],
         w: &mut [f64],
         iw: &mut [u32],
-    ) -> Outcome
+    ) -> Result<(), Refusal>
         ensures { Solves (lsi_call n me mg e.now f.now g.now h.now x.old l.old w.old iw.old) result x.old x.new l.old l.new w.old w.new iw.old iw.new }
     {
         if !is_lsi(n, me, mg) {
-            return Outcome::Refused(Refusal::Size);
+            return Err(Refusal::Size);
         }
         if !are_lengths_lsi(
             n,
@@ -218,10 +216,10 @@ impl Lsi {
             x.len(),
             l.len(),
         ) {
-            return Outcome::Refused(Refusal::Length);
+            return Err(Refusal::Length);
         }
         if !workspace::is_room(w.len(), iw.len()) {
-            return Outcome::Refused(Refusal::Room);
+            return Err(Refusal::Room);
         }
         solve_all_lsi(e, f, g, h, x, l, w, iw, n, me, mg)
     }
@@ -267,7 +265,7 @@ fn solve_all_lsei(
     mc: usize,
     me: usize,
     mg: usize,
-) -> Outcome
+) -> Result<(), Refusal>
     requires { LseiInput n mc me mg c.now d.now e.now f.now g.now h.now × (length x.old ≡ n) × (length l.old ≡ mc + mg) × (8192 ≤ length w.old) × (512 ≤ length iw.old) }
     ensures { Solves (Definition.lsei n mc me mg c.now d.now e.now f.now g.now h.now).answer result x.old x.new l.old l.new w.old w.new iw.old iw.new }
 {
@@ -323,11 +321,11 @@ impl Lsei {
         l: &mut [f64],
         w: &mut [f64],
         iw: &mut [u32],
-    ) -> Outcome
+    ) -> Result<(), Refusal>
         ensures { Solves (lsei_call n mc me mg c.now d.now e.now f.now g.now h.now x.old l.old w.old iw.old) result x.old x.new l.old l.new w.old w.new iw.old iw.new }
     {
         if !is_lsei(n, mc, me, mg) {
-            return Outcome::Refused(Refusal::Size);
+            return Err(Refusal::Size);
         }
         if !are_lengths_lsei(
             n,
@@ -343,10 +341,10 @@ impl Lsei {
             x.len(),
             l.len(),
         ) {
-            return Outcome::Refused(Refusal::Length);
+            return Err(Refusal::Length);
         }
         if !workspace::is_room(w.len(), iw.len()) {
-            return Outcome::Refused(Refusal::Room);
+            return Err(Refusal::Room);
         }
         solve_all_lsei(c, d, e, f, g, h, x, l, w, iw, n, mc, me, mg)
     }

@@ -8,7 +8,7 @@ use Rattle.numbers.specs.Numbers.{at, Σ, ◌⊖◌, ◌⊗◌}
 use Rattle.numbers.proofs.Sums.{Σ-same}
 use Rattle.workspace.specs.Readings.{Block}
 use Rattle.nnls.specs.inner.Dual.{sum_at, row_sum, four_of, four_rows}
-use Rattle.nnls.specs.declared.dual.Four.{Four}
+use Rattle.householder.specs.declared.Four.{Four}
 use Rattle.lsei_nullspace.specs.inner.Work.{residual_in, slope_in}
 
 abbrev made : (a b c d : Float) → Four

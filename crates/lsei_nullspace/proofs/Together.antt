@@ -3,8 +3,6 @@ use mathlib.Core.Path.{◌≡◌, refl, sym, ap, ap₂, ◌∙◌}
 use mathlib.Core.List.{List, [], ◌∷◌, ◌++◌}
 use Prim.Native.Nat.{ℕ, ◌+◌, ◌-◌, ◌*◌, ◌<◌, ◌≤◌}
 use native.Mathlib.Omega.{arith}
-use types.Run.{OneOf}
-use denote.Enum.Declared.{tag_of}
 use lib.ListN.{length, drop}
 use lib.Ieee.{Float, nan}
 use borrow.Rule.Slice.PartMut.{mid_of, put_mid}
@@ -20,8 +18,9 @@ use Rattle.nnls.specs.Counted.{Counted}
 use Rattle.lsei.specs.Lsei.{Solution, lsi, fixed, turned, tail_of, shifted, gradient, equality_multipliers, lsei}
 use Rattle.lsei.specs.inner.Work.{ended_solution, sides, squares_in, FactoredFront}
 use Rattle.lsei.specs.declared.Ended.{Ended}
-use Rattle.lsei.specs.declared.Ending.TheVariants.{Done, Dependent}
-use Rattle.lsei.specs.contracts.Ending.{the_type}
+use Rattle.lsei.specs.declared.Unsolved.{Unsolved}
+use Rattle.lsei.specs.declared.Unsolved.TheVariants.{Dependent}
+use Rattle.std.specs.Prelude.{Ok, Err, ⊤}
 use Rattle.lsei.proofs.Answers.{further}
 use Rattle.lsei.proofs.Costs.{lsi-most, few}
 use Rattle.lsei.proofs.Kept.{rank_most, full-factors}
@@ -125,7 +124,7 @@ module _ (n mc me mg k : ℕ) (w w₁ : List Float) (l₁ : List ℕ) (n17 : n �
   transposed-is : factor n mc (mat 426 n mc w) ≡ factor n mc (transposed mc n (stack 426 mc n w))
   transposed-is = ap (factor n mc) (mat-stack 426 n mc w)
 
-  pub dependent-is : k < mc → (place : ℕ) → place ≡ nth l₁ k → (s : Solution) → ended_solution (record { ending = Dependent place; rounds = 0; factorings = 1 }) s ≡ goal
+  pub dependent-is : k < mc → (place : ℕ) → place ≡ nth l₁ k → (s : Solution) → ended_solution (record { ending = Err (Dependent place); rounds = 0; factorings = 1 }) s ≡ goal
   dependent-is h place e s =
       lsei-dependent n mc me mg (stack 426 mc n w) (vec 714 mc w) (stack 732 me n w) (vec 1038 me w) (stack 1056 mg n w) (sides 1056 mg n w) (held n mc k w₁ l₁)
       (F.factors ∙ transposed-is) (lt-ltb k mc h) place (e ∙ sym (nth-front mc k l₁ h)) s
@@ -173,7 +172,7 @@ module _ (n mc me mg k : ℕ) (w w₁ : List Float) (l₁ : List ℕ) (n17 : n �
     h-is : sides 2994 mg (n - mc) w₂ ≡ shifted n mc mg (turned n mg q (stack 1056 mg n w)) y (sides 1056 mg n w)
     h-is = R.shift_of_h ∙ ap₂ (λ (a : List Float) (b : List Float). shifted n mc mg (turned n mg q a) y b) g₁ h₁
 
-    pub refused-is : (t : Solution) → OneOf (1 ∷ 2 ∷ 3 ∷ 4 ∷ []) (tag_of the_type E.ending) → ended_solution (further E) t ≡ goal
+    pub refused-is : (t : Solution) → {u : Unsolved} → E.ending ≡ Err u → ended_solution (further E) t ≡ goal
     refused-is t o =
         lsei-refused n mc me mg (stack 426 mc n w) (vec 714 mc w) (stack 732 me n w) (vec 1038 me w) (stack 1056 mg n w) (sides 1056 mg n w) q
         (full-factors n mc 714 k w w₁ l₁ F full ∙ transposed-is) (le-ltb mc mc (omega arith)) y (mat 2670 me (n - mc) w₂) (vec 2976 me w₂) (stack 2994 mg (n - mc) w₂)
@@ -214,7 +213,7 @@ module _ (n mc me mg k : ℕ) (w w₁ : List Float) (l₁ : List ℕ) (n17 : n �
           let g₃ : stack 1056 mg n w₃ ≡ stack 1056 mg n w = stack_same 1056 mg n w w₃ (λ i j hi hj. kept (1056 + i * 18 + j) (omega arith) (omega arith)) in
           X.multipliers ∙ rw (held₃, e₃, f₃, g₃, u-is)
 
-      pub done-is : E.ending ≡ Done → ended_solution (further E) (solution_in n mc mg w₄) ≡ goal
+      pub done-is : {v : ⊤} → E.ending ≡ Ok v → ended_solution (further E) (solution_in n mc mg w₄) ≡ goal
       done-is d =
           lsei-done n mc me mg (stack 426 mc n w) (vec 714 mc w) (stack 732 me n w) (vec 1038 me w) (stack 1056 mg n w) (sides 1056 mg n w) q
           (full-factors n mc 714 k w w₁ l₁ F full ∙ transposed-is) (le-ltb mc mc (omega arith)) y (mat 2670 me (n - mc) w₂) (vec 2976 me w₂) (stack 2994 mg (n - mc) w₂)

@@ -212,12 +212,12 @@ fn rejoin(w: &mut [f64], n: usize, mc: usize)
 }
 
 // Entries i to i + 3 of the residual E x - f, side by side: each is summed in its own order.
-fn residual_four(w: &[f64], n: usize, i: usize) -> nnls::Four
+fn residual_four(w: &[f64], n: usize, i: usize) -> householder::Four
     requires { (n ≤ 17) × (i < 14) × (LSEI_ROOM ≤ length w.now) }
     ensures { result ≡ four_of (λ k. residual_in n k w.now) i }
 {
     let s = nnls::row_sums_four(w, LSEI_E + i * 18, LSEI_X, n);
-    nnls::Four {
+    householder::Four {
         a: s.a - w[LSEI_F + i],
         b: s.b - w[LSEI_F + (i + 1)],
         c: s.c - w[LSEI_F + (i + 2)],
@@ -260,13 +260,13 @@ fn slope_at(w: &[f64], me: usize, mg: usize, j: usize) -> f64
 }
 
 // Entries j to j + 3, side by side: each is summed in its own order.
-fn slope_four(w: &[f64], me: usize, mg: usize, j: usize) -> nnls::Four
+fn slope_four(w: &[f64], me: usize, mg: usize, j: usize) -> householder::Four
     requires { (me ≤ 17) × (mg ≤ 66) × (j < 14) × (LSEI_ROOM ≤ length w.now) }
     ensures { result ≡ four_of (λ i. slope_in me mg i w.now) j }
 {
     let s = nnls::sums_four(w, LSEI_E + j, householder::QR_SOLUTION, me);
     let t = nnls::sums_four(w, LSEI_G + j, LSEI_MULTIPLIERS, mg);
-    nnls::Four {
+    householder::Four {
         a: s.a - t.a,
         b: s.b - t.b,
         c: s.c - t.c,
@@ -338,7 +338,7 @@ pub fn solve_lsei(
     if rank < mc {
         let place = iw[rank];
         return lsei::Ended {
-            ending: lsei::Ending::Dependent(place),
+            ending: Err(lsei::Unsolved::Dependent(place)),
             rounds: 0,
             factorings: 1,
         };
@@ -357,7 +357,7 @@ pub fn solve_lsei(
         rounds: e.rounds,
         factorings: e.factorings + 1,
     };
-    let lsei::Ending::Done = ending else {
+    let Ok(()) = ending else {
         return total;
     };
     complete(w, iw, n, mc, me, mg);

@@ -8,6 +8,7 @@ use native.Mathlib.Omega.{arith}
 use lib.Dec.{eqb}
 use lib.ListN.{length, get_or, take, drop, length-map, length-drop, drop_of_length-le}
 use lib.Seq.{length-take-le, get_or-take, get_or-drop, drop-cons}
+use mir.Val.{bool_byte}
 use borrow.Author.Tests.{ne_eqb, eqb-true, not-true, not-false}
 use Rattle.numbers.specs.Numbers.{tab}
 use Rattle.numbers.proofs.Lists.{tab-of, tab-same, length-tab, get_d-tab}
@@ -18,10 +19,10 @@ use Rattle.mend.specs.Mend.{Bytes, minute_of, count_of, records_of, of_meter, nu
 use Rattle.mend.specs.inner.State.{at_start, least_in, fates_in, after_in, least_of, Holds, Pieced, reasons_in, file_in}
 use Rattle.mend.proofs.Fates.{length-fates}
 use Rattle.mend.proofs.State.{holds-none, fates-same, after_holds}
-use Rattle.mend_call.specs.declared.Outcome.TheVariants.{Done, Refused}
 use Rattle.mend_call.specs.Promise.{mend_call, bits, Mends}
 use Rattle.mend_call.specs.Claims.{OneAnswer}
 use Rattle.mend_call.specs.inner.Work.{there_in}
+use Rattle.std.specs.Prelude.{Ok, Err}
 
 pub one_answer : OneAnswer
 one_answer c r r' k k' k'' w w' w'' t t' t'' o o' o'' a b =
@@ -40,21 +41,21 @@ pub bits_none : (s : List ℕ) → 0 ≡ bits (drop 16 (there_in s))
 unfolding there_in bits
 bits_none s = let l = length-tab 16 (λ m. not (eqb (least_in s m) 0)) in rw (drop_of_length-le (tab 16 (λ m. not (eqb (least_in s m) 0))) {i = 16} (omega (arith, l))) refl
 
-marked : (b : Bool) → cond {A = ℕ} b 0 1 ≡ cond (not b) 1 0
+marked : (b : Bool) → bool_byte b ≡ cond b 1 0
 marked true = refl
 marked false = refl
 
-pub bits-more : (s : List ℕ) (m k v : ℕ) → 0 < m → m ≤ 16 → k ≡ cond (eqb (least_in s (m - 1)) 0) 0 1 → v ≡ bits (drop m (there_in s)) → k + 2 * v ≡ bits (drop (m - 1) (there_in s))
+pub bits-more : (s : List ℕ) (m k v : ℕ) → 0 < m → m ≤ 16 → k ≡ bool_byte (not (eqb (least_in s (m - 1)) 0)) → v ≡ bits (drop m (there_in s)) → 2 * v + k ≡ bits (drop (m - 1) (there_in s))
 unfolding bits
 bits-more s m k v h l e f =
     let n : suc (m - 1) ≡ m = omega (arith, h) in
     let x = not (eqb (least_in s (m - 1)) 0) in
     let a : bits (drop (m - 1) (there_in s)) ≡ cond x 1 0 + 2 * bits (drop (suc (m - 1)) (there_in s)) = ap bits (there-at s (m - 1) (omega (arith, h, l))) in
-    let b : k ≡ cond x 1 0 = e ∙ marked (eqb (least_in s (m - 1)) 0) in
+    let b : k ≡ cond x 1 0 = e ∙ marked x in
     let c : bits (drop (suc (m - 1)) (there_in s)) ≡ v = ap (λ (j : ℕ). bits (drop j (there_in s))) n ∙ sym f in
     omega (arith, a, b, c)
 
-pub bits_below : (m k v : ℕ) → 0 < m → m ≤ 16 → k ≤ 1 → v < 2 ^ (16 - m) → k + 2 * v < 2 ^ (16 - (m - 1))
+pub bits_below : (m k v : ℕ) → 0 < m → m ≤ 16 → k ≤ 1 → v < 2 ^ (16 - m) → 2 * v + k < 2 ^ (16 - (m - 1))
 bits_below m k v h l e f =
     let n : 16 - (m - 1) ≡ suc (16 - m) = omega (arith, h, l) in
     let p : 2 ^ suc (16 - m) ≡ 2 * 2 ^ (16 - m) = pow-succ' 2 (16 - m) in
@@ -63,9 +64,9 @@ bits_below m k v h l e f =
 pub bits_fit : (m v : ℕ) → m ≤ 16 → v < 2 ^ (16 - m) → v < 65536
 bits_fit m v h l = let p : 2 ^ (16 - m) ≤ 2 ^ 16 = pow-le-pow_right {n = 2} (omega arith) {i = 16 - m} {j = 16} (omega arith) in omega (arith, p, l)
 
-pub mark-below : (b : Bool) → cond b 0 1 ≤ 1
-mark-below true = omega arith
-mark-below false = omega arith
+pub mark-below : (b : Bool) (k : ℕ) → k ≡ bool_byte b → k ≤ 1
+mark-below true k e = omega (arith, e)
+mark-below false k e = omega (arith, e)
 
 -- ---- numbers one after the other
 
@@ -124,7 +125,7 @@ length-told bs =
 
 module _ (bs kept reasons totals rollovers : List ℕ) where
   pub refuse : (t : Bool) → t ≡ (eqb (length kept) (length bs) && eqb (length reasons) (count_of (length bs)) && eqb (length totals) 16 && eqb (length rollovers) 16) → not t ≡ true
-      → Mends (mend_call bs kept reasons totals rollovers) (Refused Length) kept kept reasons reasons totals totals rollovers rollovers
+      → Mends (mend_call bs kept reasons totals rollovers) (Err Length) kept kept reasons reasons totals totals rollovers rollovers
   refuse t e h =
       let f = sym e ∙ not-true t h in
       record { the_outcome = rw f refl; the_file = rw f refl; the_reasons = rw f refl; the_totals = rw f refl; the_rollovers = rw f refl }
@@ -145,7 +146,7 @@ module _ (bs kept reasons totals rollovers : List ℕ) where
 
     pub answers : (s s' kept' reasons' totals' rollovers' : List ℕ) (n k : ℕ) → s ≡ at_start → Pieced (records_of bs) n kept kept' reasons reasons' s s'
         → totals' ≡ take 16 (drop 32 s') → rollovers' ≡ take 16 (drop 48 s') → k ≡ bits (there_in s')
-        → Mends (mend_call bs kept reasons totals rollovers) (Done (record { kept = n; meters = k })) kept kept' reasons reasons' totals totals' rollovers rollovers'
+        → Mends (mend_call bs kept reasons totals rollovers) (Ok (record { kept = n; meters = k })) kept kept' reasons reasons' totals totals' rollovers rollovers'
     unfolding placed
     answers s s' kept' reasons' totals' rollovers' n k z p a b m =
         let file : file_in s (records_of bs) ≡ (mend bs).file = ap (λ (x : List ℕ). file_in x (records_of bs)) z ∙ the_file bs in

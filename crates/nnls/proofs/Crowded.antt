@@ -3,7 +3,7 @@ use mathlib.Core.Path.{◌≡◌, refl, sym, ap, ap₂, ◌∙◌, subst}
 use mathlib.Core.Logic.{◌≢◌, inl, inr}
 use mathlib.Core.Bool.{Bool, true, false, not, cond, ◌&&◌}
 use mathlib.Core.List.{List}
-use mathlib.Core.Option.{Option, none, some}
+use Rattle.std.specs.Prelude.{Option, None, Some}
 use Prim.Native.Nat.{ℕ, zero, suc, ◌+◌, ◌≤◌, ◌<◌}
 use native.Mathlib.Decide.{ℕ_discrete}
 use native.Mathlib.Numerals.{add-one}
@@ -20,8 +20,8 @@ use Rattle.workspace.proofs.Readings.{at-vec, nth-front, nth-nums, length-nums}
 use Rattle.workspace.proofs.Writes.{written_none, written-more, span-nums}
 use Rattle.nnls_passive.specs.Passive.{is_in, Solved}
 use Rattle.nnls_passive.specs.inner.Work.{Crowded}
-use Rattle.nnls.specs.Nnls.{above0, may_try, choose, keeps, PassEnd, ended, tries}
-use Rattle.nnls.specs.inner.State.{State, read, put, solve_in}
+use Rattle.nnls.specs.Nnls.{above0, may_try, choose, keeps, ended, tries}
+use Rattle.nnls.specs.inner.State.{State, read, solve_in}
 use Rattle.nnls.specs.inner.Work.{Passed}
 use Rattle.nnls.specs.inner.Back.{open_to, open_at, open_of, TurnedBack}
 use Rattle.nnls.proofs.Signs.{and-false}
@@ -29,7 +29,7 @@ use Rattle.nnls.proofs.Count.{bit, count, count-drop, count-more, count-both, co
 use Rattle.nnls.proofs.Lists.{in-set-same, in-set-other}
 use Rattle.nnls.proofs.Picks.{choose-some, choose-none}
 use Rattle.nnls.proofs.Passing.{can-try}
-use Rattle.nnls.proofs.States.{states, same-marks}
+use Rattle.nnls.proofs.States.{same-marks}
 use Rattle.nnls.proofs.Unroll.{tries-none, tries-again}
 
 T→true : (b : Bool) → T b → b ≡ true
@@ -77,7 +77,7 @@ module _ (n : ℕ) (solve : List ℕ → Solved) (w : List Float) (p : List ℕ)
   abbrev Back : ℕ → List ℕ → ℕ → Type 0
   Back left rej f = tries n solve left w p rej f ≡ ended (marked rej) (f + count n (may_try w p rej))
 
-  none-back : (left : ℕ) (rej : List ℕ) (f : ℕ) → length rej ≡ n → choose w p rej n ≡ none → Back left rej f
+  none-back : (left : ℕ) (rej : List ℕ) (f : ℕ) → length rej ≡ n → choose w p rej n ≡ None → Back left rej f
   unfolding marked
   none-back left rej f s e =
       let z : count n (may_try w p rej) ≡ 0 = count_none n (may_try w p rej) (choose-none w p rej n e) in
@@ -85,10 +85,10 @@ module _ (n : ℕ) (solve : List ℕ → Solved) (w : List Float) (p : List ℕ)
       ∙ ap₂ ended (tab-of n rej (λ j. cond (may_try w p rej j) 1 (nth rej j)) 0 s (λ j k. sym (ap (λ (b : Bool). cond b 1 (nth rej j)) (choose-none w p rej n e j k)))) (omega arith)
 
   module _ (crowd : (t : ℕ) → t < n → nth p t ≡ 0 → (solve (set p t 1)).full ≡ false) where
-    refused : (rej : List ℕ) (t : ℕ) → choose w p rej n ≡ some t → keeps (solve (set p t 1)) t ≡ false
+    refused : (rej : List ℕ) (t : ℕ) → choose w p rej n ≡ Some t → keeps (solve (set p t 1)) t ≡ false
     refused rej t e = let c = can-try w p rej n t e in ap (λ (b : Bool). b && above0 (at (solve (set p t 1)).z t)) (crowd t c.0 c.1)
 
-    one-back : (left : ℕ) (rej : List ℕ) (f t : ℕ) → length rej ≡ n → count n (may_try w p rej) ≤ suc left → choose w p rej n ≡ some t
+    one-back : (left : ℕ) (rej : List ℕ) (f t : ℕ) → length rej ≡ n → count n (may_try w p rej) ≤ suc left → choose w p rej n ≡ Some t
         → ((r : List ℕ) (g : ℕ) → length r ≡ n → count n (may_try w p r) ≤ left → Back left r g) → Back (suc left) rej f
     one-back left rej f t s h e again =
         let c = choose-some w p rej n t e in
@@ -105,13 +105,13 @@ module _ (n : ℕ) (solve : List ℕ → Solved) (w : List Float) (p : List ℕ)
         none_left a b = omega arith
 
         go : (c : Option ℕ) → choose w p rej n ≡ c → Back 0 rej f
-        go none e = none-back 0 rej f s e
-        go (some t) e = let c = choose-some w p rej n t e in absurd (none_left (count-some n (may_try w p rej) t c.0 c.1) h)
+        go None e = none-back 0 rej f s e
+        go (Some t) e = let c = choose-some w p rej n t e in absurd (none_left (count-some n (may_try w p rej) t c.0 c.1) h)
     all_back (suc left) rej f s h = go (choose w p rej n) refl (all_back left)
       where
         go : (c : Option ℕ) → choose w p rej n ≡ c → ((r : List ℕ) (g : ℕ) → length r ≡ n → count n (may_try w p r) ≤ left → Back left r g) → Back (suc left) rej f
-        go none e again = none-back (suc left) rej f s e
-        go (some t) e again = one-back left rej f t s h e again
+        go None e again = none-back (suc left) rej f s e
+        go (Some t) e again = one-back left rej f t s h e again
 
 -- ---- what the code turns back
 

@@ -2,7 +2,7 @@
 use mathlib.Core.Path.{◌≡◌, refl, sym, ap, ap₂, ◌∙◌}
 use mathlib.Core.Bool.{Bool, true, false, true≢false}
 use mathlib.Core.List.{List}
-use mathlib.Core.Option.{Option, none, some}
+use Rattle.std.specs.Prelude.{Option, None, Some}
 use Prim.Native.Nat.{ℕ, zero, suc, ◌+◌, ◌-◌, ◌*◌, ◌≤◌}
 use native.Mathlib.Omega.{arith}
 use lib.ListN.{set, replicate}
@@ -28,8 +28,8 @@ module _ (n : ℕ) (solve : List ℕ → Solved) where
     where
       go : (c : Option ℕ) → ((rej : List ℕ) (f e : ℕ) → tries n solve left w p rej (f + e) ≡ raised e (tries n solve left w p rej f))
           → try_next n solve c p rej (f + e) (tries n solve left w p) ≡ raised e (try_next n solve c p rej f (tries n solve left w p))
-      go none again = refl
-      go (some t) again = judged (keeps (solve (set p t 1)) t)
+      go None again = refl
+      go (Some t) again = judged (keeps (solve (set p t 1)) t)
         where
           judged : (b : Bool) → judge b (set p t 1) (solve (set p t 1)).z (suc (f + e)) (tries n solve left w p (set rej t 1))
               ≡ raised e (judge b (set p t 1) (solve (set p t 1)).z (suc f) (tries n solve left w p (set rej t 1)))

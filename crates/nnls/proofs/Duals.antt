@@ -5,7 +5,7 @@ use Prim.Native.Nat.{ℕ, ◌+◌, ◌*◌, ◌≤◌, ◌<◌}
 use native.Mathlib.Omega.{arith}
 use lib.ListN.{replicate}
 use lib.Ieee.{Float, nan}
-use Rattle.numbers.specs.Numbers.{at, Σ, ◌⊖◌, ◌⊗◌}
+use Rattle.numbers.specs.Numbers.{at, ◌⊖◌, ◌⊗◌}
 use Rattle.numbers.proofs.Lists.{get_d-tab}
 use Rattle.workspace.specs.Readings.{vec, mat, nums, Block, Span}
 use Rattle.workspace.proofs.Readings.{vec-is, at-vec, entry-mat}

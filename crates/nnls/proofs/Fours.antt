@@ -5,12 +5,12 @@ use Prim.Native.Nat.{ℕ, ◌+◌, ◌*◌, ◌≤◌, ◌<◌}
 use native.Mathlib.Omega.{arith}
 use lib.ListN.{length, set, length-set}
 use lib.Ieee.{Float, nan}
-use Rattle.numbers.specs.Numbers.{at, Σ, ◌⊖◌, ◌⊗◌}
+use Rattle.numbers.specs.Numbers.{◌⊖◌, ◌⊗◌}
 use Rattle.numbers.proofs.Sums.{Σ-same}
 use Rattle.workspace.specs.Readings.{Block}
 use Rattle.workspace.proofs.Writes.{written-more}
 use Rattle.nnls.specs.inner.Dual.{residual_at, dual_at, row_sum, four_of, four_rows, set_four}
-use Rattle.nnls.specs.declared.dual.Four.{Four}
+use Rattle.householder.specs.declared.Four.{Four}
 
 -- the entries are the same before and after some are written
 pub residual-same : (m n : ℕ) (v w : List Float) → m ≤ 18 → n ≤ 66 → (c : ℕ) → c ≤ m → Block 1404 c (residual_at n v) v w → (i : ℕ) → i < m → residual_at n w i ≡ residual_at n v i

@@ -2,7 +2,7 @@
 use mathlib.Core.Path.{◌≡◌, refl, sym, ap, ap₂, ◌∙◌, subst}
 use mathlib.Core.Bool.{Bool, true, false, not, cond, ◌&&◌, true≢false}
 use mathlib.Core.List.{List}
-use mathlib.Core.Option.{none, some}
+use Rattle.std.specs.Prelude.{None, Some}
 use Prim.Native.Nat.{ℕ, ◌+◌, ◌-◌, ◌≤◌, ◌<◌}
 use native.Mathlib.Omega.{arith}
 use lib.Dec.{T, eqb}
@@ -19,7 +19,7 @@ use Rattle.nnls.proofs.Picks.{choose-some}
 use Rattle.nnls.proofs.Unroll.{tries-none, tries-out, tries-kept, tries-again}
 
 -- what a choice says of the column: it is one, and it is outside
-pub can-try : (w : List Float) (p rej : List ℕ) (n t : ℕ) → choose w p rej n ≡ some t → (t < n) × (nth p t ≡ 0)
+pub can-try : (w : List Float) (p rej : List ℕ) (n t : ℕ) → choose w p rej n ≡ Some t → (t < n) × (nth p t ≡ 0)
 can-try w p rej n t e =
     let a = choose-some w p rej n t e in
     (a.0, go (eqb (nth p t) 0) (eqb-true (nth p t) 0) (and_l (not (is_in p t)) (not (is_in rej t) && above0 (at w t)) a.1))
@@ -64,18 +64,22 @@ module _ (m n f : ℕ) (s₀ s : State) (count : ℕ) (g : Trying m n f s₀ s c
         few = let i = g.within in omega arith;
       }
 
-  pub pass-nothing : choose s.dual s.passive s.rejected n ≡ none
+  pub pass-nothing : choose s.dual s.passive s.rejected n ≡ None
       → Passed (tries n (solve_in m n s₀) n s₀.dual s₀.passive s₀.rejected f) (f + n) (record { kept = false; factorings = f + count }) s₀ s
   unfolding goal
   pass-nothing e = out (tries-none n (solve_in m n s₀) s₀.dual s₀.passive s.rejected (f + count) (n - count) (sym choice ∙ e))
 
   pub pass-out : n ≤ count
-      → Passed (tries n (solve_in m n s₀) n s₀.dual s₀.passive s₀.rejected f) (f + n) (record { kept = false; factorings = f + count }) s₀ s
+      → Passed (tries n (solve_in m n s₀) n s₀.dual s₀.passive s₀.rejected f) (f + n) (record { kept = false; factorings = f + n }) s₀ s
   unfolding goal
-  pass-out l = out (tries-out n (solve_in m n s₀) s₀.dual s₀.passive s.rejected (f + count) (n - count) (omega arith))
+  pass-out l =
+      let i = g.within in
+      let e : count ≡ n = omega (arith, i, l) in
+      subst (λ (i : ℕ). Passed (tries n (solve_in m n s₀) n s₀.dual s₀.passive s₀.rejected f) (f + n) (record { kept = false; factorings = f + i }) s₀ s) e
+      (out (tries-out n (solve_in m n s₀) s₀.dual s₀.passive s.rejected (f + count) (n - count) (omega arith)))
 
-  module _ (t : ℕ) (e : choose s.dual s.passive s.rejected n ≡ some t) (l : count < n) (r : Bool) (s' : State) (tr : TriedColumn m n t r s s') where
-    e₀ : choose s₀.dual s₀.passive s.rejected n ≡ some t
+  module _ (t : ℕ) (e : choose s.dual s.passive s.rejected n ≡ Some t) (l : count < n) (r : Bool) (s' : State) (tr : TriedColumn m n t r s s') where
+    e₀ : choose s₀.dual s₀.passive s.rejected n ≡ Some t
     e₀ = sym choice ∙ e
 
     tr₀ : TriedColumn m n t r (put s₀.x s.z s₀.dual s₀.passive s.rejected s₀) s'

@@ -1,8 +1,9 @@
 -- The passive set that is remembered: the rounds lead from it to where they are, and around where it comes back.
 use mathlib.Core.Path.{◌≡◌, refl, sym, ap, ap₂, ◌∙◌, subst}
 use mathlib.Core.Logic.{inl, inr}
-use mathlib.Core.Bool.{Bool, true, false, not, cond, ◌&&◌, true≢false}
+use mathlib.Core.Bool.{Bool, true, false, not, cond, ◌&&◌}
 use mathlib.Core.List.{List}
+use Rattle.std.specs.Prelude.{Result, Ok, Err}
 use Prim.Native.Nat.{ℕ, zero, suc, ◌+◌, ◌-◌, ◌*◌, ◌≤◌, ◌<◌}
 use native.Mathlib.Nat.{not-suc-le-zero}
 use native.Mathlib.Omega.{arith}
@@ -308,7 +309,7 @@ module _ (n : ℕ) (dual : List Float → List Float) (solve : List ℕ → Solv
           let B = T.pairs i j b d e in
           record { from = B.from; to = B.to; from-size = B.from-size; to-size = B.to-size; from_low = B.from_low; to_low = B.to_low; from-digits = B.from-digits; to-digits = B.to-digits; more = B.more; leads = B.leads }
 
-      pub round-on : (low high : ℕ) → (4 ≤ past + 1 → Digits n p' low high) → GoesOn k x' p' (past + 1) f' h (record { past = past + 1; factorings = f'; held = held; low = low; high = high; ended = false })
+      pub round-on : (low high : ℕ) → (4 ≤ past + 1 → Digits n p' low high) → GoesOn k x' p' (past + 1) f' h (record { past = past + 1; factorings = f'; held = held; low = low; high = high })
       round-on low high D = record {
         trail = record { each = onward-each; pairs = onward-pairs };
         strict = λ i b. let a = (T.each i b).earlier in omega (arith, a);
@@ -327,7 +328,7 @@ module _ (n : ℕ) (dual : List Float → List Float) (solve : List ℕ → Solv
             look-back x x' p p' (mark_at h i past f) f' F (T.each i b) l u once k w v
             (digits-told n (nth h (5 * i)) (nth h (5 * i + 1)) (T.each i b).marks p' (T.each i b).size F.size (T.each i b).low F.low (T.each i b).digits D) r R
 
-        pub back_on : (low high : ℕ) → Digits n p' low high → GoesOn k x' p' (past + 1) f' h (record { past = r.past; factorings = r.factorings; held = 0; low = low; high = high; ended = false })
+        pub back_on : (low high : ℕ) → Digits n p' low high → GoesOn k x' p' (past + 1) f' h (record { past = r.past; factorings = r.factorings; held = 0; low = low; high = high })
         back_on low high E = record {
           trail = record { each = λ j z. absurd (not-suc-le-zero z); pairs = λ j t z. absurd (not-suc-le-zero z) };
           strict = λ j z. absurd (not-suc-le-zero z);
@@ -378,31 +379,23 @@ module _ (n : ℕ) (dual : List Float → List Float) (solve : List ℕ → Solv
 
   -- ---- a look back, after a round
 
-  pub record Outcome (k : ℕ) (x : List Float) (p : List ℕ) (past f : ℕ) (h : List ℕ) (r : Course) : Type 0 where
-    pub goes : r.ended ≡ false → GoesOn k x p past f h r
-    pub ends : r.ended ≡ true → rounds n dual solve (k - past) x p past f ≡ Capped r.past r.factorings
+  -- the rounds go on; or all that were left are counted
+  abbrev pub Outcome : (k : ℕ) (x : List Float) (p : List ℕ) (past f : ℕ) (h : List ℕ) → Result Course Counts → Type 0
+  Outcome k x p past f h (Ok r) = GoesOn k x p past f h r
+  Outcome k x p past f h (Err r) = rounds n dual solve (k - past) x p past f ≡ Capped r.past r.factorings
 
   pub looked : (x x' : List Float) (p p' h h' : List ℕ) (c : Course) (g f : ℕ) → Fixed n solve x p → Fixed n solve x' p' → (4 ≤ c.past → Digits n p c.low c.high) → ((i : ℕ) → i < c.held → nth h (5 * i + 2) < c.past)
       → Trail x p h c.held c.past c.factorings → c.held ≤ 16 → (p₁ : List ℕ) (z₁ : List Float) → pass n dual solve x p c.factorings ≡ kept p₁ z₁ g → g ≤ c.factorings + 66 → c.factorings ≤ f → f ≤ c.factorings + 132
-      → Leads n dual solve x p 1 (f - c.factorings) x' p' → (k : ℕ) → c.past < k → f ≤ 132 * (c.past + 1) → (r : Course) → LookedBack n k p' c g f h h' r → Outcome k x' p' (c.past + 1) f h' r
-  looked x x' p p' h h' c g f F F' D S T full p₁ z₁ K u l m once k w v r (goes_on held R low high E) =
+      → Leads n dual solve x p 1 (f - c.factorings) x' p' → (k : ℕ) → c.past < k → f ≤ 132 * (c.past + 1) → (r : Result Course Counts) → LookedBack n k p' c g f h h' r → Outcome k x' p' (c.past + 1) f h' r
+  looked x x' p p' h h' c g f F F' D S T full p₁ z₁ K u l m once k w v _ (goes_on held R low high E) =
       let T' = trail-recorded x p h h' c.held c.low c.high c.past c.factorings g held F D S T p₁ z₁ K u R in
       let full' = recorded-full c.past c.factorings c.held c.low c.high g h h' held R full in
-      record {
-        goes = λ e. round-on x x' p p' h' held c.past c.factorings f F' T' full' l m once k w v low high E;
-        ends = λ e. absurd (true≢false (sym e));
-      }
+      round-on x x' p p' h' held c.past c.factorings f F' T' full' l m once k w v low high E
   looked x x' p p' h h' c g f F F' D S T full p₁ z₁ K u l m once k w v r (came_back held R i b E low high Eₙ r₁ C) =
       let T' = trail-recorded x p h h' c.held c.low c.high c.past c.factorings g held F D S T p₁ z₁ K u R in
       let full' = recorded-full c.past c.factorings c.held c.low c.high g h h' held R full in
       go T' full' r₁ C
     where
-      go : Trail x p h' held c.past c.factorings → held ≤ 16 → (s : Course) → CameBack h' held i low high (c.past + 1) f k s → Outcome k x' p' (c.past + 1) f h' s
-      go T' full' _ (onward q Q) = record {
-        goes = λ e. back_on x x' p p' h' held c.past c.factorings f F' T' full' l m once k w v i b E q Q low high Eₙ;
-        ends = λ e. absurd (true≢false (sym e));
-      }
-      go T' full' _ (ended q Q t bt et) = record {
-        goes = λ e. absurd (true≢false e);
-        ends = λ e. back-ended x x' p p' h' held c.past c.factorings f F' T' full' l m once k w v i b E q Q t bt et;
-      }
+      go : Trail x p h' held c.past c.factorings → held ≤ 16 → (s : Result Course Counts) → CameBack h' held i low high (c.past + 1) f k s → Outcome k x' p' (c.past + 1) f h' s
+      go T' full' _ (onward q Q) = back_on x x' p p' h' held c.past c.factorings f F' T' full' l m once k w v i b E q Q low high Eₙ
+      go T' full' _ (ended q Q t bt et) = back-ended x x' p p' h' held c.past c.factorings f F' T' full' l m once k w v i b E q Q t bt et

@@ -1,6 +1,6 @@
 -- One pass, the loop of the rounds, and the whole kernel, over states.
 use mathlib.Core.Path.{◌≡◌, refl, sym, ap, ap₂, ◌∙◌, subst}
-use mathlib.Core.Bool.{Bool, true, false, cond, true≢false}
+use mathlib.Core.Bool.{Bool, true, false, cond}
 use mathlib.Core.List.{List}
 use Prim.Native.Nat.{ℕ, ◌+◌, ◌-◌, ◌*◌, ◌≤◌, ◌<◌}
 use native.Mathlib.Nat.{not-suc-le-zero}
@@ -20,8 +20,8 @@ use Rattle.nnls.proofs.Solves.{solver}
 use Rattle.nnls.proofs.Cycles.{Leads, leads-once, pass-more, turns_more}
 use Rattle.nnls.proofs.Remembered.{Fixed, fixed-none, fixed-again, Trail, all-behind, Outcome, looked}
 use Rattle.nnls.specs.declared.Pass.{Pass}
-use Rattle.nnls.specs.declared.RoundsEnd.{RoundsEnd}
-use Rattle.nnls.specs.declared.RoundsEnd.TheVariants as RoundsEnd
+use Rattle.nnls.specs.declared.memory.Counts.{Counts}
+use Rattle.std.specs.Prelude.{Result, Ok, Err, ⊤}
 use Rattle.nnls.proofs.Unroll.{rounds-ended, rounds-last, rounds-again}
 
 -- s has the problem of s₀
@@ -56,7 +56,7 @@ pub record Running (m n k : ℕ) (s₀ s : State) (memory : List ℕ) (c : Cours
   pub numbers : 4 ≤ c.past → Digits n s.passive c.low c.high
   pub trail : Trail n (dual_in m n s₀) (solve_in m n s₀) s.x s.passive memory c.held c.past c.factorings
 
-pub running_none : (m n k : ℕ) (s : State) (memory : List ℕ) → s.x ≡ replicate n +0 → s.passive ≡ replicate n 0 → Running m n k s s memory (record { past = 0; factorings = 0; held = 0; low = 0; high = 0; ended = false })
+pub running_none : (m n k : ℕ) (s : State) (memory : List ℕ) → s.x ≡ replicate n +0 → s.passive ≡ replicate n 0 → Running m n k s s memory (record { past = 0; factorings = 0; held = 0; low = 0; high = 0 })
 running_none m n k s memory ex ep =
     let none = fixed-none n (solve_in m n s) (solver m n s.a s.b) in
     let F₀ : Fixed n (solve_in m n s) s.x (replicate n 0) = subst (λ (v : List Float). Fixed n (solve_in m n s) v (replicate n 0)) (sym ex) none in
@@ -95,7 +95,7 @@ module _ (m n k : ℕ) (s₀ s : State) (past f : ℕ) (n66 : n ≤ 66) (g : Goi
   b-same = ap (λ (q : State). q.b) P.after ∙ ap (λ (q : State). q.b) g.after
 
   pub round-accept : t.kept ≡ false
-      → Rounded (rounds n (dual_in m n s₀) (solve_in m n s₀) k s₀.x s₀.passive 0 0) (RoundsEnd.Accepted past t.factorings) s₀ s'
+      → Rounded (rounds n (dual_in m n s₀) (solve_in m n s₀) k s₀.x s₀.passive 0 0) (Ok (record { past = past; factorings = t.factorings })) s₀ s'
   round-accept h = record {
     answer =
         ap₂ (λ (x : List Float) (q : List ℕ). accept x q s'.rejected past t.factorings) x-same (P.unchanged h)
@@ -104,7 +104,7 @@ module _ (m n k : ℕ) (s₀ s : State) (past f : ℕ) (n66 : n ≤ 66) (g : Goi
   }
 
   pub round-capped : k ≤ past → t.kept ≡ true
-      → Rounded (rounds n (dual_in m n s₀) (solve_in m n s₀) k s₀.x s₀.passive 0 0) (RoundsEnd.Capped past t.factorings) s₀ s'
+      → Rounded (rounds n (dual_in m n s₀) (solve_in m n s₀) k s₀.x s₀.passive 0 0) (Err (record { past = past; factorings = t.factorings })) s₀ s'
   round-capped l h = record {
     answer = sym (g.rest ∙ rounds-last n (dual_in m n s₀) (solve_in m n s₀) s.x s.passive past f (k - past) s'.passive s'.z t.factorings (omega arith) (was-kept h));
     after = same-problem s' s₀ a-same b-same;
@@ -207,19 +207,19 @@ module _ (m n k : ℕ) (s₀ s : State) (memory : List ℕ) (c : Course) (n66 : 
     marks = λ j b. subst (λ (v : ℕ). v ≤ 1) (ap (λ (q : List ℕ). nth q j) ew ∙ nth-front n j w b) (next.fixed.low j b);
   }
 
-  outcome : (memory' : List ℕ) (r : Course) → LookedBack n k s₃.passive c t.factorings f' memory memory' r → Outcome n (dual_in m n s₀) (solve_in m n s₀) k s₃.x s₃.passive (c.past + 1) f' memory' r
+  outcome : (memory' : List ℕ) (r : Result Course Counts) → LookedBack n k s₃.passive c t.factorings f' memory memory' r → Outcome n (dual_in m n s₀) (solve_in m n s₀) k s₃.x s₃.passive (c.past + 1) f' memory' r
   outcome memory' r L =
       looked n (dual_in m n s₀) (solve_in m n s₀) s.x s₃.x s.passive s₃.passive memory memory' c t.factorings f' R.going.fixed next.fixed R.numbers R.strict R.trail R.full s'.passive s'.z
       (was-kept m n k s₀ s c.past c.factorings n66 R.going t s' P h) tried more most once k l next.few r L
 
   -- the rounds end here: their limit is reached
-  pub look-ended : (memory' : List ℕ) (r : Course) → LookedBack n k s₃.passive c t.factorings f' memory memory' r → r.ended ≡ true
-      → Rounded (rounds n (dual_in m n s₀) (solve_in m n s₀) k s₀.x s₀.passive 0 0) (RoundsEnd.Capped r.past r.factorings) s₀ s₃
-  look-ended memory' r L b = record { answer = sym (next.rest ∙ (outcome memory' r L).ends b); after = next.after }
+  pub look-ended : (memory' : List ℕ) (r : Counts) → LookedBack n k s₃.passive c t.factorings f' memory memory' (Err r)
+      → Rounded (rounds n (dual_in m n s₀) (solve_in m n s₀) k s₀.x s₀.passive 0 0) (Err r) s₀ s₃
+  look-ended memory' r L = record { answer = sym (next.rest ∙ outcome memory' (Err r) L); after = next.after }
 
-  pub look-again : (memory' : List ℕ) (r : Course) → LookedBack n k s₃.passive c t.factorings f' memory memory' r → r.ended ≡ false → Running m n k s₀ s₃ memory' r
-  look-again memory' r L b =
-      let K = (outcome memory' r L).goes b in
+  pub look-again : (memory' : List ℕ) (r : Course) → LookedBack n k s₃.passive c t.factorings f' memory memory' (Ok r) → Running m n k s₀ s₃ memory' r
+  look-again memory' r L =
+      let K = outcome memory' (Ok r) L in
       let i1 = K.ahead in
       let i2 = K.within in
       let i3 = K.more in
@@ -242,19 +242,25 @@ module _ (m n k : ℕ) (s₀ s : State) (memory : List ℕ) (c : Course) (n66 : 
       }
 
 -- where rounds are left to run, no round that is past comes back
-came-further : (h : List ℕ) (held i low high past f k : ℕ) (r : Course) → CameBack h held i low high past f k r → r.ended ≡ false → past ≤ r.past
-came-further h held i low high past f k _ (onward r Q) b = let e = Q.rounds in omega (arith, e)
-came-further h held i low high past f k _ (ended r Q t lt et) b = absurd (true≢false b)
+abbrev Further : ℕ → Result Course Counts → Type 0
+Further past (Ok r) = past ≤ r.past
+Further past (Err r) = ⊤
+
+came-further : (h : List ℕ) (held i low high past f k : ℕ) (r : Result Course Counts) → CameBack h held i low high past f k r → Further past r
+came-further h held i low high past f k _ (onward r Q) = let e = Q.rounds in omega (arith, e)
+came-further h held i low high past f k _ (ended r Q t lt et) = tt
+
+looked-further : (n k : ℕ) (p : List ℕ) (c : Course) (g f : ℕ) (h h' : List ℕ) (r : Result Course Counts) → LookedBack n k p c g f h h' r → Further (c.past + 1) r
+looked-further n k p c g f h h' _ (goes_on held R low high E) = omega arith
+looked-further n k p c g f h h' _ (came_back held R i l D low high E r came) = came-further h' held i low high (c.past + 1) f k r came
 
 -- it comes further
-pub look-further : (n k : ℕ) (p : List ℕ) (c : Course) (g f : ℕ) (h h' : List ℕ) (r : Course) → LookedBack n k p c g f h h' r → r.ended ≡ false → c.past < r.past
-look-further n k p c g f h h' _ (goes_on held R low high E) b = omega arith
-look-further n k p c g f h h' _ (came_back held R i l D low high E r came) b =
-    omega (arith, came-further h' held i low high (c.past + 1) f k r came b)
+pub look-further : (n k : ℕ) (p : List ℕ) (c : Course) (g f : ℕ) (h h' : List ℕ) (r : Course) → LookedBack n k p c g f h h' (Ok r) → c.past < r.past
+look-further n k p c g f h h' r L = let e : c.past + 1 ≤ r.past = looked-further n k p c g f h h' (Ok r) L in omega (arith, e)
 
 -- ---- the whole
 
-pub nnls-whole : (m n k : ℕ) (s s₁ s' : State) (r : RoundsEnd) → s₁ ≡ put (replicate n +0) s.z s.dual (replicate n 0) s.rejected s
+pub nnls-whole : (m n k : ℕ) (s s₁ s' : State) (r : Result Counts Counts) → s₁ ≡ put (replicate n +0) s.z s.dual (replicate n 0) s.rejected s
     → Rounded (rounds n (dual_in m n s₁) (solve_in m n s₁) k s₁.x s₁.passive 0 0) r s₁ s' → Rounded (nnls m n s.a s.b k) r s s'
 unfolding nnls active_set
 nnls-whole m n k s s₁ s' r e p =

@@ -1,11 +1,6 @@
 -- The tries and turns allowed never run out.
-use mathlib.Core.Path.{◌≡◌, subst}
-use mathlib.Core.Bool.{true}
-use mathlib.Core.List.{List}
-use Prim.Native.Nat.{ℕ, ◌+◌, ◌<◌}
-use lib.Ieee.{Float}
-use Rattle.nnls_passive.specs.Passive.{is_in, Solved}
-use Rattle.nnls.specs.Nnls.{PassEnd, ended, pass, turns}
+use mathlib.Core.Path.{subst}
+use Prim.Native.Nat.{◌+◌}
 use Rattle.nnls.specs.Claims.{TriesSuffice, TurnsSuffice}
 use Rattle.nnls.proofs.Count.{count}
 use Rattle.nnls.proofs.Loops.{outside, PassOk, pass-ok, turns-suffice}

@@ -9,7 +9,7 @@ use lib.ListN.{length, set, length-set}
 use lib.Seq.{get_or-set_other, set-set, set-get_or}
 use lib.Ieee.{Float}
 use Rattle.numbers.specs.Numbers.{at, nth}
-use Rattle.workspace.specs.Readings.{vec, mat, nums}
+use Rattle.workspace.specs.Readings.{vec, nums}
 use Rattle.workspace.proofs.Readings.{at-vec, nums-set, nums-set-front, nth-front}
 use Rattle.nnls_passive.specs.inner.Work.{PassiveSolved}
 use Rattle.nnls.specs.Nnls.{above0, keeps}

@@ -1,5 +1,5 @@
 -- The loop of the turns, over states.
-use mathlib.Core.Path.{◌≡◌, refl, sym, ap, ap₂, ◌∙◌}
+use mathlib.Core.Path.{◌≡◌, refl, sym, ap, ap₂, ◌∙◌, subst}
 use Prim.Native.Nat.{ℕ, ◌+◌, ◌-◌, ◌≤◌, ◌<◌}
 use native.Mathlib.Omega.{arith}
 use lib.Ieee.{Float}
@@ -38,8 +38,12 @@ module _ (m n f : ℕ) (s₀ s : State) (count : ℕ) (g : Turning m n f s₀ s 
   pub turn-free : blocking s.x s.z s.passive n ≡ free → TurnsTaken (turns n (solve_in m n s₀) n s₀.x s₀.z s₀.passive f) (f + n) (f + count) s₀ s
   turn-free e = turn_end (turns-free n (solve_in m n s₀) s.x s.z s.passive (f + count) (n - count) e)
 
-  pub turn-out : n ≤ count → TurnsTaken (turns n (solve_in m n s₀) n s₀.x s₀.z s₀.passive f) (f + n) (f + count) s₀ s
-  turn-out l = turn_end (turns-out n (solve_in m n s₀) s.x s.z s.passive (f + count) (n - count) (omega arith))
+  pub turn-out : n ≤ count → TurnsTaken (turns n (solve_in m n s₀) n s₀.x s₀.z s₀.passive f) (f + n) (f + n) s₀ s
+  turn-out l =
+      let i = g.within in
+      let e : count ≡ n = omega (arith, i, l) in
+      subst (λ (i : ℕ). TurnsTaken (turns n (solve_in m n s₀) n s₀.x s₀.z s₀.passive f) (f + n) (f + i) s₀ s) e
+      (turn_end (turns-out n (solve_in m n s₀) s.x s.z s.passive (f + count) (n - count) (omega arith)))
 
   -- s₁ is s moved, s₂ with the solve
   pub turn-again : (q : ℕ) (r : Float) → blocking s.x s.z s.passive n ≡ block q r → count < n → (s₁ s₂ : State)

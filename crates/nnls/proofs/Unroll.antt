@@ -2,7 +2,7 @@
 use mathlib.Core.Path.{◌≡◌, refl, ap, ◌∙◌}
 use mathlib.Core.Bool.{Bool, true, false}
 use mathlib.Core.List.{List}
-use mathlib.Core.Option.{Option, none, some}
+use Rattle.std.specs.Prelude.{Option, None, Some}
 use Prim.Native.Nat.{ℕ, zero, suc, ◌+◌, ◌<◌}
 use native.Mathlib.Nat.{not-suc-le-zero}
 use native.Mathlib.Omega.{arith}
@@ -15,7 +15,7 @@ use Rattle.nnls.specs.Nnls.{choose, Obstacle, free, block, blocking, move_x, mov
 module _ (n : ℕ) (solve : List ℕ → Solved) where
   -- ---- a pass
   module _ (w : List Float) (p rej : List ℕ) (f : ℕ) where
-    pub tries-none : (left : ℕ) → choose w p rej n ≡ none → tries n solve left w p rej f ≡ ended rej f
+    pub tries-none : (left : ℕ) → choose w p rej n ≡ None → tries n solve left w p rej f ≡ ended rej f
     unfolding tries try_next
     tries-none zero e = refl
     tries-none (suc left) e = ap (λ (c : Option ℕ). try_next n solve c p rej f (tries n solve left w p)) e
@@ -24,7 +24,7 @@ module _ (n : ℕ) (solve : List ℕ → Solved) where
     unfolding tries
     tries-out left e = ap (λ (l : ℕ). tries n solve l w p rej f) e
 
-    pub tries-kept : (left t : ℕ) → 0 < left → choose w p rej n ≡ some t → keeps (solve (set p t 1)) t ≡ true → tries n solve left w p rej f ≡ kept (set p t 1) (solve (set p t 1)).z (f + 1)
+    pub tries-kept : (left t : ℕ) → 0 < left → choose w p rej n ≡ Some t → keeps (solve (set p t 1)) t ≡ true → tries n solve left w p rej f ≡ kept (set p t 1) (solve (set p t 1)).z (f + 1)
     unfolding tries try_next judge
     tries-kept zero t l e k = absurd (not-suc-le-zero l)
     tries-kept (suc left) t l e k =
@@ -32,7 +32,7 @@ module _ (n : ℕ) (solve : List ℕ → Solved) where
         ∙ ap (λ (b : Bool). judge b (set p t 1) (solve (set p t 1)).z (suc f) (tries n solve left w p (set rej t 1))) k
         ∙ ap (kept (set p t 1) (solve (set p t 1)).z) (omega arith)
 
-    pub tries-again : (left rest t : ℕ) → left ≡ suc rest → choose w p rej n ≡ some t → keeps (solve (set p t 1)) t ≡ false → tries n solve left w p rej f ≡ tries n solve rest w p (set rej t 1) (f + 1)
+    pub tries-again : (left rest t : ℕ) → left ≡ suc rest → choose w p rej n ≡ Some t → keeps (solve (set p t 1)) t ≡ false → tries n solve left w p rej f ≡ tries n solve rest w p (set rej t 1) (f + 1)
     unfolding tries try_next judge
     tries-again left rest t l e k =
         ap (λ (l : ℕ). tries n solve l w p rej f) l

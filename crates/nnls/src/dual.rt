@@ -4,14 +4,7 @@ ghost use Rattle.workspace.specs.Readings.{Block};
 ghost use Rattle.nnls.specs.inner.Dual.{sum_at, row_sum, residual_at, dual_at, four_of, four_rows, set_four};
 ghost use Rattle.nnls_passive.specs.inner.Places.{NNLS_DUAL, NNLS_RESIDUAL, NNLS_ROOM};
 
-// Four entries.
-#[derive(Clone, Copy)]
-pub struct Four {
-    pub a: f64,
-    pub b: f64,
-    pub c: f64,
-    pub d: f64,
-}
+use householder::Four;
 
 // Four entries from o on.
 pub fn put_four(w: &mut [f64], o: usize, s: Four)

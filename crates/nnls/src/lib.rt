@@ -10,40 +10,48 @@ ghost use Rattle.numbers.specs.Numbers.{+0, nth};
 ghost use Rattle.workspace.specs.Readings.{vec, mat, nums};
 ghost use Rattle.nnls.specs.Nnls as Nnls;
 ghost use Rattle.nnls.specs.inner.State.{read, solve_in, dual_in, Rounded};
-ghost use Rattle.nnls.specs.inner.Work.{better_of, trial_of, nearer_of, obstacle_of, Moved, TriedColumn, Passed, TurnsTaken};
+ghost use Rattle.nnls.specs.inner.Work.{leads, better_of, nearer_of, obstacle_of, Moved, TriedColumn, Passed, TurnsTaken};
 ghost use Rattle.nnls_passive.specs.inner.Places.{NNLS_DUAL, NNLS_REJECTED, NNLS_ROOM, NNLS_SIDE, NNLS_WORDS, NNLS_X, NNLS_Z};
 
 use crate::back::turn_back;
 use crate::dual::{write_dual, write_residual};
 use crate::memory::{Course, look_back};
-pub use dual::{Four, put_four, row_sums_four, sums_four};
+pub use dual::{put_four, row_sums_four, sums_four};
+pub use memory::Counts;
 
 // ---- which column to try
 
-// The best column so far, with its dual.
+// A column that may be tried, with its dual.
 #[derive(Clone, Copy)]
 pub struct Candidate {
     pub index: usize,
     pub dual: f64,
-    pub any: bool,
 }
 
-// A column to try, or none.
-#[derive(Clone, Copy)]
-pub enum Trial {
-    Column(usize),
-    Nothing,
+// Whether the best so far has a dual above this one.
+fn leads(best: Option<Candidate>, dual: f64) -> bool
+    ensures { result ≡ leads best dual }
+{
+    match best {
+        Some(leader) => dual < leader.dual,
+        None => false,
+    }
 }
 
-// The candidate after column j, whose dual and marks are given: a tie takes the later. Most columns fail the first
+// The best after column j, whose dual and marks are given: a tie takes the later. Most columns fail the first
 // test, so a processor foresees it.
-fn better(best: Candidate, j: usize, dual: f64, passive: u32, rejected: u32) -> Candidate
+fn better(
+    best: Option<Candidate>,
+    j: usize,
+    dual: f64,
+    passive: u32,
+    rejected: u32,
+) -> Option<Candidate>
     ensures { result ≡ better_of best j dual passive rejected }
 {
-    if best.any {
-        if dual < best.dual {
-            return best;
-        }
+    let behind = leads(best, dual);
+    if behind {
+        return best;
     }
     if !(dual > 0.0) {
         return best;
@@ -54,23 +62,15 @@ fn better(best: Candidate, j: usize, dual: f64, passive: u32, rejected: u32) -> 
     if rejected != 0 {
         return best;
     }
-    Candidate {
-        index: j,
-        dual,
-        any: true,
-    }
+    Some(Candidate { index: j, dual })
 }
 
 // The column of largest dual among those that may be tried, the last of equals.
-fn choose(w: &[f64], iw: &[u32], n: usize) -> Trial
+fn choose(w: &[f64], iw: &[u32], n: usize) -> Option<usize>
     requires { (n ≤ 66) × (NNLS_ROOM ≤ length w.now) × (NNLS_WORDS ≤ length iw.now) }
-    ensures { trial_of result ≡ Nnls.choose (vec NNLS_DUAL n w.now) (nums 0 n iw.now) (nums NNLS_REJECTED n iw.now) n }
+    ensures { result ≡ Nnls.choose (vec NNLS_DUAL n w.now) (nums 0 n iw.now) (nums NNLS_REJECTED n iw.now) n }
 {
-    let mut best = Candidate {
-        index: 0,
-        dual: 0.0,
-        any: false,
-    };
+    let mut best = None;
     for j in 0..n {
         best = better(
             best,
@@ -80,28 +80,17 @@ fn choose(w: &[f64], iw: &[u32], n: usize) -> Trial
             iw[nnls_passive::NNLS_REJECTED + j],
         );
     }
-    if best.any {
-        Trial::Column(best.index)
-    } else {
-        Trial::Nothing
-    }
+    let chosen = best?;
+    Some(chosen.index)
 }
 
 // ---- which column blocks
 
-// The nearest blocking column so far, with its ratio.
+// A column that blocks, with its ratio.
 #[derive(Clone, Copy)]
 pub struct Nearest {
     pub index: usize,
     pub ratio: f64,
-    pub any: bool,
-}
-
-// The column that blocks, with its ratio, or none.
-#[derive(Clone, Copy)]
-pub enum Blocker {
-    At(usize, f64),
-    Free,
 }
 
 // x / (x - z) where x - z is above zero, else 0.
@@ -126,7 +115,7 @@ fn ranks_before(r: f64, s: f64) -> bool
 }
 
 // The nearest after column j, at x and headed for z: a tie keeps the earlier.
-fn nearer(best: Nearest, j: usize, x: f64, z: f64, passive: u32) -> Nearest
+fn nearer(best: Option<Nearest>, j: usize, x: f64, z: f64, passive: u32) -> Option<Nearest>
     ensures { result ≡ nearer_of best j x z passive }
 {
     if passive == 0 {
@@ -136,29 +125,21 @@ fn nearer(best: Nearest, j: usize, x: f64, z: f64, passive: u32) -> Nearest
         return best;
     }
     let ratio = ratio_of(x, z);
-    if best.any {
-        let sooner = ranks_before(ratio, best.ratio);
+    if let Some(leader) = best {
+        let sooner = ranks_before(ratio, leader.ratio);
         if !sooner {
             return best;
         }
     }
-    Nearest {
-        index: j,
-        ratio,
-        any: true,
-    }
+    Some(Nearest { index: j, ratio })
 }
 
 // The passive column with a trial value <= 0 whose ratio is smallest, the first of equals.
-fn blocking(w: &[f64], iw: &[u32], n: usize) -> Blocker
+fn blocking(w: &[f64], iw: &[u32], n: usize) -> Option<Nearest>
     requires { (n ≤ 66) × (NNLS_ROOM ≤ length w.now) × (NNLS_WORDS ≤ length iw.now) }
     ensures { obstacle_of result ≡ Nnls.blocking (vec NNLS_X n w.now) (vec NNLS_Z n w.now) (nums 0 n iw.now) n }
 {
-    let mut best = Nearest {
-        index: 0,
-        ratio: 0.0,
-        any: false,
-    };
+    let mut best = None;
     for j in 0..n {
         best = nearer(
             best,
@@ -168,11 +149,7 @@ fn blocking(w: &[f64], iw: &[u32], n: usize) -> Blocker
             iw[j],
         );
     }
-    if best.any {
-        Blocker::At(best.index, best.ratio)
-    } else {
-        Blocker::Free
-    }
+    best
 }
 
 // ---- a move
@@ -252,27 +229,25 @@ fn try_all(w: &mut [f64], iw: &mut [u32], m: usize, n: usize, f: usize) -> Pass
     ensures { Passed (Nnls.tries n (solve_in m n (read m n w.old iw.old)) n (vec NNLS_DUAL n w.old) (nums 0 n iw.old) (nums NNLS_REJECTED n iw.old) f)
         (f + n) result (read m n w.old iw.old) (read m n w.new iw.new) }
 {
-    let mut count = 0usize;
-    while count < n {
+    for count in 0..n {
         let trial = choose(w, iw, n);
-        let Trial::Column(t) = trial else {
+        let Some(t) = trial else {
             return Pass {
                 kept: false,
                 factorings: f + count,
             };
         };
         let kept = try_column(w, iw, m, n, t);
-        count += 1;
         if kept {
             return Pass {
                 kept: true,
-                factorings: f + count,
+                factorings: f + (count + 1),
             };
         }
     }
     Pass {
         kept: false,
-        factorings: f + count,
+        factorings: f + n,
     }
 }
 
@@ -304,30 +279,22 @@ fn turn_all(w: &mut [f64], iw: &mut [u32], m: usize, n: usize, f: usize) -> usiz
     ensures { TurnsTaken (Nnls.turns n (solve_in m n (read m n w.old iw.old)) n (vec NNLS_X n w.old) (vec NNLS_Z n w.old) (nums 0 n iw.old) f)
         (f + n) result (read m n w.old iw.old) (read m n w.new iw.new) }
 {
-    let mut count = 0usize;
-    while count < n {
+    for count in 0..n {
         let blocker = blocking(w, iw, n);
-        let Blocker::At(q, ratio) = blocker else {
+        let Some(nearest) = blocker else {
             return f + count;
         };
-        move_all(w, iw, n, q, ratio);
+        move_all(w, iw, n, nearest.index, nearest.ratio);
         let full = nnls_passive::solve_passive(w, iw, m, n);
-        count += 1;
     }
-    f + count
+    f + n
 }
 
 // ---- the rounds
 
-// How the rounds ended, accepted or at their limit, with the rounds and the factorings that were taken.
-#[derive(Clone, Copy)]
-pub enum RoundsEnd {
-    Accepted(usize, usize),
-    Capped(usize, usize),
-}
-
 // Rounds, at most k, from x = +0 and no passive column on; whole periods of rounds that repeat are counted and not run.
-fn run_rounds(w: &mut [f64], iw: &mut [u32], m: usize, n: usize, k: usize) -> RoundsEnd
+// With what they took: `Err` where their limit was reached.
+fn run_rounds(w: &mut [f64], iw: &mut [u32], m: usize, n: usize, k: usize) -> Result<Counts, Counts>
     requires { (m ≤ 18) × (n ≤ 66) × (NNLS_ROOM ≤ length w.old) × (NNLS_WORDS ≤ length iw.old) × (k ≤ 198) × (vec NNLS_X n w.old ≡ replicate n +0) × (nums 0 n iw.old ≡ replicate n 0) }
     ensures { Rounded (Nnls.rounds n (dual_in m n (read m n w.old iw.old)) (solve_in m n (read m n w.old iw.old)) k (vec NNLS_X n w.old) (nums 0 n iw.old) 0 0)
         result (read m n w.old iw.old) (read m n w.new iw.new) }
@@ -339,31 +306,40 @@ fn run_rounds(w: &mut [f64], iw: &mut [u32], m: usize, n: usize, k: usize) -> Ro
         held: 0,
         low: 0,
         high: 0,
-        ended: false,
     };
     while c.past < k {
         let pass = one_pass(w, iw, m, n, c.factorings);
         let g = pass.factorings;
         if !pass.kept {
-            return RoundsEnd::Accepted(c.past, g);
+            return Ok(Counts {
+                past: c.past,
+                factorings: g,
+            });
         }
         let f = turn_all(w, iw, m, n, g);
         workspace::copy_down(w, nnls_passive::NNLS_Z, nnls_passive::NNLS_X, n);
-        c = look_back(iw, n, k, &mut memory, c, g, f);
-        if c.ended {
-            return RoundsEnd::Capped(c.past, c.factorings);
-        }
+        c = look_back(iw, n, k, &mut memory, c, g, f)?;
     }
     let pass = one_pass(w, iw, m, n, c.factorings);
-    let g = pass.factorings;
+    let counts = Counts {
+        past: c.past,
+        factorings: pass.factorings,
+    };
     if pass.kept {
-        return RoundsEnd::Capped(c.past, g);
+        return Err(counts);
     }
-    RoundsEnd::Accepted(c.past, g)
+    Ok(counts)
 }
 
-// Nonnegative least squares of the A and b in the workspace, with k rounds allowed; both stay.
-pub fn solve_in(w: &mut [f64], iw: &mut [u32], m: usize, n: usize, k: usize) -> RoundsEnd
+// Nonnegative least squares of the A and b in the workspace, with k rounds allowed; both stay. With the rounds and
+// factorings that it took: `Err` where the limit was reached.
+pub fn solve_in(
+    w: &mut [f64],
+    iw: &mut [u32],
+    m: usize,
+    n: usize,
+    k: usize,
+) -> Result<Counts, Counts>
     requires { (m ≤ 18) × (n ≤ 66) × (NNLS_ROOM ≤ length w.old) × (NNLS_WORDS ≤ length iw.old) × (k ≤ 198) }
     ensures { Rounded (Nnls.nnls m n (mat 0 m n w.old) (vec NNLS_SIDE m w.old) k)
         result (read m n w.old iw.old) (read m n w.new iw.new) }

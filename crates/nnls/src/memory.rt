@@ -5,8 +5,7 @@ ghost use Rattle.workspace.specs.Readings.{nums};
 ghost use Rattle.nnls.specs.inner.Memory.{bits, front, Repeated, MayLook, LookedBack, Noted, Placed, SoughtFor, SoughtRound, Recorded, MayFinish, CameBack};
 ghost use Rattle.nnls_passive.specs.inner.Places.{NNLS_WORDS};
 
-// Rounds and factorings so far, how many sets are remembered, the two numbers of the set from round 4 on, and
-// whether these are the counts of the last pass, which keeps a column.
+// Rounds and factorings so far, how many sets are remembered, and the two numbers of the set from round 4 on.
 #[derive(Clone, Copy)]
 pub struct Course {
     pub past: usize,
@@ -14,7 +13,6 @@ pub struct Course {
     pub held: usize,
     pub low: usize,
     pub high: usize,
-    pub ended: bool,
 }
 
 // Rounds and factorings.
@@ -35,7 +33,7 @@ pub struct Place {
 fn front_of(n: usize) -> usize
     ensures { result ≡ front n }
 {
-    if n < 33 { n } else { 33 }
+    n.min(33)
 }
 
 // The marks of the c columns from o on, as the binary digits of a number.
@@ -160,7 +158,8 @@ fn remember(
 }
 
 // Set i is back after past rounds and f factorings: whole periods are counted, and where the set is remembered to which
-// the rounds lead that are left, its pass is the last. Else all are forgotten.
+// the rounds lead that are left, its pass is the last, and keeps a column: `Err` with the counts after it. Else all are
+// forgotten.
 fn finish(
     memory: &[usize],
     held: usize,
@@ -170,30 +169,25 @@ fn finish(
     past: usize,
     f: usize,
     k: usize,
-) -> Course
+) -> Result<Course, Counts>
     requires { MayFinish memory.now held i past f k }
     ensures { CameBack memory.now held i low high past f k result }
 {
     let r = repeat(past, f, past - memory[5 * i + 2], f - memory[5 * i + 3], k);
     let t = seek_round(memory, held, memory[5 * i + 2] + (k - r.past));
     if t < held {
-        return Course {
+        return Err(Counts {
             past: k,
             factorings: r.factorings + memory[5 * t + 4] - memory[5 * i + 3],
-            held: 0,
-            low,
-            high,
-            ended: true,
-        };
+        });
     }
-    Course {
+    Ok(Course {
         past: r.past,
         factorings: r.factorings,
         held: 0,
         low,
         high,
-        ended: false,
-    }
+    })
 }
 
 // One round more, whose pass came to g factorings and which came to f: the set with which it began is remembered, and
@@ -206,21 +200,20 @@ pub fn look_back(
     c: Course,
     g: usize,
     f: usize,
-) -> Course
+) -> Result<Course, Counts>
     requires { MayLook n k c g f iw.now memory.old }
     ensures { LookedBack n k (nums 0 n iw.now) c g f memory.old memory.new result }
 {
     let held = remember(memory, c.held, c.low, c.high, c.past, c.factorings, g);
     let past = c.past + 1;
     if past < 4 {
-        return Course {
+        return Ok(Course {
             past,
             factorings: f,
             held,
             low: 0,
             high: 0,
-            ended: false,
-        };
+        });
     }
     let h = front_of(n);
     let low = digits(iw, 0, h);
@@ -229,12 +222,11 @@ pub fn look_back(
     if i < held {
         return finish(memory, held, i, low, high, past, f, k);
     }
-    Course {
+    Ok(Course {
         past,
         factorings: f,
         held,
         low,
         high,
-        ended: false,
-    }
+    })
 }

@@ -11,6 +11,7 @@ use borrow.Author.Tests.{leb-true, eqb-true}
 use Rattle.numbers.specs.Numbers.{+0, at}
 use Rattle.numbers.proofs.Lists.{by_entries}
 use Rattle.workspace.specs.Tables.{done, iteration_cap, is_matrix}
+use Rattle.workspace.specs.declared.Refusal.{Refusal}
 use Rattle.workspace.specs.declared.Refusal.TheVariants.{Capped}
 use Rattle.workspace.specs.Readings.{vec, mat, Block, Loaded, Cleared}
 use Rattle.workspace.proofs.Readings.{mat-same}
@@ -21,9 +22,8 @@ use Rattle.nnls.specs.Counted.{Counted}
 use Rattle.nnls.specs.Nnls.{Accepted, nnls}
 use Rattle.nnls.specs.inner.State.{State, read, ended_answer, Rounded}
 use Rattle.nnls_call.specs.Promise.{tell, Nnls}
-use Rattle.nnls.specs.declared.RoundsEnd.{RoundsEnd}
-use Rattle.nnls.specs.declared.RoundsEnd.TheVariants as RoundsEnd
-use Rattle.nnls_call.specs.declared.Outcome.TheVariants.{Done, Refused}
+use Rattle.nnls.specs.declared.memory.Counts.{Counts}
+use Rattle.std.specs.Prelude.{Result, Ok, Err}
 
 -- ---- the tests
 
@@ -41,20 +41,24 @@ lengths-are m n a b x h =
 
 -- ---- the problem in the workspace, and what the kernel makes of it
 
-pub ran : (m n k : ℕ) (a b w w₁ w₂ : List Float) (e : RoundsEnd) (s s' : State) → m ≤ 18 → n ≤ 66 → length b ≡ m → Loaded 0 m n a w w₁ → Block 1188 m (λ t. at b t) w₁ w₂
+pub ran : (m n k : ℕ) (a b w w₁ w₂ : List Float) (e : Result Counts Counts) (s s' : State) → m ≤ 18 → n ≤ 66 → length b ≡ m → Loaded 0 m n a w w₁ → Block 1188 m (λ t. at b t) w₁ w₂
     → Rounded (nnls m n (mat 0 m n w₂) (vec 1188 m w₂) k) e s s' → ended_answer e s' ≡ nnls m n a b k
 ran m n k a b w w₁ w₂ e s s' m18 n66 lb h c r =
     let ea : mat 0 m n w₂ ≡ a = mat-same 0 m n w₁ w₂ (λ i j hi hj. c.before (0 + j * 18 + i) (omega arith)) ∙ h.matrix in
     let eb : vec 1188 m w₂ ≡ b = block-vec 1188 m (λ t. at b t) w₁ w₂ c ∙ sym (by_entries m b lb) in
     r.answer ∙ ap₂ (λ (p q : List Float). nnls m n p q k) ea eb
 
+-- a done call's counts
+abbrev told : ℕ → ℕ → Result Counts Refusal
+told r f = Ok (record { past = r; factorings = f })
+
 -- ---- the two answers: v and u are what the kernel left in the first 8,192 and 512 entries
 
-module _ (m n : ℕ) (g : Counted Accepted) (x w v w' : List Float) (l u l' : List ℕ) (e : RoundsEnd) (n66 : n ≤ 66) (lv : length v ≡ 8192) (lu : length u ≡ 512)
+module _ (m n : ℕ) (g : Counted Accepted) (x w v w' : List Float) (l u l' : List ℕ) (e : Result Counts Counts) (n66 : n ≤ 66) (lv : length v ≡ 8192) (lu : length u ≡ 512)
     (h : ended_answer e (read m n v u) ≡ g) (c : Cleared (v ++ drop 8192 w) w' (u ++ drop 512 l) l') where
-  pub capped : (r f : ℕ) → e ≡ RoundsEnd.Capped r f → Nnls (tell g) (Refused Capped) x x w w' l l'
-  capped r f q =
-      let z : g.answer ≡ iteration_cap = sym (ap (λ (y : Counted Accepted). y.answer) h) ∙ ap (λ (t : RoundsEnd). (ended_answer t (read m n v u)).answer) q in
+  pub capped : (t : Counts) → e ≡ Err t → Nnls (tell g) (Err Capped) x x w w' l l'
+  capped t q =
+      let z : g.answer ≡ iteration_cap = sym (ap (λ (y : Counted Accepted). y.answer) h) ∙ ap (λ (t : Result Counts Counts). (ended_answer t (read m n v u)).answer) q in
       rw z
       (record {
         the_outcome = refl;
@@ -63,15 +67,15 @@ module _ (m n : ℕ) (g : Counted Accepted) (x w v w' : List Float) (l u l' : Li
         the_words = c.words ∙ front-cleared 0 512 u l lu;
       })
 
-  pub accepted : (r f : ℕ) (x' : List Float) → x' ≡ vec 1206 n (v ++ drop 8192 w) → e ≡ RoundsEnd.Accepted r f → Nnls (tell g) (Done r f) x x' w w' l l'
-  accepted r f x' ex q =
+  pub accepted : (t : Counts) (x' : List Float) → x' ≡ vec 1206 n (v ++ drop 8192 w) → e ≡ Ok t → Nnls (tell g) (Ok t) x x' w w' l l'
+  accepted t x' ex q =
       let z : g.answer ≡ done (record { x = (read m n v u).x; passive = (read m n v u).passive; rejected = (read m n v u).rejected }) =
-      sym (ap (λ (y : Counted Accepted). y.answer) h) ∙ ap (λ (t : RoundsEnd). (ended_answer t (read m n v u)).answer) q in
-      let er : r ≡ g.rounds = ap (λ (t : RoundsEnd). (ended_answer t (read m n v u)).rounds) (sym q) ∙ ap (λ (y : Counted Accepted). y.rounds) h in
-      let ef : f ≡ g.factorings = ap (λ (t : RoundsEnd). (ended_answer t (read m n v u)).factorings) (sym q) ∙ ap (λ (y : Counted Accepted). y.factorings) h in
+      sym (ap (λ (y : Counted Accepted). y.answer) h) ∙ ap (λ (t : Result Counts Counts). (ended_answer t (read m n v u)).answer) q in
+      let er : t.past ≡ g.rounds = ap (λ (t : Result Counts Counts). (ended_answer t (read m n v u)).rounds) (sym q) ∙ ap (λ (y : Counted Accepted). y.rounds) h in
+      let ef : t.factorings ≡ g.factorings = ap (λ (t : Result Counts Counts). (ended_answer t (read m n v u)).factorings) (sym q) ∙ ap (λ (y : Counted Accepted). y.factorings) h in
       rw z
       (record {
-        the_outcome = ap₂ (λ (i j : ℕ). Done i j) er ef;
+        the_outcome = ap₂ told er ef;
         the_x = ex ∙ vec-front v (drop 8192 w) 1206 n (omega arith);
         the_floats = c.floats ∙ front-cleared +0 8192 v w lv;
         the_words = c.words ∙ front-cleared 0 512 u l lu;

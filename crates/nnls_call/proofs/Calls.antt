@@ -1,5 +1,5 @@
 -- What a done call tells is sound, through the promise.
-use mathlib.Core.Path.{◌≡◌, sym, subst}
+use mathlib.Core.Path.{◌≡◌, sym, ap, subst}
 use mathlib.Core.Bool.{Bool, true, false, ◌&&◌}
 use mathlib.Core.List.{List}
 use Prim.Native.Nat.{ℕ, ◌*◌}
@@ -14,23 +14,28 @@ use Rattle.nnls.specs.Claims.{Sound, SoundCounted}
 use Rattle.nnls.proofs.Solves.{nnls-sound}
 use Rattle.nnls_call.specs.Promise.{tell, Nnls}
 use Rattle.nnls_call.specs.Claims.{SoundCall, CallSound}
-use Rattle.nnls_call.specs.declared.Outcome.TheVariants.{Done, Refused}
+use Rattle.nnls.specs.declared.memory.Counts.{Counts}
+use Rattle.std.specs.Prelude.{Result, Ok, Err}
 
 module _ (m n k : ℕ) (a b x x' w w' : List Float) (iw iw' : List ℕ) (rounds factorings : ℕ) where
-  never : {A : Type 0} (r : Refusal) → Done rounds factorings ≡ Refused r → A
+  abbrev told : Result Counts Refusal
+  told = Ok (record { past = rounds; factorings = factorings })
+
+  never : {A : Type 0} (r : Refusal) → told ≡ Err r → A
   never r e = let z : ◌≡◌ {A = ℕ} 0 1 = cc in absurd (let y : ⊥ = omega arith in y)
 
   from-tests : (sizes lengths room : Bool) (c : Answer Accepted) (past spent : ℕ)
       → SoundCounted n (dual_of m n a b) (solve_of m n a b) k (record { answer = c; rounds = past; factorings = spent })
-      → Nnls (call sizes lengths room true (tell (record { answer = c; rounds = past; factorings = spent }))) (Done rounds factorings) x x' w w' iw iw'
+      → Nnls (call sizes lengths room true (tell (record { answer = c; rounds = past; factorings = spent }))) told x x' w w' iw iw'
       → SoundCall m n k a b x' rounds factorings
   from-tests false lengths room c past spent s p = never _ p.the_outcome
   from-tests true false room c past spent s p = never _ p.the_outcome
   from-tests true true false c past spent s p = never _ p.the_outcome
   from-tests true true true (refused q) past spent s p = never _ p.the_outcome
   from-tests true true true (done v) past spent s p =
-      let ep : past ≡ rounds = cc p.the_outcome in
-      let es : spent ≡ factorings = cc p.the_outcome in
+      let e : ◌≡◌ {A = Counts} (record { past = past; factorings = spent }) (record { past = rounds; factorings = factorings }) = cc p.the_outcome in
+      let ep : past ≡ rounds = ap (λ (t : Counts). t.past) e in
+      let es : spent ≡ factorings = ap (λ (t : Counts). t.factorings) e in
       record {
         passive = v.passive;
         rejected = v.rejected;

@@ -8,14 +8,8 @@ ghost use Rattle.nnls.specs.inner.State.{read, ended_answer};
 ghost use Rattle.nnls_call.specs.Promise as Promise;
 ghost use Rattle.nnls_passive.specs.inner.Places.{NNLS_ROOM, NNLS_WORDS};
 
+use nnls::Counts;
 use workspace::Refusal;
-
-// What a call answers: its rounds and factorings, or why it is refused.
-#[derive(Clone, Copy)]
-pub enum Outcome {
-    Done(usize, usize),
-    Refused(Refusal),
-}
 
 // The sizes, and k within three rounds a column.
 fn is_problem(m: usize, n: usize, k: usize) -> bool
@@ -50,7 +44,7 @@ fn run(
     m: usize,
     n: usize,
     k: usize,
-) -> nnls::RoundsEnd
+) -> Result<Counts, Counts>
     requires { (m ≤ 18) × (n ≤ 66) × (k ≤ 198) × (length a.now ≡ m * n) × (length b.now ≡ m) × (NNLS_ROOM ≤ length w.old) × (NNLS_WORDS ≤ length iw.old) }
     ensures { ended_answer result (read m n w.new iw.new) ≡ Definition.nnls m n a.now b.now k }
 {
@@ -69,18 +63,18 @@ fn solve_all(
     m: usize,
     n: usize,
     k: usize,
-) -> Outcome
+) -> Result<Counts, Refusal>
     requires { (m ≤ 18) × (n ≤ 66) × (k ≤ 198) × (length a.now ≡ m * n) × (length b.now ≡ m) × (length x.old ≡ n) × (8192 ≤ length w.old) × (512 ≤ length iw.old) }
     ensures { Promise.Nnls (Promise.tell (Definition.nnls m n a.now b.now k)) result x.old x.new w.old w.new iw.old iw.new }
 {
     let ended = run(a, b, &mut w[..8192], &mut iw[..512], m, n, k);
-    let nnls::RoundsEnd::Accepted(rounds, factorings) = ended else {
+    let Ok(counts) = ended else {
         workspace::clear(w, iw);
-        return Outcome::Refused(Refusal::Capped);
+        return Err(Refusal::Capped);
     };
     workspace::unload(w, x, nnls_passive::NNLS_X, n);
     workspace::clear(w, iw);
-    Outcome::Done(rounds, factorings)
+    Ok(counts)
 }
 
 // The solver.
@@ -88,7 +82,8 @@ fn solve_all(
 pub struct Nnls {}
 
 impl Nnls {
-    // The x of least ||A x - b|| with x >= 0, of an m by n matrix A, with k rounds allowed.
+    // The x of least ||A x - b|| with x >= 0, of an m by n matrix A, with k rounds allowed. The answer is its rounds and
+    // factorings.
     pub fn solve(
         m: usize,
         n: usize,
@@ -98,17 +93,17 @@ impl Nnls {
         x: &mut [f64],
         w: &mut [f64],
         iw: &mut [u32],
-    ) -> Outcome
+    ) -> Result<Counts, Refusal>
         ensures { Promise.Nnls (Promise.nnls_call m n k a.now b.now x.old w.old iw.old) result x.old x.new w.old w.new iw.old iw.new }
     {
         if !is_problem(m, n, k) {
-            return Outcome::Refused(Refusal::Size);
+            return Err(Refusal::Size);
         }
         if !are_lengths(m, n, a.len(), b.len(), x.len()) {
-            return Outcome::Refused(Refusal::Length);
+            return Err(Refusal::Length);
         }
         if !workspace::is_room(w.len(), iw.len()) {
-            return Outcome::Refused(Refusal::Room);
+            return Err(Refusal::Room);
         }
         solve_all(a, b, x, w, iw, m, n, k)
     }

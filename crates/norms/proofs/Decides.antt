@@ -378,12 +378,6 @@ pub decided : (v : List Float) (f : Float) → 0 < length v → length v ≤ 18 
 unfolding plain_norm
 decided v f some few fit u lo hi = sym (by-least v some few fit f u lo hi)
 
-pub known_more : (l : List Float) (p i : ℕ) → ((j : ℕ) → j < i → T (fits binary64 (at l (p + j)))) → T (fits binary64 (at l (p + i))) → (j : ℕ) → j < i + 1 → T (fits binary64 (at l (p + j)))
-known_more l p i h k j q = ⊎_elim
-    (λ (a : i ≤ j). subst (λ (n : ℕ). T (fits binary64 (at l (p + n)))) (let e : i ≡ j = omega arith in e) k)
-    (λ (a : j < i). h j a)
-    (order i j)
-
 pub decided-from : (v : List Float) (f : Float) → 0 < length v → length v ≤ 18 → ((i : ℕ) → i < length v → T (fits binary64 (at v (0 + i)))) → IsUnits f (2 ^ (55 * length v - 1))
     → le f (dot (length v) v v) ≡ true → le (dot (length v) v v) most_sum ≡ true → sqrt_of (dot (length v) v v) ≡ norm v
 decided-from v f some few fit u lo hi = decided v f some few (λ i l. subst (λ (n : ℕ). T (fits binary64 (at v n))) (zero-add i) (fit i l)) u lo hi

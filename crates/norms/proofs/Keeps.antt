@@ -20,7 +20,6 @@ use Rattle.norms.proofs.Bounds.{order, inf-over}
 use Rattle.numbers.specs.Numbers.{+0, Σ, at, dot, ◌⊗◌}
 use Rattle.numbers.specs.Rounded.{IsUnits}
 use Rattle.numbers.specs.Root.{sqrt_of}
-use Rattle.numbers.proofs.Correct.{under}
 use Rattle.numbers.proofs.Lists.{length-tab, get_d-tab}
 use Rattle.norms.specs.Norm.{plain_norm, scaled, largest, reduced, rescaled, norm}
 use Rattle.norms.specs.Claims.{is_zero, NormalOrZero, InRange, KeepsBits}

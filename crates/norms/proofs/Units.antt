@@ -1,6 +1,6 @@
 -- Values in units of 2 ^ -1074: what a rounded fraction is in units, and that a multiplication by a power of two goes through a square, a sum and a root.
 use mathlib.Core.Path.{◌≡◌, refl, sym, ap, ap₂, ◌∙◌, subst}
-use mathlib.Core.Logic.{◌⊎◌, ⊎_elim}
+use mathlib.Core.Logic.{⊎_elim}
 use Prim.Native.Nat.{ℕ, zero, suc, ◌+◌, ◌-◌, ◌*◌, ◌/◌, ◌^◌, ◌≤◌, ◌<◌}
 use native.Mathlib.Nat.{le_trans, le_of_eq, lt_of_lt_of_le, lt_of_le_of_lt, not-le_of_lt, zero-lt-suc, eq-zero-or-pos, zero-mul, mul-one, one-mul, add-mul, mul_comm, mul_assoc, mul_right_comm, mul-mul-mul_comm, mul-le-mul, mul-le-mul_right, mul-lt-mul_of_pos_right, eq_of_mul-eq-mul_right, le_of_mul-le-mul_right, mul-pos, sub-zero, le_antisymm}
 use native.Mathlib.Omega.{arith}

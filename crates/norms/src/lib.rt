@@ -54,23 +54,13 @@ fn pattern(x: f64) -> u64
     f64::to_bits(x) % 0x8000_0000_0000_0000
 }
 
-// The larger of two numbers.
-fn larger(a: u64, b: u64) -> u64
-    ensures { result ≡ max a b }
-{
-    if a <= b { b } else { a }
-}
-
 // The largest of the entries' patterns.
 fn largest_pattern(xs: &[f64]) -> u64
     ensures { LargestPattern (length xs.now) xs.now result }
 {
     let mut most: u64 = 0;
-    let mut i = 0;
-    while i < xs.len() {
-        let b = pattern(xs[i]);
-        most = larger(most, b);
-        i += 1;
+    for x in xs {
+        most = most.max(pattern(*x));
     }
     most
 }
@@ -94,11 +84,9 @@ fn scaled_squares(xs: &[f64], z: u64) -> f64
     ensures { result ≡ dot (length xs.now) (reduced z xs.now) (reduced z xs.now) }
 {
     let mut t = -0.0;
-    let mut i = 0;
-    while i < xs.len() {
-        let y = scale(xs[i], z);
+    for x in xs {
+        let y = scale(*x, z);
         t = t + y * y;
-        i += 1;
     }
     t
 }
@@ -123,20 +111,11 @@ pub fn scaled_norm(xs: &[f64]) -> f64
     scale_back(r, z)
 }
 
-// That a number is an f64. It compiles to nothing.
-fn known(x: f64)
-    ensures { T (fits binary64 x) }
-{}
-
 // That each of the n numbers from p on is an f64. It compiles to nothing.
 pub fn known_within(l: &[f64], p: usize, n: usize)
     requires { p + n ≤ length l.now }
     ensures { (i : ℕ) → i < n → T (fits binary64 (at l.now (p + i))) }
-{
-    for i in 0..n {
-        known(l[p + i]);
-    }
-}
+{}
 
 // Where a sum of at most 18 squares settles the norm alone.
 #[derive(Clone, Copy)]
@@ -160,24 +139,14 @@ impl Deciding {
     pub fn holds(least: f64, s: f64) -> bool
         ensures { result ≡ true → (le least s ≡ true) × (le s most_sum ≡ true) }
     {
-        if s >= least {
-            if s <= Deciding::MOST {
-                return true;
-            }
-        }
-        false
+        s >= least && s <= Deciding::MOST
     }
 
     // s is at most 2^-80, and not below zero: then the norm is at most 2^-30.
     pub fn bounds(s: f64) -> bool
         ensures { result ≡ true → (le +0 s ≡ true) × (le s faint_sum ≡ true) }
     {
-        if s >= 0.0 {
-            if s <= Deciding::FAINT {
-                return true;
-            }
-        }
-        false
+        s >= 0.0 && s <= Deciding::FAINT
     }
 }
 

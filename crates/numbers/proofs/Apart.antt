@@ -1,18 +1,18 @@
 -- Two sums that are clearly apart have roots that differ: the statement is in `specs/Ordered.antt`.
 use mathlib.Core.Path.{◌≡◌, refl, sym, ap, ◌∙◌, subst}
 use mathlib.Core.Logic.{◌⊎◌, inl, inr, ⊎_elim}
-use Prim.Native.Nat.{ℕ, zero, suc, ◌+◌, ◌-◌, ◌*◌, ◌/◌, ◌^◌, ◌≤◌, ◌<◌, zero-le, suc-le-suc}
-use native.Mathlib.Nat.{le_of_mul-le-mul_right, le_trans, le_of_eq, le_of_lt, lt_of_le_of_lt, lt_of_lt_of_le, lt_of_not-le, eq-or-lt_of_le, eq-zero-or-pos, zero-lt-suc, zero-mul, mul_comm, mul_assoc, mul_right_comm, mul-le-mul_right, mul-le-mul_left, mul-lt-mul_of_pos_right, lt_of_mul-lt-mul_right, eq_of_mul-eq-mul_right, mul-pos, mul-div_cancel, div-mul-le_self, le-div_iff_mul-le}
+use Prim.Native.Nat.{ℕ, zero, suc, ◌+◌, ◌-◌, ◌*◌, ◌/◌, ◌^◌, ◌≤◌, ◌<◌}
+use native.Mathlib.Nat.{le_of_mul-le-mul_right, le_trans, le_of_eq, le_of_lt, lt_of_le_of_lt, lt_of_lt_of_le, eq-or-lt_of_le, eq-zero-or-pos, zero-lt-suc, zero-mul, mul_comm, mul_assoc, mul_right_comm, mul-le-mul_right, mul-le-mul_left, mul-lt-mul_of_pos_right, lt_of_mul-lt-mul_right, eq_of_mul-eq-mul_right, mul-pos, mul-div_cancel, div-mul-le_self, le-div_iff_mul-le}
 use native.Mathlib.Omega.{arith}
-use mathlib.Core.Bool.{Bool, true, false, not, ◌&&◌, ◌||◌, beq, true≢false, false≢true}
-use lib.IntN.{ℤ, pos, negsuc}
+use mathlib.Core.Bool.{Bool, true, false, not, ◌&&◌, ◌||◌, true≢false, false≢true}
+use lib.IntN.{ℤ, pos}
 use lib.Dec.{T, lit≤, ltb, leb, eqb, eqb→eq, ltb→lt, lt→ltb, leb→le, nleb→lt}
 use lib.Pow.{pow-add, pow_pos, pow_mono}
-use lib.Ieee.{Float, nan, inf, fin, binary64, up, down, size, odd, lt, le, eq, mul, round, fits}
-use lib.Ieee.Bits.{is_true, is_false}
+use lib.Ieee.{Float, nan, inf, fin, binary64, up, down, size, lt, le, eq, mul, round, fits}
+use lib.Ieee.Bits.{is_true}
 use lib.Ieee.Digits.{size_reaches}
 use lib.Ieee.Exact.{HasValue, round_exact}
-use lib.Ieee.Fits.{up_pos, down_pos, and_l, and_r, round-fits}
+use lib.Ieee.Fits.{down_pos, and_l, and_r, round-fits}
 use lib.Ieee.Order.{round_mono}
 use lib.Ieee.Positive.{first_pos}
 use Rattle.numbers.specs.Root.{floor_root, root_of, sqrt_of}
@@ -20,8 +20,8 @@ use Rattle.numbers.specs.Rounded.{IsUnits}
 use Rattle.numbers.specs.Ordered.{SetsApart, gap}
 use Rattle.numbers.specs.Numbers.{+0, -1}
 use Rattle.numbers.proofs.FloorRoot.{root-le}
-use Rattle.numbers.proofs.Monotone.{drop, scaled, kept, low-places, scaled-ge, scaled-lt, floor, kept-ge, kept-le, size_mono, root-value, long-enough, root-zero, some, holds, nothing, more, before-nan}
-use Rattle.numbers.proofs.Correct.{few, high, under, exponent, exponent_lt, place, one_value, all-in-units}
+use Rattle.numbers.proofs.Monotone.{drop, scaled, kept, low-places, scaled-lt, floor, kept-ge, kept-le, size_mono, root-value, long-enough, root-zero, some, nothing, more, before-nan}
+use Rattle.numbers.proofs.Correct.{few, high, under, exponent, place, one_value}
 
 -- ---- the kept numbers of v and w, where w is at least v * (1 + 2 ^ -47)
 room_for : (d v w : ℕ) → d * 2 ^ 104 ≤ v → v * 140737488355329 ≤ w * 140737488355328 → v + d * 2 ^ 57 ≤ w

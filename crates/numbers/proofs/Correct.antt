@@ -2,18 +2,18 @@
 use mathlib.Core.Path.{◌≡◌, refl, sym, ap, ◌∙◌, subst}
 use mathlib.Core.Logic.{◌⊎◌, inl, inr, ⊎_elim}
 use Prim.Native.Nat.{ℕ, zero, suc, ◌+◌, ◌-◌, ◌*◌, ◌/◌, ◌%◌, ◌^◌, ◌≤◌, ◌<◌, zero-le}
-use native.Mathlib.Nat.{suc-mul, lt_trans, zero-add, add_comm, le_antisymm, mul-div_cancel, zero-mul, eq_of_mul-eq-mul_right, eq-zero-or-pos, le_refl, le_trans, le_of_eq, le_of_lt, lt_of_lt_of_le, lt_of_le_of_lt, lt_of_not-le, not-le_of_lt, lt_irrefl, mul-one, one-mul, mul_comm, mul_assoc, mul-le-mul, mul-le-mul_left, mul-le-mul_right, mul-lt-mul_of_pos_right, mul-pos, lt_of_mul-lt-mul_right, zero-lt-suc, pow-succ', pow-suc}
+use native.Mathlib.Nat.{suc-mul, lt_trans, zero-add, add_comm, le_antisymm, mul-div_cancel, zero-mul, eq_of_mul-eq-mul_right, eq-zero-or-pos, le_trans, le_of_eq, le_of_lt, lt_of_lt_of_le, lt_of_le_of_lt, not-le_of_lt, lt_irrefl, mul-one, one-mul, mul_comm, mul_assoc, mul-le-mul, mul-le-mul_left, mul-le-mul_right, mul-lt-mul_of_pos_right, mul-pos, lt_of_mul-lt-mul_right, zero-lt-suc, pow-succ'}
 use native.Mathlib.Omega.{arith}
 use mathlib.Core.Bool.{Bool, true, false, not, ◌&&◌, true≢false}
 use lib.IntN.{ℤ, pos, negsuc}
-use lib.Dec.{T, eqb, ltb, leb, eqb→eq, ltb→lt, leb→le, nleb→lt}
+use lib.Dec.{T, eqb, ltb, leb, ltb→lt, leb→le, nleb→lt}
 use lib.Pow.{pow-add, pow_pos, pow_mono}
 use lib.Ieee.{Float, nan, inf, fin, binary64, up, down, size, odd, fits, to_bits, of_bits}
 use lib.Ieee.Bits.{of_bits-to_bits, of_bits-fits}
-use lib.Ieee.Exact.{HasValue, odd_sign}
+use lib.Ieee.Exact.{odd_sign}
 use lib.Ieee.Fits.{and_l, and_r, down_pos}
-use Rattle.numbers.specs.Root.{floor_root, root_of, sqrt_of}
-use Rattle.numbers.specs.Rounded.{IsUnits, AllInUnits, NearestRoot, HalfPlace, CorrectlyRounded, WithinHalfPlace, OnlyOne, Specials}
+use Rattle.numbers.specs.Root.{sqrt_of}
+use Rattle.numbers.specs.Rounded.{IsUnits, AllInUnits, NearestRoot, CorrectlyRounded, WithinHalfPlace, OnlyOne, Specials}
 use Rattle.numbers.proofs.FloorRoot.{Floor}
 use Rattle.numbers.proofs.RootAt.{scaled, twice, shift, zeros-le, shifted-ge, shifted-lt, floor-is, twice-ge, twice-lt, root-at, split-up, pow_lt_back}
 use Rattle.numbers.proofs.Patterns.{written, sqrt-plus}

@@ -3,8 +3,8 @@ use mathlib.Core.Path.{◌≡◌, refl}
 use mathlib.Core.Bool.{true, false}
 use mathlib.Core.List.{[], ◌∷◌}
 use lib.IntN.{pos, negsuc}
-use lib.Ieee.{Float, nan, inf, fin, binary64, of_bits, add, mul, round, size, odd}
-use Rattle.numbers.specs.Numbers.{Σ, dot, near, epsilon, -0}
+use lib.Ieee.{Float, fin, binary64, of_bits, add, round, size, odd}
+use Rattle.numbers.specs.Numbers.{Σ, epsilon, -0}
 use Rattle.numbers.specs.Root.{floor_root, root_of, sqrt_of, sum_of}
 
 -- 0.1

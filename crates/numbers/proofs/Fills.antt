@@ -5,7 +5,7 @@ use Prim.Native.Nat.{ℕ, suc, ◌+◌, ◌*◌, ◌-◌, ◌≤◌, ◌<◌}
 use native.Mathlib.Nat.{suc-mul, zero-mul, add-zero}
 use native.Mathlib.Numerals.{add-one}
 use native.Mathlib.Omega.{arith}
-use lib.ListN.{length, get_or, take, drop, set, length-append, length-take, length-drop, length-set, take-append-drop, get_or-append, drop_of_length-le}
+use lib.ListN.{length, get_or, take, drop, set, length-append, length-drop, length-set, take-append-drop, get_or-append, drop_of_length-le}
 use lib.Seq.{drop-cons, set_at, get_or-drop, get_or-take, get_or_at, drop_at, take_at, length-take-le, drop-drop}
 use lib.Ieee.{Float, nan}
 use Rattle.numbers.specs.Numbers.{at, tab, rows, grid}

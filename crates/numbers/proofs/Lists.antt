@@ -5,7 +5,7 @@ use Prim.Native.Nat.{ℕ, zero, suc, ◌+◌, ◌*◌, ◌-◌, ◌≤◌, ◌<�
 use native.Mathlib.Nat.{not-suc-le-zero, le_of_suc-le-suc, suc-mul, zero-mul, mul-le-mul_right}
 use native.Mathlib.Numerals.{add-one}
 use native.Mathlib.Omega.{arith}
-use lib.ListN.{length, get_or, set, take, drop, replicate, length-set, length-append, length-drop, take-append-drop, get_or-append}
+use lib.ListN.{length, get_or, take, drop, replicate, length-set, length-append, length-drop, take-append-drop, get_or-append}
 use lib.Seq.{get_or-set_other, get_or-append-add, get_or-drop, get_or-take, ext_get_or, length-take-le}
 use lib.Ieee.{Float, nan}
 use Rattle.numbers.specs.Numbers.{at, nth, tab, gather, scatter, entry, rows, grid, row, column, transposed}

@@ -19,10 +19,8 @@ pub fn sum(xs: &[f64]) -> f64
     ensures { result ≡ sum_of xs.now }
 {
     let mut total = -0.0;
-    let mut i = 0;
-    while i < xs.len() {
-        total = total + xs[i];
-        i += 1;
+    for x in xs {
+        total = total + *x;
     }
     total
 }
@@ -33,10 +31,8 @@ pub fn dot(n: usize, a: &[f64], b: &[f64]) -> f64
     ensures { result ≡ dot n a.now b.now }
 {
     let mut t = -0.0;
-    let mut k = 0;
-    while k < n {
+    for k in 0..n {
         t = t + a[k] * b[k];
-        k += 1;
     }
     t
 }
@@ -47,10 +43,8 @@ pub fn dot_within(l: &[f64], p: usize, q: usize, n: usize) -> f64
     ensures { result ≡ Σ n (λ k. at l.now (p + k) ⊗ at l.now (q + k)) }
 {
     let mut t = -0.0;
-    let mut k = 0;
-    while k < n {
+    for k in 0..n {
         t = t + l[p + k] * l[q + k];
-        k += 1;
     }
     t
 }
@@ -63,10 +57,8 @@ pub fn dot_strided(xs: &[f64], a: usize, s: usize, ys: &[f64], b: usize, t: usiz
     ensures { result ≡ Σ n (λ i. at xs.now (a + i * s) ⊗ at ys.now (b + i * t)) }
 {
     let mut part = -0.0;
-    let mut i = 0;
-    while i < n {
+    for i in 0..n {
         part = part + xs[a + i * s] * ys[b + i * t];
-        i += 1;
     }
     part
 }
@@ -82,9 +74,7 @@ fn floor_root(m: u64) -> u64
     let mut trial: i64 = 1;
     let mut rest: i64 = 0;
     let mut below = m;
-    let mut k: u64 = 0;
-    while k < 54 {
-        k += 1;
+    for _ in 0u64..54 {
         rest = 4 * rest + (below / 0x10_0000_0000_0000) as i64;
         below = 4 * (below % 0x10_0000_0000_0000);
         let left = rest - trial;

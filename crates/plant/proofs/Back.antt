@@ -11,11 +11,8 @@ use Rattle.numbers.specs.Numbers.{+0, tab}
 use Rattle.io.specs.Digits.{last_digits}
 use Rattle.ascii.specs.Text.{ascii, same_text, decimal_text}
 use Rattle.totaliser.specs.Volume.{largest}
-use Rattle.day_words.specs.declared.Number.TheVariants.{Is}
 use Rattle.day_words.specs.Words.{up_to, without_return, skip_blanks, word, rest}
 use Rattle.sheet_words.specs.declared.Expected.TheVariants.{Late, FewItems}
-use Rattle.sheet_words.specs.declared.Judged.{Judged}
-use Rattle.sheet_words.specs.declared.Judged.TheVariants.{Fine, Not}
 use Rattle.sheet_words.specs.Names.{name_judged, above_zero}
 use Rattle.sheet_words.specs.Lines.{unremarked_from}
 use Rattle.sheet_parts.specs.Parts.{named_by, name_at, itemed, meter_read, meter_of, item_of}
@@ -25,6 +22,8 @@ use Rattle.logged.specs.declared.Seen.{Seen}
 use Rattle.plant.specs.Texts.{after_blank, minutes_text, meter_text}
 use Rattle.plant.specs.Claims.{with_meter, meter_taken}
 use Rattle.plant.proofs.Words.{Plain, word-is, rest-is, word_blank, rest-blank, bare-word, place, six-is, plain-six, six-no-letter, reading-six}
+use Rattle.std.specs.Prelude.{Some, Result, Ok, Err}
+use Rattle.sheet_words.specs.declared.Expected.{Expected}
 
 -- ---- what follows the first word, and what of it the remark leaves
 
@@ -68,11 +67,11 @@ words_are a b spread p q r =
       none = ap word r2 ∙ last-blank;
     }
 
-meter-is : (t spread : List ℕ) (a b : ℕ) (x : Float) → Words t (place a) (place b) spread → a ≤ largest → b ≤ largest → above_zero spread ≡ Is x → meter_of t ≡ itemed a b x +0 +0
+meter-is : (t spread : List ℕ) (a b : ℕ) (x : Float) → Words t (place a) (place b) spread → a ≤ largest → b ≤ largest → above_zero spread ≡ Some x → meter_of t ≡ itemed a b x +0 +0
 unfolding meter_of meter_read
 meter-is t spread a b x w h k e = rw (w.first, w.second, w.third, w.none, reading-six a h, reading-six b k, e) refl
 
-item-is : (t spread : List ℕ) (a b : ℕ) (x : Float) → Words t (place a) (place b) spread → a ≤ largest → b ≤ largest → above_zero spread ≡ Is x → item_of 0 t ≡ itemed a b x +0 +0
+item-is : (t spread : List ℕ) (a b : ℕ) (x : Float) → Words t (place a) (place b) spread → a ≤ largest → b ≤ largest → above_zero spread ≡ Some x → item_of 0 t ≡ itemed a b x +0 +0
 unfolding item_of
 item-is t spread a b x w h k e = rw (w.first, six-no-letter a) (meter-is t spread a b x w h k e)
 
@@ -82,11 +81,11 @@ line-is : (l t : List ℕ) (st : State) → word l ≡ ascii "meter" → unremar
 unfolding line_read kind_of place_among plain_line same_text ascii tab
 line-is l t st e f = rw (e, f) refl
 
-named-is : (j : Judged) (name t : List ℕ) (x : Float) (old new : ℕ) (st : State) → word t ≡ name → item_of 0 (rest t) ≡ itemed old new x +0 +0
+named-is : (j : Result Unit Expected) (name t : List ℕ) (x : Float) (old new : ℕ) (st : State) → word t ≡ name → item_of 0 (rest t) ≡ itemed old new x +0 +0
     → item_named 0 (named_by j st.items t st.texts) st ≡ with_meter j name x old new st
 unfolding item_named item_read
-named-is Fine name t x old new st e f = rw (f, e) refl
-named-is (Not j) name t x old new st e f = ap (wrong j) e
+named-is (Ok u) name t x old new st e f = rw (f, e) refl
+named-is (Err j) name t x old new st e f = ap (wrong j) e
 
 item-line : (name t : List ℕ) (x : Float) (old new : ℕ) (st : State) → word t ≡ name → item_of 0 (rest t) ≡ itemed old new x +0 +0
     → item_line 0 (ascii "meter") t st ≡ meter_taken name x old new st
@@ -108,7 +107,7 @@ front name spread old new = ascii "meter" ++ (32 ∷ (name ++ (32 ∷ (place old
 abbrev line_with : (name spread : List ℕ) (old new : ℕ) (r : List ℕ) → List ℕ
 line_with name spread old new r = ascii "meter" ++ (32 ∷ (name ++ numbers (place old) (place new) spread (35 ∷ r)))
 
-reads-with : (name spread r : List ℕ) (x : Float) (old new : ℕ) (st : State) → Plain name → Plain spread → above_zero spread ≡ Is x → old ≤ largest → new ≤ largest
+reads-with : (name spread r : List ℕ) (x : Float) (old new : ℕ) (st : State) → Plain name → Plain spread → above_zero spread ≡ Some x → old ≤ largest → new ≤ largest
     → line_read (line_with name spread old new r) st ≡ meter_taken name x old new st
 reads-with name spread r x old new st p q e h k =
     let a = place old in
@@ -166,7 +165,7 @@ front-is name spread r old new =
     ∙ ap (λ (l : List ℕ). name ++ (32 ∷ l)) (sym (append_assoc (place old) (32 ∷ u3) (35 ∷ r)))
     ∙ sym (append_assoc name (32 ∷ u2) (35 ∷ r)))
 
-pub reads-back : (name spread r : List ℕ) (x : Float) (s : Seen) (st : State) → Plain name → Plain spread → above_zero spread ≡ Is x → s.first ≤ largest → s.last ≤ largest
+pub reads-back : (name spread r : List ℕ) (x : Float) (s : Seen) (st : State) → Plain name → Plain spread → above_zero spread ≡ Some x → s.first ≤ largest → s.last ≤ largest
     → line_read (without_return (meter_text name spread r s)) st ≡ meter_taken name x s.first s.last st
 reads-back name spread r x s st p q e h k =
     let t = remark s.from s.to r in

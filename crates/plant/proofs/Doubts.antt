@@ -12,8 +12,6 @@ use Rattle.numbers.specs.Numbers.{tab}
 use Rattle.endian.specs.Little.{placed}
 use Rattle.ascii.specs.Text.{ascii, same_text, decimal_text}
 use Rattle.ascii.proofs.Numerals.{decimal-short}
-use Rattle.day_words.specs.declared.Count.{Count}
-use Rattle.day_words.specs.declared.Count.TheVariants.{Shows, Unread}
 use Rattle.day_words.specs.Words.{up_to, lines_of, without_return, skip_blanks, word, rest}
 use Rattle.sheet_parts.specs.Texts.{kept, without_blanks, text_in, is_plain, is_foreign, sound_part}
 use Rattle.sheet_parts.specs.Parts.{texted, text_at}
@@ -21,7 +19,7 @@ use Rattle.sheet_lines.specs.Lines.{State, doubt_line}
 use Rattle.sheet.specs.Sheet.{place_among, kind_of, line_read}
 use Rattle.mend.specs.Mend.{Bytes}
 use Rattle.logged.specs.declared.Seen.{Seen}
-use Rattle.logged.specs.Meters.{seen}
+use Rattle.logged.specs.Meters.{seen, shown, seen_or_zero}
 use Rattle.plant.specs.Lines.{Meter, Found, none, one, find}
 use Rattle.plant.specs.Texts.{also, begins_text, ends_text, still_text, parts, doubt_of, stranger_text}
 use Rattle.plant.specs.Plant.{stranger_if, doubt_by, doubts_from}
@@ -30,6 +28,8 @@ use Rattle.plant.proofs.Words.{Plain, skip-plain, word-is, rest-is}
 use Rattle.plant.proofs.Each.{each_append, each-as, no_feed, plain-no-feed, plain-name-bytes, plain-decimal, plain_known, both}
 use Rattle.plant.proofs.Taken.{Sound}
 use Rattle.plant.proofs.Lines.{lines-first}
+use Rattle.std.specs.Prelude.{Option, Some, None}
+use Rattle.std.specs.Option.{is_some}
 
 -- ---- texts with no blank at the end, of at most n bytes
 
@@ -100,10 +100,10 @@ fit-minutes : Fit 8 (ascii " minutes")
 unfolding ascii tab without_blanks
 fit-minutes = record { plain = plain_known (ascii " minutes") refl; short = omega arith; tidy = refl }
 
-fit-still : (n : ℕ) (allowed : Count) (still : ℕ) → length (decimal_text still) ≤ n → Fit (10 + (n + 8)) (still_text allowed still)
+fit-still : (n : ℕ) (allowed : Option ℕ) (still : ℕ) → length (decimal_text still) ≤ n → Fit (10 + (n + 8)) (still_text allowed still)
 unfolding still_text ascii tab
-fit-still n Unread still h = fit_none (10 + (n + 8))
-fit-still n (Shows k) still h = go (ltb k still)
+fit-still n None still h = fit_none (10 + (n + 8))
+fit-still n (Some k) still h = go (ltb k still)
   where
     go : (b : Bool) → Fit (10 + (n + 8)) (cond b (ascii "still for " ++ (decimal_text still ++ ascii " minutes")) [])
     go true =
@@ -111,7 +111,7 @@ fit-still n (Shows k) still h = go (ltb k still)
         (fit-after n 8 (decimal_text still) _ _ (plain-decimal still) h fit-minutes) (append-some (decimal_text still) _ _)
     go false = fit_none (10 + (n + 8))
 
-fit_parts : (n start end : ℕ) (allowed : Count) (s : Seen) → length (decimal_text s.still) ≤ n → Fit (44 + n) (parts start end allowed s)
+fit_parts : (n start end : ℕ) (allowed : Option ℕ) (s : Seen) → length (decimal_text s.still) ≤ n → Fit (44 + n) (parts start end allowed s)
 unfolding parts
 fit_parts n start end allowed s h =
     widen (24 + (2 + (10 + (n + 8)))) (44 + n) _ (omega arith)
@@ -187,13 +187,13 @@ found-sound n (m ∷ ms) h = go (eqb m.number n) (found-sound n ms h.1)
     go true k = h.0
     go false k = k
 
-pub one_at : (n : ℕ) (f : Found) (m start end : ℕ) (s : Seen) → IfOne f → m < 16 → length (decimal_text s.still) ≤ n → AtMostOne n (doubt_by f m start end s)
-one_at n none m start end s h l k = go s.there
+pub one_at : (n : ℕ) (f : Found) (m start end : ℕ) (s : Option Seen) → IfOne f → m < 16 → length (decimal_text (seen_or_zero s).still) ≤ n → AtMostOne n (doubt_by f m start end s)
+one_at n none m start end s h l k = go (is_some s)
   where
     go : (b : Bool) → AtMostOne n (stranger_if b m)
     go true = one_line (stranger_with m) (stranger-doubt n m l) (stranger-is m)
     go false = no_line refl
-one_at n (one x) m start end s h l k = own-doubt n x (parts start end x.allowed s) h (fit_parts n start end x.allowed s k)
+one_at n (one x) m start end s h l k = own-doubt n x (parts start end x.allowed (seen_or_zero s)) h (fit_parts n start end x.allowed (seen_or_zero s) k)
 
 -- where ten bytes suffice
 abbrev pub AllDoubts : List (List ℕ) → Type 0
@@ -224,7 +224,7 @@ doubts-more left s others (one_line t h e) d = record {
   lines = rw e (line-more 10 t others h ∙ ap (λ (ls : List (List ℕ)). doubt_with t ∷ ls) d.lines);
 }
 
-pub doubts-are : (left m : ℕ) (ms : List Meter) (start end : ℕ) (rs : List Bytes) → SoundMeters ms → ((k : ℕ) → length (decimal_text (seen k rs).still) ≤ 10) → left + m ≤ 16 → Doubts left (doubts_from left m ms start end rs)
+pub doubts-are : (left m : ℕ) (ms : List Meter) (start end : ℕ) (rs : List Bytes) → SoundMeters ms → ((k : ℕ) → length (decimal_text (shown k rs).still) ≤ 10) → left + m ≤ 16 → Doubts left (doubts_from left m ms start end rs)
 unfolding doubts_from lines_of
 doubts-are zero m ms start end rs h k l = record { texts = []; few = omega arith; all = tt; lines = refl }
 doubts-are (suc left) m ms start end rs h k l =

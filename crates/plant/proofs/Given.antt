@@ -10,8 +10,6 @@ use lib.ListN.{length, get_or}
 use borrow.Author.Tests.{eqb-true, eq-eqb}
 use Rattle.numbers.specs.Numbers.{tab}
 use Rattle.ascii.specs.Text.{ascii, same_text}
-use Rattle.day_words.specs.declared.Count.{Count}
-use Rattle.day_words.specs.declared.Count.TheVariants.{Shows, Unread}
 use Rattle.day_words.specs.Words.{up_to, without_return, skip_blanks, word, rest}
 use Rattle.sheet_words.specs.Names.{name_judged}
 use Rattle.sheet_words.specs.Lines.{unremarked}
@@ -19,17 +17,18 @@ use Rattle.plant.specs.declared.Wanted.TheVariants as wanted
 use Rattle.plant.specs.Lines.{Meter, none, one, find, is_one, is_given, Line, copied, metered, wrong, no_names, name_by, number_by, meter_number, meter_line, line_of, sound, onward, lines_from}
 use Rattle.plant.proofs.Taken.{is_metered}
 use Rattle.plant.proofs.Sheeted.{not-fault, lines_end_lem}
+use Rattle.std.specs.Prelude.{Option, Some, None}
 
 -- ---- a meter's line is one whatever was given before it
 
-number-alone : (c : Count) (t : List ℕ) (ms : List Meter) (m : Meter) → number_by c t ms ≡ metered m → number_by c t [] ≡ metered m
+number-alone : (c : Option ℕ) (t : List ℕ) (ms : List Meter) (m : Meter) → number_by c t ms ≡ metered m → number_by c t [] ≡ metered m
 unfolding find
-number-alone (Shows n) t ms m e = go (is_given n ms) e
+number-alone (Some n) t ms m e = go (is_given n ms) e
   where
     go : (b : Bool) → cond b (wrong wanted.NewNumber (word t)) (name_by (name_judged (word (rest t)) no_names) (rest t) n) ≡ metered m → name_by (name_judged (word (rest t)) no_names) (rest t) n ≡ metered m
     go true e = absurd (false≢true (ap is_metered e))
     go false e = e
-number-alone Unread t ms m e = e
+number-alone None t ms m e = e
 
 line-alone : (l : List ℕ) (ms : List Meter) (m : Meter) → line_of l ms ≡ metered m → line_of l [] ≡ metered m
 unfolding line_of meter_line
@@ -94,9 +93,9 @@ is_wrong copied = false
 is_wrong (metered m) = false
 is_wrong (wrong e w) = true
 
-number-after : (c : Count) (t : List ℕ) (ms : List Meter) (m : Meter) → number_by c t [] ≡ metered m → (number_by c t ms ≡ metered m) ⊎ (is_wrong (number_by c t ms) ≡ true)
+number-after : (c : Option ℕ) (t : List ℕ) (ms : List Meter) (m : Meter) → number_by c t [] ≡ metered m → (number_by c t ms ≡ metered m) ⊎ (is_wrong (number_by c t ms) ≡ true)
 unfolding find
-number-after (Shows n) t ms m e = go (is_given n ms)
+number-after (Some n) t ms m e = go (is_given n ms)
   where
     named : Line
     named = name_by (name_judged (word (rest t)) no_names) (rest t) n
@@ -104,7 +103,7 @@ number-after (Shows n) t ms m e = go (is_given n ms)
     go : (b : Bool) → (cond b (wrong wanted.NewNumber (word t)) named ≡ metered m) ⊎ (is_wrong (cond b (wrong wanted.NewNumber (word t)) named) ≡ true)
     go true = inr refl
     go false = inl e
-number-after Unread t ms m e = absurd (false≢true (ap is_metered e))
+number-after None t ms m e = absurd (false≢true (ap is_metered e))
 
 line_after : (l : List ℕ) (ms : List Meter) (m : Meter) → line_of l [] ≡ metered m → (line_of l ms ≡ metered m) ⊎ (is_wrong (line_of l ms) ≡ true)
 unfolding line_of meter_line

@@ -15,10 +15,12 @@ use Rattle.mend.proofs.Fates.{sound-is}
 use Rattle.mend.proofs.Again.{file-records}
 use Rattle.mend.proofs.Bounds.{Minutes, minutes-of}
 use Rattle.logged.specs.declared.Seen.{Seen}
-use Rattle.logged.specs.Meters.{unseen, larger, since, next, seen_from, seen}
+use Rattle.logged.specs.Meters.{larger, since, next, seen_from, seen, shown, seen_or_zero}
 use Rattle.logged.specs.Claims.{EndsOf}
 use Rattle.logged.proofs.Ends.{first-and-last}
 use Rattle.plant.specs.Claims.{old_of, new_of}
+use Rattle.std.specs.Option.{is_some}
+use Rattle.std.specs.Prelude.{Option, Some, None}
 
 abbrev pub SoundRecords : List Bytes → Type 0
 SoundRecords [] = Unit
@@ -77,22 +79,13 @@ readings-small m rs h = (old-small (of_meter m rs) (own-sound m rs h), new-small
 
 -- ---- what is seen of them
 
-none_seen : (m : ℕ) (s : Seen) (rs : List Bytes) → of_meter m rs ≡ [] → seen_from m s rs ≡ s
-unfolding seen_from of_meter
-none_seen m s [] h = refl
-none_seen m s (r ∷ rs) h = go (eqb (meter_of r) m) h (none_seen m s rs)
-  where
-    go : (b : Bool) → cond b (r ∷ of_meter m rs) (of_meter m rs) ≡ [] → (of_meter m rs ≡ [] → seen_from m s rs ≡ s) → seen_from m (cond b (next s (minute_of r) (reading_of r)) s) rs ≡ s
-    go true e more = absurd (let z : suc (length (of_meter m rs)) ≡ 0 = ap length e in omega (arith, z))
-    go false e more = more e
+seen_by : (own : List Bytes) (s : Option Seen) → EndsOf own s → ((seen_or_zero s).first ≡ old_of own) × ((seen_or_zero s).last ≡ new_of own)
+seen_by [] s e = (ap (λ (x : Option Seen). (seen_or_zero x).first) e, ap (λ (x : Option Seen). (seen_or_zero x).last) e)
+seen_by (r ∷ qs) None e = absurd e
+seen_by (r ∷ qs) (Some s) e = (e.first_reading, e.last_reading)
 
-seen_by : (own : List Bytes) (s : Seen) → EndsOf own s → (own ≡ [] → s ≡ unseen) → (s.first ≡ old_of own) × (s.last ≡ new_of own)
-unfolding unseen
-seen_by [] s e f = (ap (λ (x : Seen). x.first) (f refl), ap (λ (x : Seen). x.last) (f refl))
-seen_by (r ∷ qs) s e f = (e.first_reading, e.last_reading)
-
-pub seen-is : (m : ℕ) (rs : List Bytes) → ((seen m rs).first ≡ old_of (of_meter m rs)) × ((seen m rs).last ≡ new_of (of_meter m rs))
-seen-is m rs = seen_by (of_meter m rs) (seen m rs) (first-and-last m rs) (none_seen m unseen rs)
+pub seen-is : (m : ℕ) (rs : List Bytes) → ((shown m rs).first ≡ old_of (of_meter m rs)) × ((shown m rs).last ≡ new_of (of_meter m rs))
+seen-is m rs = seen_by (of_meter m rs) (seen m rs) (first-and-last m rs)
 
 -- a record's meter is there
 own-some : (rs : List Bytes) (i : ℕ) → i < length rs → is_there (of_meter (meter_of (get_or rs i [])) rs) ≡ true
@@ -108,18 +101,19 @@ own-some (r ∷ rs) (suc i) h = go (eqb (meter_of r) (meter_of (get_or rs i []))
     go true k = refl
     go false k = k
 
-there-by : (own : List Bytes) (s : Seen) → EndsOf own s → is_there own ≡ true → s.there ≡ true
+there-by : (own : List Bytes) (s : Option Seen) → EndsOf own s → is_there own ≡ true → is_some s ≡ true
 there-by [] s e h = absurd (false≢true h)
-there-by (r ∷ qs) s e h = e.is_there_holds
+there-by (r ∷ qs) None e h = absurd e
+there-by (r ∷ qs) (Some s) e h = refl
 
-pub record-there : (rs : List Bytes) (i : ℕ) → i < length rs → (seen (meter_of (get_or rs i [])) rs).there ≡ true
+pub record-there : (rs : List Bytes) (i : ℕ) → i < length rs → is_some (seen (meter_of (get_or rs i [])) rs) ≡ true
 record-there rs i h = there-by (of_meter (meter_of (get_or rs i [])) rs) (seen (meter_of (get_or rs i [])) rs) (first-and-last (meter_of (get_or rs i [])) rs) (own-some rs i h)
 
-own-by : (own : List Bytes) (s : Seen) → EndsOf own s → s.there ≡ true → is_there own ≡ true
-own-by [] s e h = absurd (false≢true (sym e ∙ h))
+own-by : (own : List Bytes) (s : Option Seen) → EndsOf own s → is_some s ≡ true → is_there own ≡ true
+own-by [] s e h = absurd (false≢true (sym (ap is_some e) ∙ h))
 own-by (r ∷ qs) s e h = refl
 
-pub own-there : (m : ℕ) (rs : List Bytes) → (seen m rs).there ≡ true → is_there (of_meter m rs) ≡ true
+pub own-there : (m : ℕ) (rs : List Bytes) → is_some (seen m rs) ≡ true → is_there (of_meter m rs) ≡ true
 own-there m rs h = own-by (of_meter m rs) (seen m rs) (first-and-last m rs) h
 
 pub record-numbered : (rs : List Bytes) (i : ℕ) → i < length rs → SoundRecords rs → meter_of (get_or rs i []) < 16
@@ -137,27 +131,21 @@ larger-below a b n h k = go (ltb a b)
     go true = k
     go false = h
 
-next-still : (s : Seen) (minute reading : ℕ) → s.still < 4294967296 → minute < 4294967296 → (next s minute reading).still < 4294967296
+next-still : (s : Option Seen) (minute reading : ℕ) → (seen_or_zero s).still < 4294967296 → minute < 4294967296 → (next s minute reading).still < 4294967296
 unfolding next
-next-still s minute reading h k = go s.there
-  where
-    go : (t : Bool)
-        → (cond {A = Seen} t (record { there = true; from = s.from; first = s.first; to = minute; last = reading; since = since s minute reading; still = larger s.still (minute - since s minute reading) })
-        (record { there = true; from = minute; first = reading; to = minute; last = reading; since = minute; still = 0 })).still < 4294967296
-    go true = larger-below s.still (minute - since s minute reading) 4294967296 h (omega (arith, k))
-    go false = omega arith
+next-still None minute reading h k = omega arith
+next-still (Some s) minute reading h k = larger-below s.still (minute - since s minute reading) 4294967296 h (omega (arith, k))
 
-still-from : (m : ℕ) (s : Seen) (rs : List Bytes) → s.still < 4294967296 → Minutes rs → (seen_from m s rs).still < 4294967296
+still-from : (m : ℕ) (s : Option Seen) (rs : List Bytes) → (seen_or_zero s).still < 4294967296 → Minutes rs → (seen_or_zero (seen_from m s rs)).still < 4294967296
 unfolding seen_from
 still-from m s [] h k = h
 still-from m s (r ∷ rs) h k =
-    go (eqb (meter_of r) m) (still-from m (next s (minute_of r) (reading_of r)) rs (next-still s (minute_of r) (reading_of r) h k.0) k.1) (still-from m s rs h k.1)
+    go (eqb (meter_of r) m) (still-from m (Some (next s (minute_of r) (reading_of r))) rs (next-still s (minute_of r) (reading_of r) h k.0) k.1) (still-from m s rs h k.1)
   where
-    go : (b : Bool) → (seen_from m (next s (minute_of r) (reading_of r)) rs).still < 4294967296 → (seen_from m s rs).still < 4294967296
-        → (seen_from m (cond b (next s (minute_of r) (reading_of r)) s) rs).still < 4294967296
+    go : (b : Bool) → (seen_or_zero (seen_from m (Some (next s (minute_of r) (reading_of r))) rs)).still < 4294967296 → (seen_or_zero (seen_from m s rs)).still < 4294967296
+        → (seen_or_zero (seen_from m (cond b (Some (next s (minute_of r) (reading_of r))) s) rs)).still < 4294967296
     go true a b = a
     go false a b = b
 
-pub still-small : (m : ℕ) (kept : Bytes) → AreBytes kept → (seen m (records_of kept)).still < 4294967296
-unfolding unseen
-still-small m kept h = still-from m unseen (records_of kept) (omega arith) (minutes-of kept h)
+pub still-small : (m : ℕ) (kept : Bytes) → AreBytes kept → (shown m (records_of kept)).still < 4294967296
+still-small m kept h = still-from m None (records_of kept) (omega arith) (minutes-of kept h)

@@ -16,7 +16,7 @@ use Rattle.sheet_words.specs.Lines.{after_mark, unremarked}
 use Rattle.sheet_parts.specs.Texts.{is_plain}
 use Rattle.mend.specs.Mend.{Bytes}
 use Rattle.logged.specs.declared.Seen.{Seen}
-use Rattle.logged.specs.Meters.{seen}
+use Rattle.logged.specs.Meters.{seen, shown}
 use Rattle.plant.specs.Lines.{Line, copied, metered, wrong, line_of, remark_of}
 use Rattle.plant.specs.Texts.{after_blank, minutes_text, meter_text}
 use Rattle.plant.specs.Plant.{written_by, written, lines_text, mark_of}
@@ -104,7 +104,7 @@ free-written l rs h = go (line_of (without_return l) []) refl
     go (wrong w v) e = h
     go (metered m) e =
         let s = meters-sound (without_return l) [] m bare e in
-        free-meter m.name m.spread (remark_of (rest (without_return l))) (seen m.number rs) (no-feeds m.name (plain-name-bytes m.name s.name-bytes)) s.spread-free
+        free-meter m.name m.spread (remark_of (rest (without_return l))) (shown m.number rs) (no-feeds m.name (plain-name-bytes m.name s.name-bytes)) s.spread-free
         (each-drop no_feed (length (unremarked (rest (without_return l)))) (rest (without_return l)) (each-rest no_feed (without_return l) bare))
 
 pub lines-text : (ls : List (List ℕ)) (rs : List Bytes) (t : List ℕ) → EachLine ls → lines_of (lines_text ls rs ++ t) ≡ map (λ l. written l rs) ls ++ lines_of t
@@ -158,7 +158,7 @@ meter-unmarked name spread r s u = refl
 first-unmarked : (s : List ℕ) (x : Line) (rs : List Bytes) (u : List ℕ) → marked s ≡ false → marked (written_by x (up_to is_feed s) rs ++ (10 ∷ u)) ≡ false
 first-unmarked s copied rs u e = marked-first s u e
 first-unmarked s (wrong w v) rs u e = marked-first s u e
-first-unmarked s (metered m) rs u e = meter-unmarked m.name m.spread (remark_of (rest (without_return (up_to is_feed s)))) (seen m.number rs) (10 ∷ u)
+first-unmarked s (metered m) rs u e = meter-unmarked m.name m.spread (remark_of (rest (without_return (up_to is_feed s)))) (shown m.number rs) (10 ∷ u)
 
 lines-unmarked : (s : List ℕ) (rs : List Bytes) (t : List ℕ) → marked s ≡ false → marked (lines_text (lines_of s) rs ++ (35 ∷ t)) ≡ false
 unfolding lines_text lines_of same_text written

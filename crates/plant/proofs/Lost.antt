@@ -13,7 +13,7 @@ use Rattle.ascii.specs.Text.{decimal_text}
 use Rattle.day_words.specs.Words.{lines_of}
 use Rattle.sheet_words.specs.Lines.{after_mark}
 use Rattle.mend.specs.Mend.{Bytes, meter_of, records_of}
-use Rattle.logged.specs.Meters.{seen}
+use Rattle.logged.specs.Meters.{seen, shown}
 use Rattle.plant.specs.Lines.{Meter, Found, none, one, find, is_one, is_given}
 use Rattle.plant.specs.Texts.{minutes_text, stranger_text}
 use Rattle.plant.specs.Plant.{written, doubt_by, doubts_from}
@@ -23,6 +23,7 @@ use Rattle.plant.proofs.Doubts.{SoundMeters, AtMostOne, no_line, one_line, stran
 use Rattle.plant.proofs.Sheeted.{Sheeted, sheeted, sound-meters, past}
 use Rattle.plant.proofs.Given.{Owned, has-line}
 use Rattle.plant.proofs.Whole.{sheet-lines}
+use Rattle.std.specs.Option.{is_some}
 
 -- ---- a meter that is not given and has a record has a doubt
 
@@ -37,7 +38,7 @@ later-in s others b n (one_line t h e) d = record { at = suc d.at; is-stranger =
 here_in : (n : ℕ) (others : List ℕ) → n < 16 → Doubted (lines_of (stranger_text n ++ others)) n
 here_in n others h = record { at = 0; is-stranger = rw (stranger-is n, line-more 0 (stranger_with n) others (stranger-doubt 0 n h)) refl }
 
-has-doubt : (left m : ℕ) (ms : List Meter) (start end : ℕ) (rs : List Bytes) (n : ℕ) → SoundMeters ms → left + m ≤ 16 → find n ms ≡ none → (seen n rs).there ≡ true → m ≤ n → n < left + m
+has-doubt : (left m : ℕ) (ms : List Meter) (start end : ℕ) (rs : List Bytes) (n : ℕ) → SoundMeters ms → left + m ≤ 16 → find n ms ≡ none → is_some (seen n rs) ≡ true → m ≤ n → n < left + m
     → Doubted (lines_of (doubts_from left m ms start end rs)) n
 unfolding doubts_from
 has-doubt zero m ms start end rs n h l f t a b = absurd (omega (arith, a, b))
@@ -49,8 +50,8 @@ has-doubt (suc left) m ms start end rs n h l f t a b = go (eqb n m) refl (has-do
     go : (q : Bool) → eqb n m ≡ q → (m + 1 ≤ n → n < left + (m + 1) → Doubted (lines_of others) n) → Doubted (lines_of (doubt_by (find m ms) m start end (seen m rs) ++ others)) n
     go true e i = rw (← eqb-true n m e, f, t) (here_in n (doubts_from left (n + 1) ms start end rs) (omega (arith, l, b)))
     go false e i =
-        later-in (doubt_by (find m ms) m start end (seen m rs)) others (length (decimal_text (seen m rs).still)) n
-        (one_at (length (decimal_text (seen m rs).still)) (find m ms) m start end (seen m rs) (found-sound m ms h) (omega (arith, l)) (omega arith))
+        later-in (doubt_by (find m ms) m start end (seen m rs)) others (length (decimal_text (shown m rs).still)) n
+        (one_at (length (decimal_text (shown m rs).still)) (find m ms) m start end (seen m rs) (found-sound m ms h) (omega (arith, l)) (omega arith))
         (i (past m n a (eqb-false n m e)) (omega (arith, b)))
 
 -- ---- in the sheet
@@ -87,7 +88,7 @@ module _ (kept plant text : List ℕ) (s : Sheeted kept plant text) (n : ℕ) wh
             ∙ ap (λ (x : List ℕ). x ++ (10 ∷ [])) (get_or-append-add ws others (suc d.at) []) ∙ d.is-stranger,
       )
 
-  told-by : (f : Found) → find n (meters_of plant) ≡ f → n < 16 → (seen n (records_of kept)).there ≡ true → Told kept plant text n
+  told-by : (f : Found) → find n (meters_of plant) ≡ f → n < 16 → is_some (seen n (records_of kept)) ≡ true → Told kept plant text n
   unfolding find
   told-by none f l t =
       inr (by-doubt (has-doubt 16 0 (meters_of plant) (day_from kept plant) (day_to kept plant) (records_of kept) n (sound-meters plant (meters_of plant) s.sound-lines) (omega arith) f t (omega arith) (omega (arith, l))))

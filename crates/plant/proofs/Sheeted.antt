@@ -25,6 +25,7 @@ use Rattle.plant.proofs.Each.{each-return, no_feed}
 use Rattle.plant.proofs.Taken.{Sound, meters-sound}
 use Rattle.plant.proofs.Lines.{EachLine, each-lines}
 use Rattle.plant.proofs.Doubts.{SoundMeters}
+use Rattle.std.specs.Option.{is_some as is_seen}
 
 -- ---- each test in turn
 
@@ -137,15 +138,15 @@ first-none (c ∷ cs) others e = absurd (let z : suc (length cs) ≡ 0 = ap leng
 pub past : (m n : ℕ) → m ≤ n → (n ≡ m → ⊥) → m + 1 ≤ n
 past m n a z = ⊎_elim (λ (h : n < m + 1). absurd (z (omega (arith, a, h)))) (λ (h : m + 1 ≤ n). h) (lt-or-ge n (m + 1))
 
-amiss-none : (left m : ℕ) (ms : List Meter) (totals : List ℕ) (rs : List Bytes) → amiss_from left m ms totals rs ≡ [] → (n : ℕ) → m ≤ n → n < left + m → amiss_by (find n ms) n (seen n rs).there (get_or totals n 0) ≡ []
+amiss-none : (left m : ℕ) (ms : List Meter) (totals : List ℕ) (rs : List Bytes) → amiss_from left m ms totals rs ≡ [] → (n : ℕ) → m ≤ n → n < left + m → amiss_by (find n ms) n (is_seen (seen n rs)) (get_or totals n 0) ≡ []
 unfolding amiss_from
 amiss-none zero m ms totals rs e n a b = absurd (omega (arith, a, b))
 amiss-none (suc left) m ms totals rs e n a b =
-    let p = first-none (amiss_by (find m ms) m (seen m rs).there (get_or totals m 0)) (amiss_from left (m + 1) ms totals rs) e in
+    let p = first-none (amiss_by (find m ms) m (is_seen (seen m rs)) (get_or totals m 0)) (amiss_from left (m + 1) ms totals rs) e in
     go (eqb n m) refl p.0 (amiss-none left (m + 1) ms totals rs p.1 n)
   where
-    go : (t : Bool) → eqb n m ≡ t → amiss_by (find m ms) m (seen m rs).there (get_or totals m 0) ≡ []
-        → (m + 1 ≤ n → n < left + (m + 1) → amiss_by (find n ms) n (seen n rs).there (get_or totals n 0) ≡ []) → amiss_by (find n ms) n (seen n rs).there (get_or totals n 0) ≡ []
+    go : (t : Bool) → eqb n m ≡ t → amiss_by (find m ms) m (is_seen (seen m rs)) (get_or totals m 0) ≡ []
+        → (m + 1 ≤ n → n < left + (m + 1) → amiss_by (find n ms) n (is_seen (seen n rs)) (get_or totals n 0) ≡ []) → amiss_by (find n ms) n (is_seen (seen n rs)) (get_or totals n 0) ≡ []
     go true f here later = rw (eqb-true n m f) here
     go false f here later = later (past m n a (eqb-false n m f)) (omega (arith, b))
 
@@ -170,5 +171,5 @@ given_by : (f : Found) (m : ℕ) (there : Bool) (total : ℕ) → is_one f ≡ t
 given_by none m there total g e = absurd (false≢true g)
 given_by (one x) m there total g e = let p = not-amiss m x.name there (ltb largest total) e in (p.0, ltb-false largest total p.1)
 
-pub given-sound : (m : ℕ) (ms : List Meter) (totals : List ℕ) (rs : List Bytes) → m < 16 → is_given m ms ≡ true → amiss_from 16 0 ms totals rs ≡ [] → ((seen m rs).there ≡ true) × (get_or totals m 0 ≤ largest)
-given-sound m ms totals rs l g e = given_by (find m ms) m (seen m rs).there (get_or totals m 0) g (amiss-none 16 0 ms totals rs e m (omega arith) (omega (arith, l)))
+pub given-sound : (m : ℕ) (ms : List Meter) (totals : List ℕ) (rs : List Bytes) → m < 16 → is_given m ms ≡ true → amiss_from 16 0 ms totals rs ≡ [] → (is_seen (seen m rs) ≡ true) × (get_or totals m 0 ≤ largest)
+given-sound m ms totals rs l g e = given_by (find m ms) m (is_seen (seen m rs)) (get_or totals m 0) g (amiss-none 16 0 ms totals rs e m (omega arith) (omega (arith, l)))

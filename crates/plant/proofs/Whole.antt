@@ -17,7 +17,7 @@ use Rattle.sheet_words.specs.Lines.{after_mark}
 use Rattle.sheet_lines.specs.Lines as read
 use Rattle.sheet.specs.Sheet.{line_read, Outcome, onward, lines_read, at_start, sheet_of}
 use Rattle.mend.specs.Mend.{Bytes, records_of, of_meter}
-use Rattle.logged.specs.Meters.{seen}
+use Rattle.logged.specs.Meters.{seen, shown}
 use Rattle.plant.specs.Lines.{Meter, Line, copied, metered, wrong, line_of, remark_of}
 use Rattle.plant.specs.Texts.{minutes_text, meter_text}
 use Rattle.plant.specs.Plant.{written_by, written, day_start, day_end, doubts_from, sheet_text}
@@ -33,15 +33,15 @@ use Rattle.plant.proofs.Sheeted.{Sheeted, sheeted, sound-meters}
 -- ---- a line
 
 meter-read : (m : Meter) (r : List ℕ) (rs : List Bytes) (st : read.State) → Sound m → SoundRecords rs
-    → line_read (without_return (meter_text m.name m.spread r (seen m.number rs))) st
+    → line_read (without_return (meter_text m.name m.spread r (shown m.number rs))) st
     ≡ meter_taken m.name (value_in (above_zero m.spread)) (old_of (of_meter m.number rs)) (new_of (of_meter m.number rs)) st
 meter-read m r rs st s h =
     let n = m.number in
     let e = seen-is n rs in
     let small = readings-small n rs h in
-    reads-back m.name m.spread r s.value (seen n rs) st s.name-plain s.spread-plain s.spread-is (rw e.0 small.0) (rw e.1 small.1)
-    ∙ ap (λ (x : Float). meter_taken m.name x (seen n rs).first (seen n rs).last st) (sym (ap value_in s.spread-is))
-    ∙ ap (λ (k : ℕ). meter_taken m.name (value_in (above_zero m.spread)) k (seen n rs).last st) e.0
+    reads-back m.name m.spread r s.value (shown n rs) st s.name-plain s.spread-plain s.spread-is (rw e.0 small.0) (rw e.1 small.1)
+    ∙ ap (λ (x : Float). meter_taken m.name x (shown n rs).first (shown n rs).last st) (sym (ap value_in s.spread-is))
+    ∙ ap (λ (k : ℕ). meter_taken m.name (value_in (above_zero m.spread)) k (shown n rs).last st) e.0
     ∙ ap (λ (k : ℕ). meter_taken m.name (value_in (above_zero m.spread)) (old_of (of_meter n rs)) k st) e.1
 
 line_read_lem : (l : List ℕ) (rs : List Bytes) (st : read.State) → Each no_feed l → SoundRecords rs → line_read (without_return (written l rs)) st ≡ plant_line (line_of (without_return l) []) l rs st
@@ -109,7 +109,7 @@ sheet-lines kept plant text s = ap (λ (t : List ℕ). lines_of (after_mark t)) 
 module _ (kept plant text : List ℕ) (bytes : AreBytes kept) where
   doubts-of : Sheeted kept plant text → Doubts 16 (doubts_from 16 0 (meters_of plant) (day_from kept plant) (day_to kept plant) (records_of kept))
   doubts-of s =
-      doubts-are 16 0 (meters_of plant) (day_from kept plant) (day_to kept plant) (records_of kept) (sound-meters plant (meters_of plant) s.sound-lines) (λ m. decimal-short 9 (seen m (records_of kept)).still (let h = still-small m kept bytes in omega (arith, h))) (omega arith)
+      doubts-are 16 0 (meters_of plant) (day_from kept plant) (day_to kept plant) (records_of kept) (sound-meters plant (meters_of plant) s.sound-lines) (λ m. decimal-short 9 (shown m (records_of kept)).still (let h = still-small m kept bytes in omega (arith, h))) (omega arith)
 
 pub reads-back-whole : ReadsBack
 unfolding sheet_of

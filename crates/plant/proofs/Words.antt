@@ -12,11 +12,11 @@ use Rattle.io.specs.Digits.{hex_digit_ascii, last_digits}
 use Rattle.decimals.specs.Decimal.{is_digit, numeral_from}
 use Rattle.decimals.specs.Claims.{are_digits}
 use Rattle.totaliser.specs.Volume.{largest}
-use Rattle.day_words.specs.declared.Count.TheVariants.{Shows}
 use Rattle.day_words.specs.Words.{up_to, is_blank, skip_blanks, word, rest}
 use Rattle.day_words.specs.Items.{reading_of}
 use Rattle.sheet_words.specs.Names.{is_letter, begins_letter}
 use Rattle.sheet_words.specs.Lines.{unremarked_from}
+use Rattle.std.specs.Prelude.{Some}
 
 abbrev pub NoBlanks : List ℕ → Type 0
 NoBlanks [] = Unit
@@ -115,10 +115,10 @@ six-number : (a b c d e f : ℕ) → numeral_from 0 (six a b c d e f) ≡ 100000
 unfolding six numeral_from
 six-number a b c d e f = omega arith
 
-pub reading-six : (n : ℕ) → n ≤ largest → reading_of (place n) ≡ Shows n
+pub reading-six : (n : ℕ) → n ≤ largest → reading_of (place n) ≡ Some n
 unfolding reading_of six
 reading-six n h =
     let q = six-digits (n / 10 / 10 / 10 / 10 / 10 % 10) (n / 10 / 10 / 10 / 10 % 10) (n / 10 / 10 / 10 % 10) (n / 10 / 10 % 10) (n / 10 % 10) (n % 10) (omega arith) (omega arith) (omega arith) (omega arith) (omega arith) (omega arith) in
     let v = six-number (n / 10 / 10 / 10 / 10 / 10 % 10) (n / 10 / 10 / 10 / 10 % 10) (n / 10 / 10 / 10 % 10) (n / 10 / 10 % 10) (n / 10 % 10) (n % 10) in
     let e : numeral_from 0 (place n) ≡ n = omega (arith, v, h) in
-    rw q (ap Shows e)
+    rw q (ap Some e)

@@ -1,5 +1,5 @@
 -- What is shown of every sheet that is written: how it reads back, whose volumes it has, that no record is passed over, that its doubts can stand and what they count; and how much of the files decides. Definitions only.
-use Rattle.std.specs.Prelude.{◌≡◌, Bool, true, cond, ◌⊎◌, List, [], ◌∷◌, ◌++◌, map, ℕ, ◌+◌, ◌*◌, ◌≤◌, ◌<◌, leb, ltb, Float, length, take, drop, get_or}
+use Rattle.std.specs.Prelude.{◌≡◌, Bool, true, cond, ◌⊎◌, List, [], ◌∷◌, ◌++◌, map, ℕ, ◌+◌, ◌*◌, ◌≤◌, ◌<◌, leb, ltb, Float, length, take, drop, get_or, Result, Ok, Err}
 use Rattle.numbers.specs.Numbers.{+0}
 use Rattle.endian.specs.Little.{placed}
 use Rattle.endian.specs.Claims.{AreBytes}
@@ -8,8 +8,6 @@ use Rattle.totaliser.specs.Volume.{volume}
 use Rattle.day_words.specs.Words.{lines_of, without_return}
 use Rattle.day_words.specs.Items.{filled, value_in}
 use Rattle.sheet_words.specs.declared.Expected.TheVariants.{Late, FewItems, FewDoubts}
-use Rattle.sheet_words.specs.declared.Judged.{Judged}
-use Rattle.sheet_words.specs.declared.Judged.TheVariants.{Fine, Not}
 use Rattle.sheet_words.specs.Names.{name_judged, above_zero}
 use Rattle.sheet_words.specs.Lines.{after_mark}
 use Rattle.sheet_parts.specs.Texts.{is_plain}
@@ -17,11 +15,12 @@ use Rattle.sheet_lines.specs.Lines as read
 use Rattle.sheet.specs.Sheet.{line_read, Outcome, sheet_end, onward, at_start, sheet_of}
 use Rattle.mend.specs.Mend.{Bytes, meter_of, reading_of, records_of, of_meter, is_there, mend}
 use Rattle.mend.specs.Claims.{end_of}
-use Rattle.logged.specs.Meters.{seen}
+use Rattle.logged.specs.Meters.{seen, shown}
 use Rattle.logged.specs.Claims.{longest}
 use Rattle.plant.specs.Lines.{Meter, Line, copied, metered, wrong, line_of, Lines, sound, fault, lines_from}
 use Rattle.plant.specs.Texts.{minutes_text, stranger_text}
 use Rattle.plant.specs.Plant.{sheet, written, day_start, day_end, doubts_from, plant_sheet}
+use Rattle.sheet_words.specs.declared.Expected.{Expected}
 
 -- ---- what a plant file and kept records give
 
@@ -59,9 +58,9 @@ doubts_of kept plant = map (drop 6) (doubt_lines kept plant)
 -- ---- the sheet reads back
 
 -- an item more, with two readings; or its name cannot stand
-abbrev pub with_meter : Judged → (name : List ℕ) (spread : Float) (old new : ℕ) → read.State → read.Line
-with_meter Fine name spread old new st = read.taken (read.with_item 0 old new spread +0 +0 (placed (16 * st.items) (filled name) st.texts) st)
-with_meter (Not e) name spread old new st = read.wrong e name
+abbrev pub with_meter : Result Unit Expected → (name : List ℕ) (spread : Float) (old new : ℕ) → read.State → read.Line
+with_meter (Ok u) name spread old new st = read.taken (read.with_item 0 old new spread +0 +0 (placed (16 * st.items) (filled name) st.texts) st)
+with_meter (Err e) name spread old new st = read.wrong e name
 
 -- what a sheet's reader makes of a meter after some lines
 unfoldable pub meter_taken : (name : List ℕ) (spread : Float) (old new : ℕ) → read.State → read.Line
@@ -146,7 +145,7 @@ ShortDoubts = (kept plant text : List ℕ) → AreBytes kept → plant_sheet kep
 -- ---- K of a doubt is the longest time between two of the meter's records such that all its readings from the one to the other are equal
 
 abbrev pub StillFor : Type 0
-StillFor = (kept plant text : List ℕ) (m : ℕ) → plant_sheet kept plant ≡ sheet text → (seen m (records_of kept)).still ≡ longest (of_meter m (records_of kept))
+StillFor = (kept plant text : List ℕ) (m : ℕ) → plant_sheet kept plant ≡ sheet text → (shown m (records_of kept)).still ≡ longest (of_meter m (records_of kept))
 
 -- ---- bytes enough: those that the program reads decide
 

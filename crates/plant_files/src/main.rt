@@ -4,11 +4,9 @@
 #![tactic(auto)]
 
 ghost use Rattle.std.specs.Prelude.{◌≡◌, ◌≤◌, length};
-ghost use Rattle.input.specs.Reading.{Read};
+ghost use Rattle.std.specs.Io.{ReadsAtMost};
 
-use input::{Reading, complain, path, tell_error};
-use plant_sheet::Answer;
-use std::env::{Env, FillError};
+use input::{argument, complain, has_argument, path, tell_error};
 use std::fs::File;
 use std::io;
 
@@ -72,14 +70,14 @@ fn open_read(rt: &HostRuntime, name: &[u8]) -> io::Result<File> {
 }
 
 // Reads a file, as far as there is room; what fails is told by its name.
-fn read_file(rt: &HostRuntime, name: &[u8], buf: &mut [u8]) -> Reading
-    ensures { Read result buf.new }
+fn read_file(rt: &HostRuntime, name: &[u8], buf: &mut [u8]) -> io::Result<usize>
+    ensures { ReadsAtMost result buf.new }
 {
     let got = match open_read(rt, name) {
         Ok(mut from) => input::fill(&mut from, buf),
-        Err(e) => Reading::Failed(e),
+        Err(e) => Err(e),
     };
-    if let Reading::Failed(e) = got {
+    if let Err(e) = got {
         complain(rt, b"cannot read ", name, e);
     }
     got
@@ -91,12 +89,12 @@ fn tell(rt: &HostRuntime, kept: &[u8], plant: &[u8]) {
     let mut reasons = reasons_room();
     let mut out = sheet_room();
     match plant_sheet::write_sheet(kept, plant, &mut room, &mut reasons, &mut out) {
-        Answer::Sheet(n) => {
+        Ok(n) => {
             if let Err(e) = Print::write_all(rt, &out[..n]) {
                 complain(rt, b"cannot write ", b"standard output", e);
             }
         }
-        Answer::Refused(n) => tell_error(rt, &out[..n]),
+        Err(n) => tell_error(rt, &out[..n]),
     }
 }
 
@@ -104,26 +102,13 @@ fn tell(rt: &HostRuntime, kept: &[u8], plant: &[u8]) {
 fn run(rt: &HostRuntime, kept_name: &[u8], plant_name: &[u8]) {
     let mut kept = kept_room();
     let mut plant = plant_room();
-    let Reading::Bytes(k) = read_file(rt, kept_name, &mut kept) else {
+    let Ok(k) = read_file(rt, kept_name, &mut kept) else {
         return;
     };
-    let Reading::Bytes(p) = read_file(rt, plant_name, &mut plant) else {
+    let Ok(p) = read_file(rt, plant_name, &mut plant) else {
         return;
     };
     tell(rt, &kept[..k], &plant[..p]);
-}
-
-// An argument, and how long it is: 0 where it is missing, or longer than there is room.
-fn argument(rt: &HostRuntime, i: usize, buf: &mut [u8]) -> usize
-    ensures { result ≤ length buf.new }
-{
-    rt.arg(i, buf).unwrap_or(0)
-}
-
-// Whether there is an argument, however long.
-fn has_argument(rt: &HostRuntime, i: usize) -> bool {
-    let mut buf = [0u8; 1];
-    !matches!(rt.arg(i, &mut buf), Err(FillError::NotPresent))
 }
 
 fn main(rt: HostRuntime) {

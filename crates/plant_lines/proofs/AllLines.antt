@@ -13,11 +13,12 @@ use Rattle.plant.specs.declared.Wanted.{Wanted}
 use Rattle.plant.specs.declared.Wanted.TheVariants as wanted
 use Rattle.plant.specs.Lines.{Meter, find, copied, metered, wrong, line_of, Lines, lines_end, onward, lines_from}
 use Rattle.plant_lines.specs.declared.Given.{Given}
-use Rattle.plant_lines.specs.declared.Reading.TheVariants as reading
 use Rattle.plant_lines.specs.Table.{meter_in, InLine, Noted, LinesTold}
 use Rattle.plant_lines.specs.inner.Work.{with_row, is_some, SoFar}
 use Rattle.plant_lines.proofs.MeterLine.{new-number}
 use Rattle.plant_lines.proofs.Rows.{not_found, noted_more}
+use Rattle.std.specs.Prelude.{Ok, Err}
+use Rattle.plant_lines.specs.declared.Wrong.{Wrong}
 
 -- ---- the line at a place, and the lines after it
 
@@ -67,9 +68,9 @@ module _ (plant : List ℕ) (from at k : ℕ) (b : Bool) (table : List ℕ) (s :
       go [] = refl
       go (m ∷ ms) = refl
 
-  pub line-wrong : (x : Wanted) (a c : ℕ) → wrong x (between a c plant) ≡ line_of (without_return (between at end plant)) s.meters → Lies a c plant → (left : List ℕ)
-      → LinesTold plant (lines_from (lines_of (drop from plant)) 0 []) (reading.Fault (k + 1) x a c) left
-  line-wrong x a c w l left = subst (λ (q : Lines). LinesTold plant q (reading.Fault (k + 1) x a c) left) (sym (rw (← w) at next-left)) (refl, refl, refl, l)
+  pub line-wrong : (x : Wrong) → wrong x.wanted (between x.start x.end plant) ≡ line_of (without_return (between at end plant)) s.meters → Lies x.start x.end plant → (left : List ℕ)
+      → LinesTold plant (lines_from (lines_of (drop from plant)) 0 []) (Err (record { line = k + 1; wrong = x })) left
+  line-wrong x w l left = subst (λ (q : Lines). LinesTold plant q (Err (record { line = k + 1; wrong = x })) left) (sym (rw (← w) at next-left)) (refl, refl, refl, l)
 
 -- ---- after the last line
 
@@ -78,16 +79,16 @@ module _ (plant : List ℕ) (from at k : ℕ) (b : Bool) (table : List ℕ) (s :
   unfolding lines_from
   none_left = s.left ∙ ap (λ (ls : List (List ℕ)). lines_from ls k s.meters) (lines_none (drop at plant) (rw (length-drop at plant) (omega arith)))
 
-  pub lines-sound : b ≡ true → LinesTold plant (lines_from (lines_of (drop from plant)) 0 []) reading.Sound table
-  lines-sound t = subst (λ (q : Lines). LinesTold plant q reading.Sound table) (sym none_left) (go s.meters (sym t ∙ s.some) s.noted)
+  pub lines-sound : b ≡ true → LinesTold plant (lines_from (lines_of (drop from plant)) 0 []) (Ok tt) table
+  lines-sound t = subst (λ (q : Lines). LinesTold plant q (Ok tt) table) (sym none_left) (go s.meters (sym t ∙ s.some) s.noted)
     where
-      go : (ms : List Meter) → true ≡ is_some ms → Noted plant ms table → LinesTold plant (lines_end k ms) reading.Sound table
+      go : (ms : List Meter) → true ≡ is_some ms → Noted plant ms table → LinesTold plant (lines_end k ms) (Ok tt) table
       go [] f n = absurd (let z : ◌≡◌ {A = ℕ} 0 1 = cc in omega arith)
       go (m ∷ ms) f n = n
 
-  pub lines-unmetered : b ≡ false → LinesTold plant (lines_from (lines_of (drop from plant)) 0 []) (reading.Fault (k + 1) wanted.Meter 0 0) table
-  lines-unmetered t = subst (λ (q : Lines). LinesTold plant q (reading.Fault (k + 1) wanted.Meter 0 0) table) (sym none_left) (go s.meters (sym t ∙ s.some))
+  pub lines-unmetered : b ≡ false → LinesTold plant (lines_from (lines_of (drop from plant)) 0 []) (Err (record { line = k + 1; wrong = record { wanted = wanted.Meter; start = 0; end = 0 } })) table
+  lines-unmetered t = subst (λ (q : Lines). LinesTold plant q (Err (record { line = k + 1; wrong = record { wanted = wanted.Meter; start = 0; end = 0 } })) table) (sym none_left) (go s.meters (sym t ∙ s.some))
     where
-      go : (ms : List Meter) → false ≡ is_some ms → LinesTold plant (lines_end k ms) (reading.Fault (k + 1) wanted.Meter 0 0) table
+      go : (ms : List Meter) → false ≡ is_some ms → LinesTold plant (lines_end k ms) (Err (record { line = k + 1; wrong = record { wanted = wanted.Meter; start = 0; end = 0 } })) table
       go [] f = (refl, refl, refl, (omega arith, omega arith))
       go (m ∷ ms) f = absurd (let z : ◌≡◌ {A = ℕ} 0 1 = cc in omega arith)

@@ -11,9 +11,10 @@ use Rattle.sheet_parts.proofs.Laws.{drop_of_take}
 use Rattle.sheet.proofs.Lines.{cut-between, lies_in, found_in}
 use Rattle.plant.specs.Lines.{metered, wrong, remark_of}
 use Rattle.plant_lines.specs.declared.Given.{Given}
-use Rattle.plant_lines.specs.declared.Step.{Step}
-use Rattle.plant_lines.specs.declared.Step.TheVariants.{Copied, Metered, Wrong}
-use Rattle.plant_lines.specs.Table.{meter_in, line_told, InLine, Fits}
+use Rattle.plant_lines.specs.Table.{meter_in, given_told, InLine, GivenFits}
+use Rattle.std.specs.Prelude.{Result, Ok, Err}
+use Rattle.plant_lines.specs.declared.Wrong.{Wrong}
+use Rattle.plant_lines.specs.inner.Work.{moved}
 
 -- ---- what a line tells is told of the text of which it is the front
 
@@ -23,21 +24,19 @@ lies-front n l a b h = (h.0, let z = length-take n l in omega (arith, z, h.1))
 same-front : (n : ℕ) (l : List ℕ) (a b : ℕ) → Lies a b (take n l) → between a b l ≡ between a b (take n l)
 same-front n l a b h = sym (cut-between n a b l (let z = length-take n l in omega (arith, z, h.1)))
 
-pub front-told : (n : ℕ) (l : List ℕ) (r : Step) → Fits (take n l) r → line_told l r ≡ line_told (take n l) r
-front-told n l Copied h = refl
-front-told n l (Metered g) h = rw (same-front n l g.name g.name_end h.name_lies, same-front n l g.spread g.spread_end h.spread_lies)
-front-told n l (Wrong e a b) h = ap (wrong e) (same-front n l a b h)
+pub front-told : (n : ℕ) (l : List ℕ) (r : Result Given Wrong) → GivenFits (take n l) r → given_told l r ≡ given_told (take n l) r
+front-told n l (Ok g) h = rw (same-front n l g.name g.name_end h.name_lies, same-front n l g.spread g.spread_end h.spread_lies)
+front-told n l (Err w) h = ap (wrong w.wanted) (same-front n l w.start w.end h)
 
-pub front_fits : (n : ℕ) (l : List ℕ) (r : Step) → Fits (take n l) r → Fits l r
-front_fits n l Copied h = tt
-front_fits n l (Metered g) h = record {
+pub front_fits : (n : ℕ) (l : List ℕ) (r : Result Given Wrong) → GivenFits (take n l) r → GivenFits l r
+front_fits n l (Ok g) h = record {
   number_low = h.number_low;
   name_lies = lies-front n l g.name g.name_end h.name_lies;
   name_short = h.name_short;
   spread_lies = lies-front n l g.spread g.spread_end h.spread_lies;
   minutes_low = h.minutes_low;
 }
-front_fits n l (Wrong e a b) h = lies-front n l a b h
+front_fits n l (Err w) h = lies-front n l w.start w.end h
 
 -- ---- the rest of a line without its remark, n bytes long, and the remark
 
@@ -58,17 +57,6 @@ module _ (line : List ℕ) (from n : ℕ) (e : take n (take (length line - from)
       sym (drop-drop n from line) ∙ ap (λ (j : ℕ). drop j (drop from line)) (sym k) ∙ ap (λ (t : List ℕ). drop (length (unremarked t)) t) r
 
 -- ---- places in the line from `at` to `end` of the plant file, cut to n, as places in the plant file
-
-abbrev pub moved : ℕ → Given → Given
-moved at g = record {
-  number = g.number;
-  name = at + g.name;
-  name_end = at + g.name_end;
-  spread = at + g.spread;
-  spread_end = at + g.spread_end;
-  limited = g.limited;
-  allowed = g.allowed;
-}
 
 module _ (plant : List ℕ) (at end n : ℕ) (h : Lies at end plant) (g : Given) (i : InLine (take n (between at end plant)) g) where
   pub moved_told : metered (meter_in plant (moved at g)) ≡ metered (meter_in (take n (between at end plant)) g)

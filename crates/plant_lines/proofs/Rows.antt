@@ -7,12 +7,11 @@ use native.Mathlib.Omega.{arith}
 use borrow.Author.Tests.{eqb-true, eqb-false}
 use lib.Dec.{eqb}
 use lib.ListN.{length, get_or, set, length-set}
-use Rattle.day_words.specs.declared.Count.TheVariants.{Shows, Unread}
 use Rattle.mend.proofs.State.{each}
 use Rattle.plant.specs.Lines.{Meter, Found, none, one, find, is_one}
 use Rattle.plant_lines.specs.declared.Given.{Given}
 use Rattle.plant_lines.specs.Table.{meter_in, InLine, Known, limit_of, Row, RowOf, Noted}
-use Rattle.plant_lines.specs.inner.Work.{limit_in, with_row}
+use Rattle.plant_lines.specs.inner.Work.{with_row}
 
 -- ---- which are given
 
@@ -49,7 +48,7 @@ find-more k (m ∷ ms) x = go (eqb m.number k) (find-more k ms x)
 
 -- ---- its row in the table
 
-pub row-set : (g : Given) (table : List ℕ) (limit : ℕ) → limit ≡ limit_in g
+pub row-set : (g : Given) (table : List ℕ) (limit : ℕ) → limit ≡ limit_of g.allowed
     → set (set (set (set table (32 + g.number) g.name_end) (48 + g.number) limit) (16 + g.number) g.name) g.number 1 ≡ with_row g table
 unfolding with_row
 row-set g table limit e = rw e
@@ -71,21 +70,14 @@ same_row plant (one x) t u k e r = record {
 module _ (plant : List ℕ) (ms : List Meter) (table : List ℕ) (g : Given) (n : Noted plant ms table) (i : InLine plant g) (new : find g.number ms ≡ none) where
   abbrev Mine : (k l q t r : ℕ) → Type 0
   Mine k l q t r =
-      (k ≡ g.number → (l ≡ 1) × (q ≡ g.name) × (t ≡ g.name_end) × (r ≡ limit_in g))
+      (k ≡ g.number → (l ≡ 1) × (q ≡ g.name) × (t ≡ g.name_end) × (r ≡ limit_of g.allowed))
       × ((k ≡ g.number → ⊥) → (l ≡ get_or table k 0) × (q ≡ get_or table (16 + k) 0) × (t ≡ get_or table (32 + k) 0) × (r ≡ get_or table (48 + k) 0))
 
   mine : (k : ℕ) → k < 16 → Mine k (get_or (with_row g table) k 0) (get_or (with_row g table) (16 + k) 0) (get_or (with_row g table) (32 + k) 0) (get_or (with_row g table) (48 + k) 0)
   unfolding with_row
-  mine = each g.number 1 g.name g.name_end (limit_in g) table i.number_low n.size Mine
+  mine = each g.number 1 g.name g.name_end (limit_of g.allowed) table i.number_low n.size Mine
       ((λ e. (refl, refl, refl, refl)), (λ d. absurd (d refl)))
       (λ k l d. ((λ e. absurd (d e)), (λ z. (refl, refl, refl, refl))))
-
-  limit-told : limit_in g ≡ limit_of (cond g.limited (Shows g.allowed) Unread)
-  limit-told = go g.limited
-    where
-      go : (b : Bool) → cond b (g.allowed + 1) 0 ≡ limit_of (cond b (Shows g.allowed) Unread)
-      go true = refl
-      go false = refl
 
   own_row : (k : ℕ) → k < 16 → k ≡ g.number → Row plant (meter_in plant g) (with_row g table) k
   own_row k l e = let m = (mine k l).0 e in record {
@@ -93,7 +85,7 @@ module _ (plant : List ℕ) (ms : List Meter) (table : List ℕ) (g : Given) (n 
     name_lies = rw (m.1, m.2) i.name_lies;
     name_short = rw (m.1, m.2) i.name_short;
     name_is = rw (m.1, m.2);
-    limit_is = m.3 ∙ limit-told;
+    limit_is = m.3;
   }
 
   row_of : (k : ℕ) → k < 16 → (b : Bool) → eqb g.number k ≡ b → RowOf plant (or_else (find k ms) (cond b (one (meter_in plant g)) none)) (with_row g table) k

@@ -11,13 +11,12 @@ use Rattle.endian.proofs.Placed.{length-placed}
 use Rattle.ascii.specs.Text.{ascii, decimal_text}
 use Rattle.ascii.specs.inner.Work.{Wrote}
 use Rattle.ascii.proofs.Writing.{wrote_then, as-text}
-use Rattle.day_words.specs.declared.Count.{Count}
-use Rattle.day_words.specs.declared.Count.TheVariants.{Shows, Unread}
 use Rattle.sheet_parts.specs.Shown.{shown_word}
 use Rattle.plant.specs.declared.Wanted.{Wanted}
 use Rattle.plant.specs.Texts.{after_blank, also, begins_text, ends_text, still_text, doubt_of, stranger_text, is_last, quoted, found_text}
 use Rattle.plant.specs.Plant.{stranger_if}
 use Rattle.plant_text.specs.inner.Work.{behind}
+use Rattle.std.specs.Prelude.{Option, Some, None}
 
 -- ---- a meter's line
 
@@ -84,11 +83,11 @@ pub ends-well : (end to : ℕ) → end ≤ to → to ≤ end → ends_text end t
 unfolding ends_text
 ends-well end to h k = rw (le-ltb to end h, le-ltb end to k) refl
 
-pub still-ever : (allowed : Count) (still : ℕ) → allowed ≡ Unread → still_text allowed still ≡ []
+pub still-ever : (allowed : Option ℕ) (still : ℕ) → allowed ≡ None → still_text allowed still ≡ []
 unfolding still_text
 still-ever allowed still e = rw e refl
 
-pub still-short : (allowed : Count) (longest still : ℕ) → allowed ≡ Shows longest → still ≤ longest → still_text allowed still ≡ []
+pub still-short : (allowed : Option ℕ) (longest still : ℕ) → allowed ≡ Some longest → still ≤ longest → still_text allowed still ≡ []
 unfolding still_text
 still-short allowed longest still e h = rw (e, le-ltb longest still h) refl
 
@@ -97,7 +96,7 @@ unfolding ascii tab
 stands zero still = refl
 stands (suc k) still = refl
 
-pub still-long : (at : ℕ) (allowed : Count) (longest still : ℕ) → allowed ≡ Shows longest → longest < still
+pub still-long : (at : ℕ) (allowed : Option ℕ) (longest still : ℕ) → allowed ≡ Some longest → longest < still
     → behind at (ascii "still for ") ++ (decimal_text still ++ ascii " minutes") ≡ behind at (still_text allowed still)
 unfolding still_text
 still-long at allowed longest still e h = rw (e, lt-ltb longest still h) (stands at still)

@@ -7,7 +7,6 @@ ghost use Rattle.plant.specs.Texts.{minutes_text, after_blank, meter_text, begin
 ghost use Rattle.plant.specs.Plant.{stranger_if};
 ghost use Rattle.plant_text.specs.inner.Work.{behind};
 
-use day_words::Count;
 use logged::Seen;
 use plant::Wanted;
 
@@ -106,12 +105,12 @@ fn put_ends(out: &mut [u8], at: usize, end: u32, to: u32) -> usize
 }
 
 // For how long it stands still, where that is longer than allowed.
-fn put_still(out: &mut [u8], at: usize, allowed: Count, still: u32) -> usize
+fn put_still(out: &mut [u8], at: usize, allowed: Option<u32>, still: u32) -> usize
     requires { at + 40 ≤ length out.old }
     ensures wrote { Wrote out.old at (behind at (still_text allowed still)) out.new result }
     ensures upper_bound { result ≤ at + 40 }
 {
-    let Count::Shows(longest) = allowed else {
+    let Some(longest) = allowed else {
         return at;
     };
     if still <= longest {
@@ -123,7 +122,7 @@ fn put_still(out: &mut [u8], at: usize, allowed: Count, still: u32) -> usize
 }
 
 // All parts of a meter's doubt.
-fn put_parts(out: &mut [u8], start: u32, end: u32, allowed: Count, s: Seen) -> usize
+fn put_parts(out: &mut [u8], start: u32, end: u32, allowed: Option<u32>, s: Seen) -> usize
     requires { 64 ≤ length out.old }
     ensures wrote { Wrote out.old 0 (parts start end allowed s) out.new result }
     ensures upper_bound { result ≤ 64 }
@@ -138,7 +137,7 @@ pub fn put_own_doubt(
     out: &mut [u8],
     at: usize,
     name: &[u8],
-    allowed: Count,
+    allowed: Option<u32>,
     start: u32,
     end: u32,
     s: Seen,

@@ -14,7 +14,7 @@ ghost use Rattle.problem_answer.specs.inner.Work.{step_answer_of, step_from};
 
 use crate::text::{put_float, put_lines};
 use ascii::{put_byte, put_decimal, put_text};
-use problem_read::tables;
+use problem_read::{Unread, tables};
 use workspace::Refusal;
 
 // ---- the text
@@ -65,15 +65,14 @@ fn put_done(out: &mut [u8], relaxation: f64, d: &[f64], multipliers: &[f64]) -> 
     put_lines(out, e, b'm', multipliers)
 }
 
-// What the step answers, with the lists that it leaves.
-fn put_answer(out: &mut [u8], answer: step_call::Outcome, d: &[f64], multipliers: &[f64]) -> usize
+// What the step answers, its relaxation or why there is none, with the lists that it leaves.
+fn put_answer(out: &mut [u8], answer: Result<f64, Refusal>, d: &[f64], multipliers: &[f64]) -> usize
     requires { (2048 ≤ length out.old) × (length d.now ≤ 16) × (length multipliers.now ≤ 16) }
     ensures { Wrote out.old 0 (step_text (step_answer_of answer d.now multipliers.now)) out.new result }
 {
     match answer {
-        step_call::Outcome::Refused(k) => put_refusal(out, k),
-        step_call::Outcome::Failed(k, _) => put_refusal(out, k),
-        step_call::Outcome::Done(relaxation, _) => put_done(out, relaxation, d, multipliers),
+        Ok(relaxation) => put_done(out, relaxation, d, multipliers),
+        Err(why) => put_refusal(out, why),
     }
 }
 
@@ -101,7 +100,7 @@ fn solve(
     vals: &[f64],
     d: &mut [f64],
     multipliers: &mut [f64],
-) -> step_call::Outcome
+) -> Result<f64, Refusal>
     requires m_bound { (m ≤ 16) × (0 < n) × (n ≤ 16) × (length marks.now ≡ PLACES) × (length vals.now ≡ PLACES) }
     requires d_len { (length d.old ≡ n) × (length multipliers.old ≡ m) }
     ensures { step_answer_of result d.new multipliers.new ≡ step_answer (problem_in m n marks.now vals.now) }
@@ -111,7 +110,7 @@ fn solve(
     let mut space = [0u8; 16];
     let ks = &mut space[..m];
     tables::load_kinds(marks, ks);
-    step_call::Step::solve_strictly(
+    let stepped = step_call::Step::solve_strictly(
         n,
         m,
         tables::factor(n, vals),
@@ -126,7 +125,8 @@ fn solve(
         multipliers,
         &mut w,
         &mut iw,
-    )
+    )?;
+    stepped.relaxation
 }
 
 // Room for a number of each variable, or of each constraint.
@@ -159,8 +159,8 @@ pub fn respond(bytes: &[u8], out: &mut [u8; 2048]) -> usize
     let mut marks = tables::blank_marks();
     let mut vals = tables::blank_values();
     match problem_read::decode(bytes, &mut marks, &mut vals) {
-        problem_read::Input::Fault(k) => put_fault(out, k),
-        problem_read::Input::Large => put_refused(out, 1),
-        problem_read::Input::Whole(m, n) => put_step(m, n, &marks, &vals, out),
+        Err(Unread::Fault(k)) => put_fault(out, k),
+        Err(Unread::Large) => put_refused(out, 1),
+        Ok(sizes) => put_step(sizes.constraints, sizes.variables, &marks, &vals, out),
     }
 }

@@ -40,8 +40,8 @@ pub fn put_lines(out: &mut [u8], at: usize, tag: u8, xs: &[f64]) -> usize
     ensures upper_bound { result ≤ at + 40 * length xs.now }
 {
     let mut to = at;
-    for i in 0..xs.len() {
-        to = put_line(out, to, tag, i, xs[i]);
+    for (i, x) in xs.iter().enumerate() {
+        to = put_line(out, to, tag, i, *x);
     }
     to
 }

@@ -19,15 +19,11 @@ use Rattle.numbers.proofs.Lists.{length-tab, get_d-tab, tab-same, tab-of, grid-o
 use Rattle.workspace.specs.Tables.{is_dimension, is_constraints}
 use Rattle.workspace.proofs.Tests.{and-true}
 use Rattle.problem_read.specs.declared.Area.{Area}
-use Rattle.problem_read.specs.declared.Spot.{Spot}
-use Rattle.problem_read.specs.declared.Spot.TheVariants.{Outside, At}
-use Rattle.problem_read.specs.declared.Head.TheVariants.{Unsound, TooLarge, Sizes}
-use Rattle.problem_read.specs.declared.Input.TheVariants.{Fault, Large, Whole}
 use Rattle.problem_read.specs.Input.{record_tag, record_row, record_column, record_bits, spare_zero, record_at, field, gives, given, is_some, is_sound, or_else, constraint_of, table, given_bits, is_whole, all_below, is_complete, Decoded, fault, too_large, problem, walk, is_head, decode, in_numbers, read_numbers}
 use Rattle.problem_read.specs.Bits.{ConstraintBits, Bits, number, kind_of, value_of, width_of, numbers_of, one_bits, low_bits, high_bits}
 use Rattle.problem_read.specs.Tables.{kind_at, problem_in}
 use Rattle.problem_read.specs.inner.Spots.{area, area_of, if_spot, spot_in, spot_of, tag_mark, default_at, no_marks, default_values, whole_at}
-use Rattle.problem_read.specs.inner.Filling.{entry_of, kept, added, if_entered, put_at, entered, if_head, sizes_of, head_of, Filling, filling, if_filling, on_entered, on_head, closing, walk_tables, decode_tables, stated}
+use Rattle.problem_read.specs.inner.Filling.{entry_of, kept, added, if_entered, put_at, entered, if_head, sizes_of, head_of, Filling, filling, if_filling, on_entered, on_head, closing, walk_tables, decode_tables, stated, sized}
 use Rattle.step_rows.specs.Problem.{Problem, problem_of}
 use Rattle.problem_read.proofs.Entries.{mark-some}
 use Rattle.problem_read.proofs.Marks.{all_same, all-at}
@@ -36,6 +32,8 @@ use Rattle.problem_read.proofs.Areas.{spot-within, room, within_in, square}
 use Rattle.problem_read.proofs.Heads.{sizes-in, InTable}
 use Rattle.problem_read.proofs.Places.{one_entry, one_field, area-field}
 use Rattle.problem_read.proofs.Inside.{is_at, inside-at}
+use Rattle.std.specs.Prelude.{Some, None, Ok, Err, Option as Place}
+use Rattle.problem_read.specs.declared.Unread.TheVariants.{Fault, Large}
 
 -- ---- what the tables hold after some records
 
@@ -43,8 +41,8 @@ use Rattle.problem_read.proofs.Inside.{is_at, inside-at}
 record Holds (m n : ℕ) (rs : List (List ℕ)) (marks : List ℕ) (vals : List Float) : Type 0 where
   marks_size : length marks ≡ 592
   vals_size : length vals ≡ 592
-  mark : (t i j p : ℕ) → spot_in (area_of m n t) i j ≡ At p → get_or marks p 0 ≡ mark_in (given rs t i j)
-  val : (t i j p : ℕ) → spot_in (area_of m n t) i j ≡ At p → get_or vals p nan ≡ number_or (given rs t i j) (default_at n p)
+  mark : (t i j p : ℕ) → spot_in (area_of m n t) i j ≡ Some p → get_or marks p 0 ≡ mark_in (given rs t i j)
+  val : (t i j p : ℕ) → spot_in (area_of m n t) i j ≡ Some p → get_or vals p nan ≡ number_or (given rs t i j) (default_at n p)
 
 zeros-at : (k p : ℕ) → ◌≡◌ {A = ℕ} (get_or (replicate k 0) p 0) 0
 zeros-at zero p = refl
@@ -68,16 +66,16 @@ given-skip : (r : List ℕ) (rs : List (List ℕ)) (t i j : ℕ) → gives r t i
 unfolding given
 given-skip r rs t i j e = rw e
 
-module _ (m n : ℕ) (hm : m ≤ 16) (hn : n ≤ 16) (r : List ℕ) (q : ℕ) (e : spot_in (area_of m n (record_tag r)) (record_row r) (record_column r) ≡ At q) where
+module _ (m n : ℕ) (hm : m ≤ 16) (hn : n ≤ 16) (r : List ℕ) (q : ℕ) (e : spot_in (area_of m n (record_tag r)) (record_row r) (record_column r) ≡ Some q) where
   -- an entry with the record's place is the one that it gives
-  gives-here : (t i j : ℕ) → spot_in (area_of m n t) i j ≡ At q → gives r t i j ≡ true
+  gives-here : (t i j : ℕ) → spot_in (area_of m n t) i j ≡ Some q → gives r t i j ≡ true
   gives-here t i j h =
       let o = one_entry m n (record_tag r) (record_row r) (record_column r) t i j q hm hn e h in
       let f = one_field m n (record_tag r) (record_row r) (record_column r) t i j q hm hn e h in
       simp (eq-eqb _ _ f, eq-eqb _ _ o.rows, eq-eqb _ _ o.cols)
 
   -- and no other is
-  gives-not : (t i j p : ℕ) → spot_in (area_of m n t) i j ≡ At p → (p ≡ q → ⊥) → gives r t i j ≡ false
+  gives-not : (t i j p : ℕ) → spot_in (area_of m n t) i j ≡ Some p → (p ≡ q → ⊥) → gives r t i j ≡ false
   gives-not t i j p h x = go (gives r t i j) refl
     where
       go : (b : Bool) → gives r t i j ≡ b → b ≡ false
@@ -86,8 +84,8 @@ module _ (m n : ℕ) (hm : m ≤ 16) (hn : n ≤ 16) (r : List ℕ) (q : ℕ) (e
           let v = and-true (eqb (record_row r) i) (eqb (record_column r) j) u.1 in
           let f : field (record_tag r) ≡ field t = eqb-true _ _ u.0 in
           let b : area_of m n (record_tag r) ≡ area_of m n t = sym (area-field m n (record_tag r)) ∙ ap (area_of m n) f ∙ area-field m n t in
-          let s : spot_in (area_of m n t) i j ≡ At q = rw (← b, ← eqb-true (record_row r) i v.0, ← eqb-true (record_column r) j v.1) e in
-          let z : At p ≡ At q = sym h ∙ s in
+          let s : spot_in (area_of m n t) i j ≡ Some q = rw (← b, ← eqb-true (record_row r) i v.0, ← eqb-true (record_column r) j v.1) e in
+          let z : Some p ≡ Some q = sym h ∙ s in
           let w : p ≡ q = cc in
           absurd (x w)
       go false g = refl
@@ -101,7 +99,7 @@ module _ (m n : ℕ) (hm : m ≤ 16) (hn : n ≤ 16) (r : List ℕ) (q : ℕ) (e
         mark = λ t i j p h.
             ⊎_elim
             (λ (s : p ≡ q).
-            let k : spot_in (area_of m n t) i j ≡ At q = rw (← s) h in
+            let k : spot_in (area_of m n t) i j ≡ Some q = rw (← s) h in
             rw (s, given-here r rs t i j (gives-here t i j k)) (get_or-set_same marks q (tag_mark (record_tag r)) 0 (omega (arith, a.marks_size))))
             (λ (s : p ≡ q → ⊥).
             rw (given-skip r rs t i j (gives-not t i j p h s)) (get_or-set_other marks q p (tag_mark (record_tag r)) 0 s ∙ a.mark t i j p h))
@@ -109,7 +107,7 @@ module _ (m n : ℕ) (hm : m ≤ 16) (hn : n ≤ 16) (r : List ℕ) (q : ℕ) (e
         val = λ t i j p h.
             ⊎_elim
             (λ (s : p ≡ q).
-            let k : spot_in (area_of m n t) i j ≡ At q = rw (← s) h in
+            let k : spot_in (area_of m n t) i j ≡ Some q = rw (← s) h in
             rw (s, given-here r rs t i j (gives-here t i j k)) (get_or-set_same vals q (number (record_bits r)) nan (omega (arith, a.vals_size))))
             (λ (s : p ≡ q → ⊥).
             rw (given-skip r rs t i j (gives-not t i j p h s)) (get_or-set_other vals q p (number (record_bits r)) nan s ∙ a.val t i j p h))
@@ -129,7 +127,7 @@ part-grid l o m n f h g =
     ∙ grid-same m n (λ i j. entry n (take (m * n) (drop o l)) i j) f
     (λ i j a b. let k = index-lt m n i j a b in get_or-take (m * n) (drop o l) (i * n + j) nan k ∙ get_or-drop o l (i * n + j) nan ∙ g i j a b)
 
-cell_at : (b : Area) (i j : ℕ) → i < b.rows → j < b.cols → spot_in b i j ≡ At (b.base + (i * b.cols + j))
+cell_at : (b : Area) (i j : ℕ) → i < b.rows → j < b.cols → spot_in b i j ≡ Some (b.base + (i * b.cols + j))
 unfolding spot_in
 cell_at b i j h k = simp (lt-ltb _ _ h, lt-ltb _ _ k)
 
@@ -194,11 +192,11 @@ module _ (m n : ℕ) (w : InTable m n) (rs : List (List ℕ)) (marks : List ℕ)
   cell-val t o k e i j h g = a.val t i j (o + (i * n + j)) (rw e (cell_at (area o k n) i j h g))
 
   -- constraint i
-  constraint-at : (i : ℕ) → i < m → spot_in (area_of m n 69) i 0 ≡ At (272 + i)
+  constraint-at : (i : ℕ) → i < m → spot_in (area_of m n 69) i 0 ≡ Some (272 + i)
   unfolding area_of
   constraint-at i h = let z : 272 + i ≡ 272 + (i * 1 + 0) = omega arith in rw z (cell_at (area 272 m 1) i 0 h (omega arith))
 
-  width-at : (i : ℕ) → i < m → spot_in (area_of m n 87) i 0 ≡ At (576 + i)
+  width-at : (i : ℕ) → i < m → spot_in (area_of m n 87) i 0 ≡ Some (576 + i)
   unfolding area_of
   width-at i h = let z : 576 + i ≡ 576 + (i * 1 + 0) = omega arith in rw z (cell_at (area 576 m 1) i 0 h (omega arith))
 
@@ -293,7 +291,7 @@ module _ (m n : ℕ) (w : InTable m n) (bs : List ℕ) where
   end-agrees k rs marks vals a = rw (complete-agrees m n w rs marks vals a) (go (eqb (length bs % 16) 0) (is_complete m rs) refl)
     where
       go : (s t : Bool) → is_complete m rs ≡ t
-          → stated (if_filling (s && t) (filling (Whole m n) marks vals) (filling (Fault k) marks vals)) ≡ in_numbers (cond (s && t) (problem (given_bits m n rs)) (fault k))
+          → stated (if_filling (s && t) (filling (Ok (sized m n)) marks vals) (filling (Err (Fault k)) marks vals)) ≡ in_numbers (cond (s && t) (problem (given_bits m n rs)) (fault k))
       go true true h = ap problem (problem-agrees m n w rs marks vals a h)
       go true false h = refl
       go false t h = refl
@@ -305,7 +303,7 @@ module _ (m n : ℕ) (w : InTable m n) (bs : List ℕ) where
   unfolding entered entry_of put_at is_sound
   turn r k rs marks vals f d a ih = rw (← inside-at m n (record_tag r) (record_row r) (record_column r)) (go (spare_zero r) (spot_of m n (record_tag r) (record_row r) (record_column r)) refl)
     where
-      at : (p : ℕ) → spot_in (area_of m n (record_tag r)) (record_row r) (record_column r) ≡ At p → (o : Option (List ℕ)) → given rs (record_tag r) (record_row r) (record_column r) ≡ o
+      at : (p : ℕ) → spot_in (area_of m n (record_tag r)) (record_row r) (record_column r) ≡ Some p → (o : Option (List ℕ)) → given rs (record_tag r) (record_row r) (record_column r) ≡ o
           → stated (on_entered (if_entered (eqb (get_or marks p 0) 0) (added (set marks p (tag_mark (record_tag r))) (set vals p (number (record_bits r)))) (kept marks vals)) k f)
           ≡ cond (not (is_some o)) d (fault k)
       at p e none g =
@@ -315,13 +313,13 @@ module _ (m n : ℕ) (w : InTable m n) (bs : List ℕ) where
           let z : get_or marks p 0 ≡ tag_mark (record_tag s) = a.mark (record_tag r) (record_row r) (record_column r) p e ∙ ap mark_in g in
           rw (ne_eqb (get_or marks p 0) 0 (λ y. mark-some (record_tag s) (sym z ∙ y)))
 
-      go : (z : Bool) (s : Spot) → spot_of m n (record_tag r) (record_row r) (record_column r) ≡ s
+      go : (z : Bool) (s : Place ℕ) → spot_of m n (record_tag r) (record_row r) (record_column r) ≡ s
           → stated (on_entered (put_at (if_spot z s) (tag_mark (record_tag r)) (number (record_bits r)) marks vals) k f)
           ≡ cond (is_at s && (z && not (is_some (given rs (record_tag r) (record_row r) (record_column r))))) d (fault k)
-      go false Outside e = refl
-      go false (At p) e = refl
-      go true Outside e = refl
-      go true (At p) e = at p (spot-within m n (record_tag r) (record_row r) (record_column r) p e) (given rs (record_tag r) (record_row r) (record_column r)) refl
+      go false None e = refl
+      go false (Some p) e = refl
+      go true None e = refl
+      go true (Some p) e = at p (spot-within m n (record_tag r) (record_row r) (record_column r) p e) (given rs (record_tag r) (record_row r) (record_column r)) refl
 
   walk-agrees : (left k : ℕ) (rs : List (List ℕ)) (marks : List ℕ) (vals : List Float) → Holds m n rs marks vals
       → stated (walk_tables m n bs left k marks vals) ≡ in_numbers (walk m n bs left k rs)
@@ -344,7 +342,7 @@ agreement bs marks vals =
   where
     head : (s t : Bool) → (is_dimension (record_column (take 16 bs)) && is_constraints (record_row (take 16 bs))) ≡ t
         → stated
-        (on_head (if_head s (if_head t (Sizes (record_row (take 16 bs)) (record_column (take 16 bs))) TooLarge) Unsound) (filling (Fault 0) marks vals) (filling Large marks vals)
+        (on_head (if_head s (if_head t (Ok (sized (record_row (take 16 bs)) (record_column (take 16 bs)))) (Err Large)) (Err (Fault 0))) marks vals
         (λ m n. walk_tables m n bs (length bs / 16 - 1) 1 no_marks (default_values n)))
         ≡ in_numbers (cond s (cond t (walk (record_row (take 16 bs)) (record_column (take 16 bs)) bs (length bs / 16 - 1) 1 []) too_large) (fault 0))
     head true true e =

@@ -9,11 +9,10 @@ use borrow.Author.Tests.{ltb-true}
 use lib.Dec.{eqb, ltb}
 use Rattle.numbers.proofs.Lists.{index-lt}
 use Rattle.problem_read.specs.declared.Area.{Area}
-use Rattle.problem_read.specs.declared.Spot.{Spot}
-use Rattle.problem_read.specs.declared.Spot.TheVariants.{Outside, At}
 use Rattle.problem_read.specs.inner.Spots.{area, either, area_of, spot_in, spot_of, if_spot}
 use Rattle.problem_read.specs.inner.Filling.{entry_of}
 use Rattle.problem_read.specs.Input.{is, spare_zero, record_tag, record_row, record_column}
+use Rattle.std.specs.Prelude.{Some, None, Option}
 
 -- where an `L` is not above the diagonal, the area decides
 pub spot-rest : (m n tag row col : ℕ) → (eqb tag 76 && ltb row col) ≡ false → spot_of m n tag row col ≡ spot_in (area_of m n tag) row col
@@ -50,14 +49,14 @@ room m n tag hm hn =
     (room-either (eqb tag 84) (fits 560 1 n (omega arith) (omega arith) hn (omega arith))
     (fits 0 0 0 (omega arith) (omega arith) (omega arith) (omega arith)))))))))
 
-never : {A : Type 0} (p : ℕ) → Outside ≡ At p → A
+never : {A : Type 0} (p : ℕ) → None ≡ Some p → A
 never p e = let z : ◌≡◌ {A = ℕ} 0 1 = cc in absurd (omega arith)
 
-pub if-spot : (b : Bool) (s : Spot) (p : ℕ) → if_spot b s ≡ At p → (b ≡ true) × (s ≡ At p)
+pub if-spot : (b : Bool) (s : Option ℕ) (p : ℕ) → if_spot b s ≡ Some p → (b ≡ true) × (s ≡ Some p)
 if-spot true s p e = (refl, e)
 if-spot false s p e = never p e
 
-pub within_in : (b : Area) (row col p : ℕ) → Room b → spot_in b row col ≡ At p → p < 592
+pub within_in : (b : Area) (row col p : ℕ) → Room b → spot_in b row col ≡ Some p → p < 592
 unfolding spot_in
 within_in b row col p h e =
     let x = if-spot (ltb row b.rows) _ p e in
@@ -67,14 +66,14 @@ within_in b row col p h e =
     omega (arith, h.all)
 
 -- the place that a record names lies in the tables
-pub entry_in : (m n : ℕ) (r : List ℕ) (p : ℕ) → m ≤ 16 → n ≤ 16 → entry_of m n r ≡ At p → p < 592
+pub entry_in : (m n : ℕ) (r : List ℕ) (p : ℕ) → m ≤ 16 → n ≤ 16 → entry_of m n r ≡ Some p → p < 592
 unfolding entry_of spot_of
 entry_in m n r p hm hn e =
     let x = if-spot (spare_zero r) _ p e in
     let y = if-spot (not (eqb (record_tag r) 76 && ltb (record_row r) (record_column r))) _ p x.1 in
     within_in (area_of m n (record_tag r)) (record_row r) (record_column r) p (room m n (record_tag r) hm hn) y.1
 
-pub spot-within : (m n t i j p : ℕ) → spot_of m n t i j ≡ At p → spot_in (area_of m n t) i j ≡ At p
+pub spot-within : (m n t i j p : ℕ) → spot_of m n t i j ≡ Some p → spot_in (area_of m n t) i j ≡ Some p
 unfolding spot_of
 spot-within m n t i j p e = (if-spot (not (is "L" t && ltb i j)) (spot_in (area_of m n t) i j) p e).1
 

@@ -1,5 +1,5 @@
 -- The sizes of a problem that was decoded are in the table, and one answer is promised.
-use mathlib.Core.Path.{◌∙◌, subst, sym, ◌≡◌, refl, ap, ap₂}
+use mathlib.Core.Path.{◌∙◌, sym, ◌≡◌, refl, ap, ap₂}
 use mathlib.Core.Bool.{Bool, true, false, cond, ◌&&◌}
 use mathlib.Core.List.{List, [], ◌∷◌}
 use Prim.Native.Nat.{ℕ, zero, suc, ◌+◌, ◌-◌, ◌/◌, ◌%◌}
@@ -9,14 +9,16 @@ use lib.ListN.{length}
 use lib.Ieee.{Float}
 use Rattle.workspace.specs.Tables.{is_dimension, is_constraints}
 use Rattle.step_rows.specs.Problem.{Problem}
-use Rattle.problem_read.specs.declared.Input.{Input}
-use Rattle.problem_read.specs.declared.Input.TheVariants.{Fault, Large, Whole}
 use Rattle.problem_read.specs.Tables.{problem_in, decoded_in}
-use Rattle.problem_read.specs.inner.Filling.{Filling, filling, Fills}
+use Rattle.problem_read.specs.inner.Filling.{Filling, filling, Fills, sized}
 use Rattle.problem_read.specs.Claims.{OneDecoding}
 use Rattle.problem_read.specs.Input.{record_row, record_column, record_at, is_sound, given_bits, is_complete, Decoded, fault, too_large, problem, walk, is_head, decode, in_numbers, read_numbers}
 use Rattle.problem_read.specs.Bits.{numbers_of}
 use Rattle.problem_read.proofs.Heads.{InTable, sizes-in}
+use Rattle.std.specs.Prelude.{Ok, Err, Result}
+use Rattle.problem_read.specs.declared.Sizes.{Sizes}
+use Rattle.problem_read.specs.declared.Unread.{Unread}
+use Rattle.problem_read.specs.declared.Unread.TheVariants.{Fault, Large}
 
 fault-not : {A : Type 0} (k : ℕ) (p : Problem) → ◌≡◌ {A = Decoded Problem} (fault k) (problem p) → A
 fault-not k p e = let z : ◌≡◌ {A = ℕ} 0 1 = cc in absurd (omega arith)
@@ -53,24 +55,24 @@ problem-sizes bs p e = go (leb 16 (length bs) && is_head (record_at bs 0)) (is_d
     go false t h q = fault-not 0 p q
 
 -- of the code's answer, where it says that there is a problem
-pub whole-sizes : (bs : List ℕ) (r : Input) (m n : ℕ) (marks : List ℕ) (vals : List Float) → r ≡ Whole m n → decoded_in r marks vals ≡ read_numbers bs → InTable m n
+pub whole-sizes : (bs : List ℕ) (r : Result Sizes Unread) (m n : ℕ) (marks : List ℕ) (vals : List Float) → r ≡ Ok (sized m n) → decoded_in r marks vals ≡ read_numbers bs → InTable m n
 unfolding problem_in
-whole-sizes bs r m n marks vals e h = problem-sizes bs (problem_in m n marks vals) (sym h ∙ ap (λ (q : Input). decoded_in q marks vals) e)
+whole-sizes bs r m n marks vals e h = problem-sizes bs (problem_in m n marks vals) (sym h ∙ ap (λ (q : Result Sizes Unread). decoded_in q marks vals) e)
 
 -- the promise allows one answer only
-same_answer : (r q : Input) (marks marks₁ : List ℕ) (vals vals₁ : List Float) → decoded_in r marks vals ≡ decoded_in q marks₁ vals₁ → r ≡ q
+same_answer : (r q : Result Sizes Unread) (marks marks₁ : List ℕ) (vals vals₁ : List Float) → decoded_in r marks vals ≡ decoded_in q marks₁ vals₁ → r ≡ q
 unfolding problem_in
-same_answer (Fault k) (Fault j) marks marks₁ vals vals₁ e = cc
-same_answer (Fault k) Large marks marks₁ vals vals₁ e = let z : ◌≡◌ {A = ℕ} 0 1 = cc in absurd (omega arith)
-same_answer (Fault k) (Whole m n) marks marks₁ vals vals₁ e = fault-not k _ e
-same_answer Large (Fault k) marks marks₁ vals vals₁ e = let z : ◌≡◌ {A = ℕ} 0 1 = cc in absurd (omega arith)
-same_answer Large Large marks marks₁ vals vals₁ e = refl
-same_answer Large (Whole m n) marks marks₁ vals vals₁ e = large-not _ e
-same_answer (Whole m n) (Fault k) marks marks₁ vals vals₁ e = fault-not k _ (sym e)
-same_answer (Whole m n) Large marks marks₁ vals vals₁ e = large-not _ (sym e)
-same_answer (Whole m n) (Whole j k) marks marks₁ vals vals₁ e =
-    let z : problem_in m n marks vals ≡ problem_in j k marks₁ vals₁ = cc in
-    ap₂ Whole (ap (λ (p : Problem). p.m) z) (ap (λ (p : Problem). p.n) z)
+same_answer (Err (Fault k)) (Err (Fault j)) marks marks₁ vals vals₁ e = cc
+same_answer (Err (Fault k)) (Err Large) marks marks₁ vals vals₁ e = let z : ◌≡◌ {A = ℕ} 0 1 = cc in absurd (omega arith)
+same_answer (Err (Fault k)) (Ok s) marks marks₁ vals vals₁ e = fault-not k _ e
+same_answer (Err Large) (Err (Fault k)) marks marks₁ vals vals₁ e = let z : ◌≡◌ {A = ℕ} 0 1 = cc in absurd (omega arith)
+same_answer (Err Large) (Err Large) marks marks₁ vals vals₁ e = refl
+same_answer (Err Large) (Ok s) marks marks₁ vals vals₁ e = large-not _ e
+same_answer (Ok s) (Err (Fault k)) marks marks₁ vals vals₁ e = fault-not k _ (sym e)
+same_answer (Ok s) (Err Large) marks marks₁ vals vals₁ e = large-not _ (sym e)
+same_answer (Ok s) (Ok t) marks marks₁ vals vals₁ e =
+    let z : problem_in s.constraints s.variables marks vals ≡ problem_in t.constraints t.variables marks₁ vals₁ = cc in
+    ap₂ (λ (m n : ℕ). Ok (sized m n)) (ap (λ (p : Problem). p.m) z) (ap (λ (p : Problem). p.n) z)
 
 pub one-decoding : OneDecoding
 one-decoding bs r q marks marks₁ marks₂ marks₃ vals vals₁ vals₂ vals₃ h k =
@@ -78,7 +80,7 @@ one-decoding bs r q marks marks₁ marks₂ marks₃ vals vals₁ vals₂ vals�
     (same_answer r q marks₁ marks₃ vals₁ vals₃ e, e)
 
 -- and so do the tables: where they held the same before, they hold the same afterwards
-pub one-filling : (bs : List ℕ) (r q : Input) (marks marks₁ marks₂ : List ℕ) (vals vals₁ vals₂ : List Float) → Fills bs r marks marks₁ vals vals₁ → Fills bs q marks marks₂ vals vals₂
+pub one-filling : (bs : List ℕ) (r q : Result Sizes Unread) (marks marks₁ marks₂ : List ℕ) (vals vals₁ vals₂ : List Float) → Fills bs r marks marks₁ vals vals₁ → Fills bs q marks marks₂ vals vals₂
     → (r ≡ q) × (marks₁ ≡ marks₂) × (vals₁ ≡ vals₂)
 one-filling bs r q marks marks₁ marks₂ vals vals₁ vals₂ h k =
     let e : filling r marks₁ vals₁ ≡ filling q marks₂ vals₂ = h.tables ∙ sym k.tables in

@@ -10,19 +10,17 @@ use lib.Dec.{eqb}
 use lib.ListN.{length, take, drop, get_or, set, replicate, length-set, length-append, length-drop, length-replicate}
 use lib.Seq.{take-append-le, drop-append-le}
 use lib.Ieee.{Float, binary64, of_bits}
-use Rattle.problem_read.specs.declared.Spot.{Spot}
-use Rattle.problem_read.specs.declared.Spot.TheVariants.{Outside, At}
-use Rattle.problem_read.specs.declared.Head.{Head}
-use Rattle.problem_read.specs.declared.Head.TheVariants.{Unsound, TooLarge, Sizes}
-use Rattle.problem_read.specs.declared.Input.TheVariants.{Fault, Large}
 use Rattle.problem_read.specs.Input.{record_tag, record_bits, record_at}
 use Rattle.problem_read.specs.inner.Spots.{tag_mark, no_marks, default_values}
-use Rattle.problem_read.specs.inner.Filling.{entry_of, Entered, kept, added, if_entered, put_at, entered, filling, on_entered, on_head, walk_tables, decode_tables, head_of, stated}
+use Rattle.problem_read.specs.inner.Filling.{entry_of, Entered, kept, added, if_entered, put_at, entered, on_entered, on_head, walk_tables, decode_tables, head_of, stated}
 use Rattle.problem_read.specs.Claims.{FirstBytesSay}
 use Rattle.problem_read.proofs.Agreement.{agreement}
 use Rattle.problem_read.proofs.Entries.{mark-some}
 use Rattle.problem_read.proofs.Areas.{entry_in}
 use Rattle.problem_read.proofs.Heads.{InTable, head_in}
+use Rattle.std.specs.Prelude.{Some, None, Ok, Err, Result, Option}
+use Rattle.problem_read.specs.declared.Sizes.{Sizes}
+use Rattle.problem_read.specs.declared.Unread.{Unread}
 
 -- how many places are marked
 used : List ℕ → ℕ
@@ -53,7 +51,7 @@ kept-not : {A : Type 0} (a c : List ℕ) (b d : List Float) → kept c d ≡ add
 kept-not a c b d e = let z : ◌≡◌ {A = ℕ} 0 1 = cc in absurd (omega arith)
 
 put-marks : (p k : ℕ) (v : Float) (marks marks' : List ℕ) (vals vals' : List Float) → p < length marks → (k ≡ 0 → ⊥)
-    → put_at (At p) k v marks vals ≡ added marks' vals' → Marked marks marks'
+    → put_at (Some p) k v marks vals ≡ added marks' vals' → Marked marks marks'
 unfolding put_at
 put-marks p k v marks marks' vals vals' h n e = go (eqb (get_or marks p 0) 0) refl e
   where
@@ -68,9 +66,9 @@ entered-marks : (m n : ℕ) (r marks marks' : List ℕ) (vals vals' : List Float
 unfolding entered put_at
 entered-marks m n r marks marks' vals vals' hm hn l e = go (entry_of m n r) refl e
   where
-    go : (s : Spot) → entry_of m n r ≡ s → put_at s (tag_mark (record_tag r)) (of_bits binary64 (record_bits r)) marks vals ≡ added marks' vals' → Marked marks marks'
-    go Outside t q = kept-not marks' marks vals' vals q
-    go (At p) t q =
+    go : (s : Option ℕ) → entry_of m n r ≡ s → put_at s (tag_mark (record_tag r)) (of_bits binary64 (record_bits r)) marks vals ≡ added marks' vals' → Marked marks marks'
+    go None t q = kept-not marks' marks vals' vals q
+    go (Some p) t q =
         let h : p < 592 = entry_in m n r p hm hn t in
         put-marks p (tag_mark (record_tag r)) (of_bits binary64 (record_bits r)) marks marks' vals vals' (omega arith) (mark-some (record_tag r)) q
 
@@ -119,12 +117,13 @@ enough p q lp =
     let g : 16 ≤ length (p ++ q) = omega (arith, length-append p q) in
     simp (le-ltb _ _ h, le-ltb _ _ g, take-append-le 16 p q h) (at (head_of (take 16 p)) refl)
   where
-    at : (h : Head) → head_of (take 16 p) ≡ h
-        → on_head h (filling (Fault 0) [] []) (filling Large [] []) (λ m n. walk_tables m n (p ++ q) (length (p ++ q) / 16 - 1) 1 no_marks (default_values n))
-        ≡ on_head h (filling (Fault 0) [] []) (filling Large [] []) (λ m n. walk_tables m n p (length p / 16 - 1) 1 no_marks (default_values n))
-    at Unsound t = refl
-    at TooLarge t = refl
-    at (Sizes m n) t =
+    at : (h : Result Sizes Unread) → head_of (take 16 p) ≡ h
+        → on_head h [] [] (λ m n. walk_tables m n (p ++ q) (length (p ++ q) / 16 - 1) 1 no_marks (default_values n))
+        ≡ on_head h [] [] (λ m n. walk_tables m n p (length p / 16 - 1) 1 no_marks (default_values n))
+    at (Err e) t = refl
+    at (Ok s) t =
+        let m = s.constraints in
+        let n = s.variables in
         let w : InTable m n = head_in (take 16 p) m n t in
         walk_same m n p q (length p / 16 - 1) (length (p ++ q) / 16 - 1) 1 no_marks (default_values n) w.few w.most no-marks.0 no-marks.1 lp
         (omega arith) (omega (arith, length-append p q))

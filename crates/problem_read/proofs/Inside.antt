@@ -8,17 +8,16 @@ use borrow.Author.Tests.{lt-ltb, le-ltb, le-leb, lt-leb, eq-eqb, ne_eqb}
 use lib.Dec.{ltb, leb, eqb}
 use Rattle.numbers.proofs.Cases.{lt-or-ge}
 use Rattle.problem_read.specs.declared.Area.{Area}
-use Rattle.problem_read.specs.declared.Spot.{Spot}
-use Rattle.problem_read.specs.declared.Spot.TheVariants.{Outside, At}
 use Rattle.problem_read.specs.Input.{is, is_inside}
 use Rattle.problem_read.specs.inner.Spots.{area, either, area_of, if_spot, spot_in, spot_of}
 use Rattle.problem_read.proofs.Bytes.{and-false}
+use Rattle.std.specs.Prelude.{Some, None, Option}
 
-abbrev pub is_at : Spot → Bool
-is_at Outside = false
-is_at (At p) = true
+abbrev pub is_at : Option ℕ → Bool
+is_at None = false
+is_at (Some p) = true
 
-both : (a b : Bool) (p : ℕ) → is_at (if_spot a (if_spot b (At p))) ≡ (a && b)
+both : (a b : Bool) (p : ℕ) → is_at (if_spot a (if_spot b (Some p))) ≡ (a && b)
 both true true p = refl
 both true false p = refl
 both false b p = refl

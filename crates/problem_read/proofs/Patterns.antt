@@ -8,7 +8,7 @@ use native.Mathlib.Omega.{arith}
 use lib.Dec.{eqb}
 use lib.Ieee.{Float, inf, of_bits, round}
 use Rattle.numbers.specs.Numbers.{+0, one, tab, rows, grid}
-use Rattle.problem_read.specs.Bits.{ConstraintBits, equality, floor, number, kind_of, value_of, width_of, one_bits, low_bits, high_bits}
+use Rattle.problem_read.specs.Bits.{equality, floor, number, kind_of, value_of, width_of, one_bits, low_bits, high_bits}
 use Rattle.problem_read.specs.Input.{record_tag, record_bits, is, or_else, constraint_of, table, is_whole}
 use Rattle.problem_read.specs.inner.Spots.{tag_mark, are_whole}
 

@@ -9,10 +9,10 @@ use lib.Arith.{digits_div, digits_mod}
 use lib.Dec.{eqb, ltb}
 use Rattle.numbers.proofs.Lists.{index-lt}
 use Rattle.problem_read.specs.declared.Area.{Area}
-use Rattle.problem_read.specs.declared.Spot.TheVariants.{At}
 use Rattle.problem_read.specs.Input.{is, field}
 use Rattle.problem_read.specs.inner.Spots.{area, either, area_of, spot_in}
 use Rattle.problem_read.proofs.Areas.{if-spot, square}
+use Rattle.std.specs.Prelude.{Some}
 
 -- a place in an area
 record Held (b : Area) (row col p : ℕ) : Type 0 where
@@ -21,7 +21,7 @@ record Held (b : Area) (row col p : ℕ) : Type 0 where
   place : b.base + (row * b.cols + col) ≡ p
   end : p < b.base + b.rows * b.cols
 
-held : (b : Area) (row col p : ℕ) → spot_in b row col ≡ At p → Held b row col p
+held : (b : Area) (row col p : ℕ) → spot_in b row col ≡ Some p → Held b row col p
 unfolding spot_in
 held b row col p e =
     let x = if-spot (ltb row b.rows) _ p e in
@@ -77,7 +77,7 @@ pub record OneEntry (m n tag row col tag' row' col' : ℕ) : Type 0 where
   pub rows : row ≡ row'
   pub cols : col ≡ col'
 
-pub one_entry : (m n tag row col tag' row' col' p : ℕ) → m ≤ 16 → n ≤ 16 → spot_in (area_of m n tag) row col ≡ At p → spot_in (area_of m n tag') row' col' ≡ At p
+pub one_entry : (m n tag row col tag' row' col' p : ℕ) → m ≤ 16 → n ≤ 16 → spot_in (area_of m n tag) row col ≡ Some p → spot_in (area_of m n tag') row' col' ≡ Some p
     → OneEntry m n tag row col tag' row' col'
 one_entry m n tag row col tag' row' col' p hm hn e f =
     let h = held (area_of m n tag) row col p e in
@@ -103,7 +103,7 @@ field_at base = cond (eqb base 0) 76 (cond (eqb base 256) 71 (cond (eqb base 272
 
 module _ (t row col p : ℕ) where
   abbrev Named : Area → Type 0
-  Named b = spot_in b row col ≡ At p → field t ≡ field_at b.base
+  Named b = spot_in b row col ≡ Some p → field t ≡ field_at b.base
 
   named-either : (k : ℕ) (x y : Area) → (t ≡ k → Named x) → Named y → Named (either (eqb t k) x y)
   named-either k x y f g = go (eqb t k) refl
@@ -126,7 +126,7 @@ module _ (t row col p : ℕ) where
       (λ h. absurd (omega (arith, (held (area 0 0 0) row col p h).low))))))))))
 
 -- so entries with one place are of one field
-pub one_field : (m n tag row col tag' row' col' p : ℕ) → m ≤ 16 → n ≤ 16 → spot_in (area_of m n tag) row col ≡ At p → spot_in (area_of m n tag') row' col' ≡ At p
+pub one_field : (m n tag row col tag' row' col' p : ℕ) → m ≤ 16 → n ≤ 16 → spot_in (area_of m n tag) row col ≡ Some p → spot_in (area_of m n tag') row' col' ≡ Some p
     → field tag ≡ field tag'
 one_field m n tag row col tag' row' col' p hm hn e f =
     let o = one_entry m n tag row col tag' row' col' p hm hn e f in

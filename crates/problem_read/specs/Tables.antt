@@ -1,10 +1,11 @@
 -- The two tables that `decode` leaves: a mark for each entry that a problem can have, and its value; and the problem that stands in them. Definitions only.
-use Rattle.std.specs.Prelude.{cond, List, ℕ, ◌+◌, ◌*◌, eqb, get_or, take, drop, Float}
+use Rattle.std.specs.Prelude.{cond, List, ℕ, ◌+◌, ◌*◌, eqb, get_or, take, drop, Float, Result, Ok, Err}
 use Rattle.numbers.specs.Numbers.{tab}
 use Rattle.step_rows.specs.Problem.{Problem, problem_of}
-use Rattle.problem_read.specs.declared.Input.{Input}
-use Rattle.problem_read.specs.declared.Input.TheVariants.{Fault, Large, Whole}
 use Rattle.problem_read.specs.Input.{Decoded, fault, too_large, problem}
+use Rattle.problem_read.specs.declared.Sizes.{Sizes}
+use Rattle.problem_read.specs.declared.Unread.{Unread}
+use Rattle.problem_read.specs.declared.Unread.TheVariants.{Fault, Large}
 
 -- ---- where the areas start, after the factor's at 0, and how many places there are
 
@@ -65,7 +66,7 @@ problem_in m n marks vals =
     problem_of n m (factor_in n vals) (gradient_in n vals) (kinds_in m marks) (values_in m vals) (widths_in m vals) (jacobian_in m n vals) (lower_in n vals) (upper_in n vals)
 
 -- what is decoded: the code's answer, with the problem that stands in the tables
-abbrev pub decoded_in : Input → List ℕ → List Float → Decoded Problem
-decoded_in (Fault k) marks vals = fault k
-decoded_in Large marks vals = too_large
-decoded_in (Whole m n) marks vals = problem (problem_in m n marks vals)
+abbrev pub decoded_in : Result Sizes Unread → List ℕ → List Float → Decoded Problem
+decoded_in (Err (Fault k)) marks vals = fault k
+decoded_in (Err Large) marks vals = too_large
+decoded_in (Ok s) marks vals = problem (problem_in s.constraints s.variables marks vals)

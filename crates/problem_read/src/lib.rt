@@ -29,34 +29,25 @@ const WIDTHS: usize = UPPER + 16;
 const PLACES: usize = WIDTHS + 16;
 
 // An area of the tables: where it starts, and its shape.
-#[derive(Clone, Copy)]
+#[derive(Clone, Copy, Debug, PartialEq, Eq)]
 pub struct Area {
     pub base: usize,
     pub rows: usize,
     pub cols: usize,
 }
 
-// The place of an entry.
-#[derive(Clone, Copy)]
-pub enum Spot {
-    Outside,
-    At(usize),
+// How many constraints and variables a problem has.
+#[derive(Clone, Copy, Debug, PartialEq, Eq)]
+pub struct Sizes {
+    pub constraints: usize,
+    pub variables: usize,
 }
 
-// What the first record says.
-#[derive(Clone, Copy)]
-pub enum Head {
-    Unsound,
-    TooLarge,
-    Sizes(usize, usize),
-}
-
-// What the input says: a fault at a record, sizes outside the table, or a problem of m constraints and n variables.
-#[derive(Clone, Copy)]
-pub enum Input {
+// Why there is no problem: a fault at a record, or sizes outside the table.
+#[derive(Clone, Copy, Debug, PartialEq, Eq)]
+pub enum Unread {
     Fault(usize),
     Large,
-    Whole(usize, usize),
 }
 
 // Whether the spare bytes of a record are zero.
@@ -76,17 +67,15 @@ fn spare_zero(r: &[u8]) -> bool
 fn make_area(base: usize, rows: usize, cols: usize) -> Area
     ensures { result ≡ area base rows cols }
 {
-    Area {
-        base: base,
-        rows: rows,
-        cols: cols,
-    }
+    Area { base, rows, cols }
 }
 
 // The area that a tag names.
-fn area_of(m: usize, n: usize, tag: u8) -> Area
-    ensures { result ≡ area_of m n tag }
+fn area_of(sizes: Sizes, tag: u8) -> Area
+    ensures { result ≡ area_of sizes.constraints sizes.variables tag }
 {
+    let m = sizes.constraints;
+    let n = sizes.variables;
     match tag {
         b'L' => make_area(0, n, n),
         b'G' => make_area(GRADIENT, 1, n),
@@ -108,7 +97,7 @@ fn mark(tag: u8) -> u8
 }
 
 // The place of (row, col) in an area that lies in the tables.
-fn within(b: Area, row: usize, col: usize) -> Spot
+fn within(b: Area, row: usize, col: usize) -> Option<usize>
     requires { (b.base ≤ PLACES) × (b.rows ≤ 16) × (b.cols ≤ 16) }
     ensures { result ≡ spot_in b row col }
 {
@@ -116,29 +105,29 @@ fn within(b: Area, row: usize, col: usize) -> Spot
     let cols = b.cols;
     if row < b.rows {
         if col < cols {
-            return Spot::At(base + (row * cols + col));
+            return Some(base + (row * cols + col));
         }
     }
-    Spot::Outside
+    None
 }
 
 // The place of (row, col) in the area of a tag: none above the factor's diagonal.
-fn spot_of(m: usize, n: usize, tag: u8, row: usize, col: usize) -> Spot
-    requires { (m ≤ 16) × (n ≤ 16) }
-    ensures { result ≡ spot_of m n tag row col }
+fn spot_of(sizes: Sizes, tag: u8, row: usize, col: usize) -> Option<usize>
+    requires { (sizes.constraints ≤ 16) × (sizes.variables ≤ 16) }
+    ensures { result ≡ spot_of sizes.constraints sizes.variables tag row col }
 {
     if tag == b'L' {
         if row < col {
-            return Spot::Outside;
+            return None;
         }
     }
-    within(area_of(m, n, tag), row, col)
+    within(area_of(sizes, tag), row, col)
 }
 
 // Puts an entry at a place, unless the place is marked.
 fn put(p: usize, mark: u8, v: f64, marks: &mut [u8], vals: &mut [f64]) -> bool
     requires { (p < length marks.old) × (p < length vals.old) }
-    ensures { entered_by result marks.new vals.new ≡ put_at (Spot.At p) mark v marks.old vals.old }
+    ensures { entered_by result marks.new vals.new ≡ put_at (Some p) mark v marks.old vals.old }
 {
     if marks[p] != 0 {
         return false;
@@ -149,63 +138,66 @@ fn put(p: usize, mark: u8, v: f64, marks: &mut [u8], vals: &mut [f64]) -> bool
 }
 
 // The place that a record names.
-fn entry(r: &[u8], m: usize, n: usize) -> Spot
-    requires { (length r.now ≡ 16) × (m ≤ 16) × (n ≤ 16) }
-    ensures { result ≡ entry_of m n r.now }
+fn entry(r: &[u8], sizes: Sizes) -> Option<usize>
+    requires { (length r.now ≡ 16) × (sizes.constraints ≤ 16) × (sizes.variables ≤ 16) }
+    ensures { result ≡ entry_of sizes.constraints sizes.variables r.now }
 {
     if !spare_zero(r) {
-        return Spot::Outside;
+        return None;
     }
     let row = endian::read_u16(r, 2) as usize;
     let col = endian::read_u16(r, 4) as usize;
-    spot_of(m, n, r[0], row, col)
+    spot_of(sizes, r[0], row, col)
 }
 
 // One record after the first.
-fn enter(r: &[u8], m: usize, n: usize, marks: &mut [u8], vals: &mut [f64]) -> bool
-    requires r_len { (length r.now ≡ 16) × (m ≤ 16) × (n ≤ 16) }
+fn enter(r: &[u8], sizes: Sizes, marks: &mut [u8], vals: &mut [f64]) -> bool
+    requires r_len { (length r.now ≡ 16) × (sizes.constraints ≤ 16) × (sizes.variables ≤ 16) }
     requires marks_len { (length marks.old ≡ PLACES) × (length vals.old ≡ PLACES) }
-    ensures { entered_by result marks.new vals.new ≡ entered m n r.now marks.old vals.old }
+    ensures { entered_by result marks.new vals.new ≡ entered sizes.constraints sizes.variables r.now marks.old vals.old }
 {
     let k = mark(r[0]);
     let v = value(endian::read_u64(r, 8));
-    let Spot::At(p) = entry(r, m, n) else {
+    let Some(p) = entry(r, sizes) else {
         return false;
     };
     put(p, k, v, marks, vals)
 }
 
 // The first record.
-fn first(r: &[u8]) -> Head
+fn first(r: &[u8]) -> Result<Sizes, Unread>
     requires { length r.now ≡ 16 }
     ensures { result ≡ head_of r.now }
 {
     if r[0] != b'D' {
-        return Head::Unsound;
+        return Err(Unread::Fault(0));
     }
     if !spare_zero(r) {
-        return Head::Unsound;
+        return Err(Unread::Fault(0));
     }
     if endian::read_u64(r, 8) != 0 {
-        return Head::Unsound;
+        return Err(Unread::Fault(0));
     }
-    sizes(
+    sized(
         endian::read_u16(r, 2) as usize,
         endian::read_u16(r, 4) as usize,
     )
 }
 
 // The sizes, if they are in the table.
-fn sizes(m: usize, n: usize) -> Head
+fn sized(m: usize, n: usize) -> Result<Sizes, Unread>
     ensures { result ≡ sizes_of m n }
 {
     if !workspace::is_dimension(n) {
-        return Head::TooLarge;
+        return Err(Unread::Large);
     }
     if !workspace::is_constraints(m) {
-        return Head::TooLarge;
+        return Err(Unread::Large);
     }
-    Head::Sizes(m, n)
+    Ok(Sizes {
+        constraints: m,
+        variables: n,
+    })
 }
 
 // No mark anywhere.
@@ -213,9 +205,7 @@ fn unmark(marks: &mut [u8])
     requires { length marks.old ≡ PLACES }
     ensures { marks.new ≡ no_marks }
 {
-    for i in 0..PLACES {
-        marks[i] = 0;
-    }
+    marks.fill(0);
 }
 
 // What a place holds that no record gives.
@@ -246,8 +236,8 @@ fn defaults(n: usize, vals: &mut [f64])
     requires { (0 < n) × (length vals.old ≡ PLACES) }
     ensures { vals.new ≡ default_values n }
 {
-    for i in 0..PLACES {
-        vals[i] = default_at(n, i);
+    for (i, v) in vals.iter_mut().enumerate() {
+        *v = default_at(n, i);
     }
 }
 
@@ -278,43 +268,40 @@ fn complete(m: usize, marks: &[u8]) -> bool
 }
 
 // The records after the first.
-fn walk(bytes: &[u8], m: usize, n: usize, marks: &mut [u8], vals: &mut [f64]) -> Input
-    requires in_bounds { (16 ≤ length bytes.now) × (m ≤ 16) × (n ≤ 16) }
+fn walk(bytes: &[u8], sizes: Sizes, marks: &mut [u8], vals: &mut [f64]) -> Result<Sizes, Unread>
+    requires in_bounds { (16 ≤ length bytes.now) × (sizes.constraints ≤ 16) × (sizes.variables ≤ 16) }
     requires marks_len { (length marks.old ≡ PLACES) × (length vals.old ≡ PLACES) }
     ensures { filling result marks.new vals.new
-        ≡ walk_tables m n bytes.now (length bytes.now / 16 - 1) 1 marks.old vals.old }
+        ≡ walk_tables sizes.constraints sizes.variables bytes.now (length bytes.now / 16 - 1) 1 marks.old vals.old }
 {
     let whole = bytes.len() / 16;
-    let mut k = 1;
-    while k < whole {
-        if !enter(&bytes[16 * k..16 * k + 16], m, n, marks, vals) {
-            return Input::Fault(k);
+    for k in 1..whole {
+        if !enter(&bytes[16 * k..16 * k + 16], sizes, marks, vals) {
+            return Err(Unread::Fault(k));
         }
-        k += 1;
     }
     if bytes.len() % 16 != 0 {
-        return Input::Fault(k);
+        return Err(Unread::Fault(whole));
     }
-    if !complete(m, marks) {
-        return Input::Fault(k);
+    if !complete(sizes.constraints, marks) {
+        return Err(Unread::Fault(whole));
     }
-    Input::Whole(m, n)
+    Ok(sizes)
 }
 
 // The whole input, into the two tables.
-pub fn decode(bytes: &[u8], marks: &mut [u8; PLACES], vals: &mut [f64; PLACES]) -> Input
+pub fn decode(
+    bytes: &[u8],
+    marks: &mut [u8; PLACES],
+    vals: &mut [f64; PLACES],
+) -> Result<Sizes, Unread>
     ensures { Fills bytes.now result marks.old marks.new vals.old vals.new }
 {
     if bytes.len() < 16 {
-        return Input::Fault(0);
+        return Err(Unread::Fault(0));
     }
-    match first(&bytes[..16]) {
-        Head::Unsound => Input::Fault(0),
-        Head::TooLarge => Input::Large,
-        Head::Sizes(m, n) => {
-            unmark(marks);
-            defaults(n, vals);
-            walk(bytes, m, n, marks, vals)
-        }
-    }
+    let sizes = first(&bytes[..16])?;
+    unmark(marks);
+    defaults(sizes.variables, vals);
+    walk(bytes, sizes, marks, vals)
 }

@@ -96,7 +96,7 @@ pub fn load_kinds(marks: &[u8], kinds: &mut [u8])
     requires { (length marks.now ≡ PLACES) × (length kinds.old ≤ 16) }
     ensures { kinds.new ≡ kinds_in (length kinds.old) marks.now }
 {
-    for i in 0..kinds.len() {
-        kinds[i] = kind(marks, i);
+    for (i, place) in kinds.iter_mut().enumerate() {
+        *place = kind(marks, i);
     }
 }

@@ -1,15 +1,13 @@
 -- An entry, where it is missing and where it is not; a constraint by its kind; how many records they are.
 use mathlib.Core.Path.{◌≡◌, refl, sym, ap, ◌∙◌, subst}
-use mathlib.Core.Bool.{Bool, true, false, cond}
 use mathlib.Core.List.{List, [], ◌∷◌, ◌++◌}
-use Prim.Native.Nat.{ℕ, zero, suc, ◌+◌, ◌*◌, ◌<◌, ◌≤◌}
+use Prim.Native.Nat.{ℕ, zero, suc, ◌+◌, ◌≤◌}
 use Prim.Native.Char.{code}
 use native.Mathlib.Omega.{arith}
-use lib.Dec.{eqb}
-use lib.ListN.{length, length-append}
+use lib.ListN.{length}
 use borrow.Author.Tests.{eq-eqb, ne_eqb}
 use Rattle.endian.specs.Little.{placed}
-use Rattle.problem_write.specs.File.{record_of, missing, entry_of, each, constraint_records, joined}
+use Rattle.problem_write.specs.File.{record_of, missing, entry_of, constraint_records, joined}
 use Rattle.problem_write.specs.Lent.{constraint_in}
 use Rattle.problem_write.specs.inner.Work.{Room, Wrote}
 use Rattle.problem_write.proofs.Records.{size_is}

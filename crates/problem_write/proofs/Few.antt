@@ -1,8 +1,8 @@
 -- A file has at most 473 records, of 16 bytes each.
-use mathlib.Core.Path.{◌≡◌, refl, sym, ap, ◌∙◌, subst}
+use mathlib.Core.Path.{◌≡◌, refl, subst}
 use mathlib.Core.Bool.{Bool, true, false, cond}
 use mathlib.Core.List.{List, [], ◌∷◌, ◌++◌}
-use Prim.Native.Nat.{ℕ, zero, suc, ◌+◌, ◌*◌, ◌<◌, ◌≤◌}
+use Prim.Native.Nat.{ℕ, zero, suc, ◌+◌, ◌*◌, ◌≤◌}
 use Prim.Native.Char.{code}
 use native.Mathlib.Nat.{mul-le-mul}
 use native.Mathlib.Omega.{arith}
@@ -10,7 +10,7 @@ use lib.Dec.{eqb}
 use lib.ListN.{length, length-append}
 use Rattle.numbers.specs.Numbers.{nth}
 use Rattle.problem_read.specs.Bits.{ConstraintBits, equality, floor, band, Bits}
-use Rattle.problem_write.specs.File.{record_of, missing, entry_of, each, row_length, entries_of, constraint_records, constraint_at, records_of, joined, file}
+use Rattle.problem_write.specs.File.{record_of, missing, entry_of, each, row_length, entries_of, constraint_records, constraint_at, records_of, file}
 use Rattle.problem_write.specs.Claims.{FewRecords}
 use Rattle.problem_write.proofs.Records.{size_is}
 use Rattle.problem_write.proofs.Rows.{each-few, entry-few, table-few}

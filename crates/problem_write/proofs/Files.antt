@@ -1,20 +1,20 @@
 -- The sections of a file, one after the other.
 use mathlib.Core.Path.{◌≡◌, refl, sym, ap, ◌∙◌, subst}
 use mathlib.Core.List.{List, [], ◌∷◌, ◌++◌}
-use Prim.Native.Nat.{ℕ, zero, suc, ◌+◌, ◌*◌, ◌<◌, ◌≤◌}
+use Prim.Native.Nat.{ℕ, zero, suc, ◌+◌, ◌<◌, ◌≤◌}
 use Prim.Native.Char.{code}
 use native.Mathlib.Nat.{one-mul}
 use native.Mathlib.Omega.{arith}
 use lib.ListN.{length, get_or, length-append}
-use Rattle.numbers.specs.Numbers.{nth, tab}
+use Rattle.numbers.specs.Numbers.{nth}
 use Rattle.numbers.proofs.Lists.{get_d-tab}
 use Rattle.endian.specs.Little.{placed}
-use Rattle.problem_read.specs.Bits.{ConstraintBits, equality}
+use Rattle.problem_read.specs.Bits.{equality}
 use Rattle.problem_write.specs.File.{record_of, each, row_length, entries_of, constraint_records, records_of, joined}
 use Rattle.problem_write.specs.Lent.{Lent, constraint_in, problem_in}
 use Rattle.problem_write.specs.inner.Work.{Room, Wrote, all_constraints, records_of_kinds, Table, Sized}
 use Rattle.problem_write.proofs.Records.{size_is}
-use Rattle.problem_write.proofs.Writing.{joined-one, wrote_one, wrote-length, room_after, wrote_then, room-front}
+use Rattle.problem_write.proofs.Writing.{joined-one, wrote_one, room_after, wrote_then, room-front}
 use Rattle.problem_write.proofs.Rows.{table-few, short_row, kinds-few, kinds-count}
 
 -- ---- what a problem is written as

@@ -1,8 +1,8 @@
 -- A record's 16 bytes, both ways.
-use mathlib.Core.Path.{◌≡◌, refl, sym, ap, ◌∙◌, subst}
-use mathlib.Core.Bool.{Bool, true, false, cond, ◌&&◌, ◌||◌}
-use mathlib.Core.List.{List, [], ◌∷◌, ◌++◌}
-use Prim.Native.Nat.{ℕ, zero, suc, ◌+◌, ◌*◌, ◌/◌, ◌%◌, ◌^◌, ◌<◌, ◌≤◌}
+use mathlib.Core.Path.{◌≡◌, refl, sym, ap, ◌∙◌}
+use mathlib.Core.Bool.{true, ◌&&◌}
+use mathlib.Core.List.{List, ◌∷◌, ◌++◌}
+use Prim.Native.Nat.{ℕ, ◌+◌, ◌^◌, ◌<◌, ◌≤◌}
 use native.Mathlib.Omega.{arith}
 use lib.Dec.{eqb}
 use lib.ListN.{length, take, drop, get_or, length-drop, take-append-drop}
@@ -15,7 +15,7 @@ use Rattle.endian.proofs.Little.{little-bytes, bytes-little}
 use Rattle.endian.proofs.Laws.{part_bytes, part-size}
 use Rattle.problem_read.specs.Input.{record_tag, record_row, record_column, record_bits, spare_zero, field, gives}
 use Rattle.problem_write.specs.File.{record_of}
-use Rattle.problem_write.specs.Claims.{ReadsBack, WritesAgain, RecordBothWays}
+use Rattle.problem_write.specs.Claims.{ReadsBack, RecordBothWays}
 
 -- ---- what was written
 

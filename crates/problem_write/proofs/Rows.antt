@@ -1,6 +1,6 @@
 -- Rows, tables and constraints: what is written after so many turns.
-use mathlib.Core.Path.{◌≡◌, refl, sym, ap, ◌∙◌, subst}
-use mathlib.Core.List.{List, [], ◌∷◌, ◌++◌}
+use mathlib.Core.Path.{◌≡◌, refl, sym, subst}
+use mathlib.Core.List.{List, [], ◌∷◌}
 use mathlib.Core.Bool.{Bool, true, false, cond}
 use Prim.Native.Nat.{ℕ, zero, suc, ◌+◌, ◌*◌, ◌<◌, ◌≤◌}
 use native.Mathlib.Nat.{mul-le-mul, suc-mul}
@@ -9,7 +9,7 @@ use native.Mathlib.Omega.{arith}
 use lib.Dec.{eqb}
 use lib.ListN.{length, length-append}
 use Rattle.numbers.specs.Numbers.{nth}
-use Rattle.problem_write.specs.File.{record_of, missing, entry_of, each, row_length, entries_of, constraint_records, joined}
+use Rattle.problem_write.specs.File.{record_of, missing, entry_of, each, row_length, entries_of, constraint_records}
 use Rattle.problem_write.specs.Lent.{constraint_in}
 use Rattle.problem_write.specs.inner.Work.{Room, Wrote, row_entries, all_constraints, Table, records_of_kind, records_of_kinds}
 use Rattle.problem_write.proofs.Writing.{wrote_none, wrote-length, each-suc, each-before, each_next, each_more}

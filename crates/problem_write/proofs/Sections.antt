@@ -1,17 +1,16 @@
 -- The sections of a written file: their records come in order, and each entry is found again.
 use mathlib.Core.Path.{◌≡◌, refl, sym, ap, ◌∙◌, subst}
-use mathlib.Core.Bool.{Bool, true, false, cond, ◌&&◌}
-use mathlib.Core.List.{List, [], ◌∷◌, ◌++◌}
+use mathlib.Core.Bool.{Bool, true, false, cond}
+use mathlib.Core.List.{List, [], ◌∷◌}
 use mathlib.Core.Option.{Option, none, some}
-use Prim.Native.Nat.{ℕ, zero, suc, ◌+◌, ◌*◌, ◌^◌, ◌<◌, ◌≤◌}
+use Prim.Native.Nat.{ℕ, ◌+◌, ◌*◌, ◌^◌, ◌<◌, ◌≤◌}
 use Prim.Native.Char.{code}
 use native.Mathlib.Omega.{arith}
 use lib.Dec.{eqb}
-use lib.ListN.{length}
 use borrow.Author.Tests.{eqb-true, lt-ltb, eq-eqb}
 use Rattle.numbers.specs.Numbers.{nth}
 use Rattle.problem_read.specs.Bits.{ConstraintBits, equality, floor, band}
-use Rattle.problem_read.specs.Input.{record_tag, record_row, record_column, field, gives, given, is_inside, or_else, constraint_of, is_whole}
+use Rattle.problem_read.specs.Input.{field, gives, given, is_inside, or_else, constraint_of, is_whole}
 use Rattle.problem_write.specs.File.{record_of, missing, entry_of, each, row_length, entries_of, constraint_records}
 use Rattle.problem_write.specs.Claims.{Patterns, Pattern}
 use Rattle.problem_write.proofs.Records.{size_is, tag_is, row_is, column-is, bits_is, spare-is, gives-is}

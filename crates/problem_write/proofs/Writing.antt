@@ -1,19 +1,16 @@
 -- Records one after the other at a place of the output.
 use mathlib.Core.Path.{◌≡◌, refl, sym, ap, ◌∙◌, subst}
-use mathlib.Core.Bool.{Bool, true, false, cond}
 use mathlib.Core.List.{List, [], ◌∷◌, ◌++◌, append_assoc, append-nil}
 use mathlib.Core.Logic.{⊎_elim}
-use Prim.Native.Nat.{ℕ, zero, suc, ◌+◌, ◌*◌, ◌<◌, ◌≤◌}
-use native.Mathlib.Nat.{add_assoc}
+use Prim.Native.Nat.{ℕ, zero, suc, ◌+◌, ◌<◌, ◌≤◌}
 use native.Mathlib.Numerals.{add-one}
 use native.Mathlib.Omega.{arith}
-use lib.Dec.{eqb}
 use lib.ListN.{length, set, length-append, length-set}
 use Rattle.numbers.proofs.Cases.{last-or-before}
 use Rattle.endian.specs.Little.{bytes, placed}
 use Rattle.endian.proofs.Placed.{placed-none, placed-cons, placed-then, length-placed}
 use Rattle.endian.proofs.Little.{length-bytes}
-use Rattle.problem_write.specs.File.{record_of, missing, entry_of, each, joined}
+use Rattle.problem_write.specs.File.{record_of, each, joined}
 use Rattle.problem_write.specs.inner.Work.{Room, Wrote}
 use Rattle.problem_write.proofs.Records.{size_is}
 

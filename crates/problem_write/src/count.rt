@@ -1,8 +1,11 @@
 // How many records the file of a problem has: known before any is written.
 ghost use Rattle.std.specs.Prelude.{◌≡◌, ◌+◌, ◌*◌, ◌≤◌, length};
 ghost use Rattle.problem_write.specs.File.{entry_of, entries_of, records_of};
-ghost use Rattle.problem_write.specs.Lent.{lent_of, problem_in};
-ghost use Rattle.problem_write.specs.inner.Work.{row_entries, records_of_kind, records_of_kinds, Table, Sized};
+ghost use Rattle.problem_write.specs.Lent.{problem_in};
+ghost use Rattle.problem_write.specs.inner.Shared.{lent_in};
+ghost use Rattle.problem_write.specs.inner.Work.{row_entries, records_of_kind, records_of_kinds, Table};
+
+use crate::bits::ProblemBits;
 
 // Of an entry: none where it is missing.
 fn count_entry(tag: u8, row: usize, column: usize, bits: u64) -> usize
@@ -53,33 +56,21 @@ fn count_constraints(kinds: &[u8]) -> usize
     ensures { result ≡ records_of_kinds (length kinds.now) kinds.now }
 {
     let mut total = 0;
-    for i in 0..kinds.len() {
-        total += count_constraint(kinds[i]);
+    for kind in kinds {
+        total += count_constraint(*kind);
     }
     total
 }
 
 // Of the whole file.
-pub fn count_records(
-    n: usize,
-    m: usize,
-    factor: &[u64],
-    gradient: &[u64],
-    kinds: &[u8],
-    values: &[u64],
-    widths: &[u64],
-    jacobian: &[u64],
-    lower: &[u64],
-    upper: &[u64],
-) -> usize
-    requires { Sized (lent_of n m factor.now gradient.now kinds.now values.now widths.now jacobian.now lower.now upper.now) }
-    ensures { result ≡ length (records_of (problem_in (lent_of n m factor.now gradient.now kinds.now values.now widths.now jacobian.now lower.now upper.now))) }
+pub fn count_records(p: &ProblemBits) -> usize
+    ensures { result ≡ length (records_of (problem_in (lent_in p.now))) }
 {
-    let a = count_table(b'L', n, n, factor);
-    let b = count_table(b'G', 1, n, gradient);
-    let c = count_constraints(kinds);
-    let d = count_table(b'A', m, n, jacobian);
-    let e = count_table(b'B', 1, n, lower);
-    let f = count_table(b'T', 1, n, upper);
+    let a = count_table(b'L', p.n, p.n, p.factor);
+    let b = count_table(b'G', 1, p.n, p.gradient);
+    let c = count_constraints(p.kinds);
+    let d = count_table(b'A', p.m, p.n, p.jacobian);
+    let e = count_table(b'B', 1, p.n, p.lower);
+    let f = count_table(b'T', 1, p.n, p.upper);
     1 + a + b + c + d + e + f
 }

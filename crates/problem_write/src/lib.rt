@@ -2,13 +2,17 @@
 // missing one. The numbers are bits, so that a NaN's payload is written as it is.
 #![tactic(auto)]
 
+pub mod bits;
 pub mod count;
 
 ghost use Rattle.std.specs.Prelude.{◌≡◌, ◌+◌, ◌*◌, ◌≤◌, ◌<◌, length};
 ghost use Rattle.endian.specs.Little.{placed};
 ghost use Rattle.problem_write.specs.File.{record_of, missing, entry_of, row_length, entries_of, constraint_records, records_of};
-ghost use Rattle.problem_write.specs.Lent.{lent_of, constraint_in, problem_in};
-ghost use Rattle.problem_write.specs.inner.Work.{Room, Wrote, row_entries, all_constraints, Table, Sized};
+ghost use Rattle.problem_write.specs.Lent.{constraint_in, problem_in};
+ghost use Rattle.problem_write.specs.inner.Shared.{lent_in};
+ghost use Rattle.problem_write.specs.inner.Work.{Room, Wrote, row_entries, all_constraints, Table};
+
+use bits::ProblemBits;
 
 // The bytes of a record.
 pub const RECORD: usize = 16;
@@ -123,47 +127,28 @@ fn write_constraint(out: &mut [u8], at: usize, i: usize, kind: u8, value: u64, w
     at + 2 * RECORD
 }
 
-// All m constraints.
-fn write_constraints(
-    out: &mut [u8],
-    at: usize,
-    m: usize,
-    kinds: &[u8],
-    values: &[u64],
-    widths: &[u64],
-) -> usize
-    requires { Room at (all_constraints m kinds.now values.now widths.now) out.old × (m ≤ 16) × (length kinds.now ≡ m) × (length values.now ≡ m) × (length widths.now ≡ m) }
-    ensures { Wrote at (all_constraints m kinds.now values.now widths.now) result out.old out.new }
+// All constraints.
+fn write_constraints(out: &mut [u8], at: usize, p: &ProblemBits) -> usize
+    requires { Room at (all_constraints p.now.m p.now.kinds.now p.now.values.now p.now.widths.now) out.old }
+    ensures { Wrote at (all_constraints p.now.m p.now.kinds.now p.now.values.now p.now.widths.now) result out.old out.new }
 {
     let mut to = at;
-    for i in 0..m {
-        to = write_constraint(out, to, i, kinds[i], values[i], widths[i]);
+    for i in 0..p.m {
+        to = write_constraint(out, to, i, p.kinds[i], p.values[i], p.widths[i]);
     }
     to
 }
 
 // The whole file in the first bytes of the output, and its length.
-pub fn write_file(
-    n: usize,
-    m: usize,
-    factor: &[u64],
-    gradient: &[u64],
-    kinds: &[u8],
-    values: &[u64],
-    widths: &[u64],
-    jacobian: &[u64],
-    lower: &[u64],
-    upper: &[u64],
-    out: &mut [u8],
-) -> usize
-    requires { Sized (lent_of n m factor.now gradient.now kinds.now values.now widths.now jacobian.now lower.now upper.now) × Room 0 (records_of (problem_in (lent_of n m factor.now gradient.now kinds.now values.now widths.now jacobian.now lower.now upper.now))) out.old }
-    ensures { Wrote 0 (records_of (problem_in (lent_of n m factor.now gradient.now kinds.now values.now widths.now jacobian.now lower.now upper.now))) result out.old out.new }
+pub fn write_file(p: &ProblemBits, out: &mut [u8]) -> usize
+    requires { Room 0 (records_of (problem_in (lent_in p.now))) out.old }
+    ensures { Wrote 0 (records_of (problem_in (lent_in p.now))) result out.old out.new }
 {
-    write_record(out, 0, b'D', m, n, 0);
-    let a = write_table(out, RECORD, b'L', n, n, factor);
-    let b = write_table(out, a, b'G', 1, n, gradient);
-    let c = write_constraints(out, b, m, kinds, values, widths);
-    let d = write_table(out, c, b'A', m, n, jacobian);
-    let e = write_table(out, d, b'B', 1, n, lower);
-    write_table(out, e, b'T', 1, n, upper)
+    write_record(out, 0, b'D', p.m, p.n, 0);
+    let a = write_table(out, RECORD, b'L', p.n, p.n, p.factor);
+    let b = write_table(out, a, b'G', 1, p.n, p.gradient);
+    let c = write_constraints(out, b, p);
+    let d = write_table(out, c, b'A', p.m, p.n, p.jacobian);
+    let e = write_table(out, d, b'B', 1, p.n, p.lower);
+    write_table(out, e, b'T', 1, p.n, p.upper)
 }

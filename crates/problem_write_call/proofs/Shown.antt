@@ -1,12 +1,12 @@
 -- What is shown of calls.
 use mathlib.Core.Path.{◌≡◌, refl, sym, ap, ◌∙◌, subst}
 use mathlib.Core.Bool.{Bool, true, false, ◌&&◌}
-use mathlib.Core.List.{List, ◌++◌}
+use mathlib.Core.List.{List}
 use mathlib.Core.Logic.{⊎_elim}
-use Prim.Native.Nat.{ℕ, zero, suc, ◌+◌, ◌*◌, ◌^◌, ◌<◌, ◌≤◌}
+use Prim.Native.Nat.{ℕ, zero, suc, ◌^◌, ◌<◌, ◌≤◌}
 use native.Mathlib.Omega.{arith}
 use lib.Dec.{leb}
-use lib.ListN.{length, take, drop, get_or, get_or-eq_default, length-map}
+use lib.ListN.{length, take, drop, get_or-eq_default, length-map}
 use lib.Seq.{take_at}
 use lib.Ieee.{Float}
 use borrow.Author.Tests.{le-leb}
@@ -16,27 +16,25 @@ use Rattle.numbers.proofs.Cases.{lt-or-ge}
 use Rattle.workspace.specs.Tables.{Answer, done, refused, call, test, output, is_dimension, is_constraints, is_room, has}
 use Rattle.workspace.specs.declared.Refusal.{Refusal}
 use Rattle.workspace.specs.declared.Refusal.TheVariants.{Width, Triangle, Output}
-use Rattle.workspace.specs.declared.Outcome as Told
-use Rattle.workspace.specs.declared.Outcome.TheVariants as told
-use Rattle.nnls.specs.Counted.{Counted}
+use Rattle.workspace.specs.Tables as Told
+use Rattle.std.specs.Prelude.{Ok, Err}
 use Rattle.step.specs.Step.{step}
 use Rattle.step_call.specs.Promise as Step
 use Rattle.step_call.specs.Promise.{are_kinds, are_widths}
 use Rattle.step_call.specs.Strict.{bounds}
-use Rattle.problem_read.specs.Bits.{ConstraintBits, equality, floor, band}
+use Rattle.problem_read.specs.Bits.{ConstraintBits, equality}
 use Rattle.problem_read.specs.Input.{decode, in_numbers, read_numbers}
 use Rattle.problem_write.specs.File.{constraint_at, file}
 use Rattle.problem_write.specs.Lent.{Lent, constraint_in, problem_in}
 use Rattle.problem_write.specs.Claims.{Pattern, Writable}
 use Rattle.problem_write.specs.inner.Work.{Sized}
 use Rattle.problem_write.proofs.Trip.{round_trip, same-files}
-use Rattle.problem_write_call.specs.declared.Outcome.{Outcome}
-use Rattle.problem_write_call.specs.declared.Outcome.TheVariants.{Done, Refused}
-use Rattle.problem_write_call.specs.Promise.{numbers_in, are_lengths, are_clear, write_call, outcome_of, WritesFile}
+use Rattle.problem_write_call.specs.Promise.{numbers_in, are_lengths, are_clear, write_call, WritesFile}
 use Rattle.problem_write_call.specs.Claims.{SameTests, AllPatterns, WritesWritable, Rereads, SameCalls, RoomSuffices, OneAnswer}
 use Rattle.problem_write_call.specs.inner.Work.{strict_tests, strict_told, file_tests, call_told}
 use Rattle.problem_write_call.proofs.Testing.{above-is-clear}
 use Rattle.problem_write_call.proofs.Passed.{never, strict-passed, strict-stopped, size-most, CallDone, call-done, call-refused}
+use Rattle.std.specs.Prelude.{Ok, Err, Result}
 
 pub one_answer : OneAnswer
 one_answer c o p out out' out'' w w' w'' iw iw' iw'' s t =
@@ -72,8 +70,8 @@ module _ (p : Lent) (out : List ℕ) (w : List Float) (iw : List ℕ) (f : List 
   passed = go (call_told p (length out) (length w) (length iw)) refl
     where
       go : (o : Told.Outcome) → call_told p (length out) (length w) (length iw) ≡ o → CallDone p (length out) (length w) (length iw)
-      go told.Done h = call-done p (length out) (length w) (length iw) h
-      go (told.Refused k) h = not-refused k f (sym (call-refused p (length out) (length w) (length iw) k h).0 ∙ e)
+      go (Ok tt) h = call-done p (length out) (length w) (length iw) h
+      go (Err k) h = not-refused k f (sym (call-refused p (length out) (length w) (length iw) k h).0 ∙ e)
 
   the_file : f ≡ file (problem_in p)
   the_file = same_file f (file (problem_in p)) (sym e ∙ passed.the_answer)
@@ -132,13 +130,13 @@ record Told-bytes (c : Answer (List ℕ)) (k : ℕ) (out out' : List ℕ) : Type
   is-done : c ≡ done bytes
   are-first : take k out' ≡ bytes
 
-not_done : {A : Type 0} (k : ℕ) (r : Refusal) → Done k ≡ Refused r → A
+not_done : {A : Type 0} (k : ℕ) (r : Refusal) → ◌≡◌ {A = Result ℕ Refusal} (Ok k) (Err r) → A
 not_done k r e = let z : ◌≡◌ {A = ℕ} 0 1 = cc in absurd (let y : ⊥ = omega arith in y)
 
-same_count : (k n : ℕ) → Done k ≡ Done n → k ≡ n
+same_count : (k n : ℕ) → ◌≡◌ {A = Result ℕ Refusal} (Ok k) (Ok n) → k ≡ n
 same_count k n e = cc
 
-told-bytes : (c : Answer (List ℕ)) (k : ℕ) (out out' : List ℕ) (w w' : List Float) (iw iw' : List ℕ) → WritesFile c (Done k) out out' w w' iw iw' → Told-bytes c k out out'
+told-bytes : (c : Answer (List ℕ)) (k : ℕ) (out out' : List ℕ) (w w' : List Float) (iw iw' : List ℕ) → WritesFile c (Ok k) out out' w w' iw iw' → Told-bytes c k out out'
 told-bytes (done f) k out out' w w' iw iw' h = record {
   bytes = f;
   is-done = refl;
@@ -161,11 +159,11 @@ room-suffices p out w iw h = go (strict_told p (length w) (length iw)) refl
   where
     go : (o : Told.Outcome) → strict_told p (length w) (length iw) ≡ o
         → strict_tests p (length w) (length iw) (file_tests p (length out) (done (file (problem_in p)))) ≡ strict_tests p (length w) (length iw) (test (are_clear p.n p.factor) Triangle (done (file (problem_in p))))
-    go told.Done e =
+    go (Ok tt) e =
         let s = strict-passed p (length w) (length iw) (done tt) e in
         let m = size-most p (length out) s.the_sizes in
         let q : leb (length (file (problem_in p))) (length out) ≡ true = le-leb (length (file (problem_in p))) (length out) (omega (arith, m, h)) in
         ap (λ (b : Bool). strict_tests p (length w) (length iw) (test (are_clear p.n p.factor) Triangle (test b Output (done (file (problem_in p)))))) q
-    go (told.Refused k) e =
+    go (Err k) e =
         (strict-stopped p (length w) (length iw) k (done tt) (file_tests p (length out) (done (file (problem_in p)))) (λ z. never k (sym z)) e).0
         ∙ sym (strict-stopped p (length w) (length iw) k (done tt) (test (are_clear p.n p.factor) Triangle (done (file (problem_in p)))) (λ z. never k (sym z)) e).0

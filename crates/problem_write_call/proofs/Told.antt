@@ -1,17 +1,15 @@
 -- What the tests come to, one after the other, and what they show where they pass.
-use mathlib.Core.Path.{◌≡◌, refl, sym, ap, ◌∙◌, subst}
+use mathlib.Core.Path.{◌≡◌, refl}
 use mathlib.Core.Bool.{Bool, true, false, ◌&&◌}
-use mathlib.Core.List.{List, map}
-use Prim.Native.Nat.{ℕ, ◌+◌, ◌*◌, ◌<◌, ◌≤◌}
-use native.Mathlib.Omega.{arith}
-use lib.Dec.{leb, eqb}
+use mathlib.Core.List.{map}
+use Prim.Native.Nat.{ℕ, ◌*◌, ◌≤◌}
+use lib.Dec.{leb}
 use lib.ListN.{length}
-use borrow.Author.Tests.{leb-true, eqb-true}
-use Rattle.workspace.specs.Tables.{Answer, done, refused, call, test, outcome_of, is_late, is_dimension, is_constraints, has}
-use Rattle.workspace.specs.declared.Refusal.{Refusal}
-use Rattle.workspace.specs.declared.Refusal.TheVariants.{Size, Length, Room, Kind, Width, Bound, Output, Triangle}
-use Rattle.workspace.specs.declared.Outcome.{Outcome}
-use Rattle.workspace.specs.declared.Outcome.TheVariants.{Done, Refused}
+use borrow.Author.Tests.{eqb-true}
+use Rattle.workspace.specs.Tables.{is_dimension, is_constraints, has}
+use Rattle.workspace.specs.declared.Refusal.TheVariants.{Size, Length, Room, Kind, Width}
+use Rattle.workspace.specs.Tables.{Outcome}
+use Rattle.std.specs.Prelude.{Err}
 use Rattle.workspace.proofs.Tests.{and-true, dimension-ge, dimension-le, constraints-le}
 use Rattle.step_call.specs.Promise.{are_kinds, are_widths}
 use Rattle.step_call.proofs.Calls.{lengths-are}
@@ -72,26 +70,26 @@ module _ (p : Lent) (w v : ℕ) where
   abbrev lengths : (a : Bool) → Bool
   lengths a = a && has p.widths p.m && has p.lower p.n && has p.upper p.n
 
-  pub told-size : are_sizes p ≡ false → Refused Size ≡ strict_told p w v
+  pub told-size : are_sizes p ≡ false → Err Size ≡ strict_told p w v
   told-size h = rw h refl
 
-  pub told-first : are_sizes p ≡ true → are_first p ≡ false → Refused Length ≡ strict_told p w v
+  pub told-first : are_sizes p ≡ true → are_first p ≡ false → Err Length ≡ strict_told p w v
   told-first h k = rw (h, first-fails (are_first p) (has p.widths p.m) (has p.lower p.n) (has p.upper p.n) k) refl
 
-  pub told-others : are_sizes p ≡ true → are_first p ≡ true → are_others p ≡ false → Refused Length ≡ strict_told p w v
+  pub told-others : are_sizes p ≡ true → are_first p ≡ true → are_others p ≡ false → Err Length ≡ strict_told p w v
   told-others h k l = rw (h, others-fail (are_first p) (has p.widths p.m) (has p.lower p.n) (has p.upper p.n) k l) refl
 
   module _ (h : are_sizes p ≡ true) (k : are_first p ≡ true) (l : are_others p ≡ true) where
     whole : lengths (are_first p) ≡ true
     whole = both (are_first p) (has p.widths p.m) (has p.lower p.n) (has p.upper p.n) k l
 
-    pub told-room : (leb 8192 w && leb 512 v) ≡ false → Refused Room ≡ strict_told p w v
+    pub told-room : (leb 8192 w && leb 512 v) ≡ false → Err Room ≡ strict_told p w v
     told-room r = rw (h, whole, r) refl
 
-    pub told-kind : (leb 8192 w && leb 512 v) ≡ true → are_kinds p.kinds ≡ false → Refused Kind ≡ strict_told p w v
+    pub told-kind : (leb 8192 w && leb 512 v) ≡ true → are_kinds p.kinds ≡ false → Err Kind ≡ strict_told p w v
     told-kind r s = rw (h, whole, r, s) refl
 
-    pub told-width : (leb 8192 w && leb 512 v) ≡ true → are_kinds p.kinds ≡ true → are_widths p.kinds (map number p.widths) p.m ≡ false → Refused Width ≡ strict_told p w v
+    pub told-width : (leb 8192 w && leb 512 v) ≡ true → are_kinds p.kinds ≡ true → are_widths p.kinds (map number p.widths) p.m ≡ false → Err Width ≡ strict_told p w v
     told-width r s t = rw (h, whole, r, s, t) refl
 
     pub told_bounds : (o : Outcome) → (leb 8192 w && leb 512 v) ≡ true → are_kinds p.kinds ≡ true → are_widths p.kinds (map number p.widths) p.m ≡ true

@@ -1,5 +1,5 @@
 -- What is shown of calls that write a problem file: their tests are the strict step's, the file reads back, equal files are equal problems, how much room suffices, and that the promise allows one answer only. Definitions only.
-use Rattle.std.specs.Prelude.{ℕ, ◌≤◌, ◌≡◌, true, List, ◌↔◌, length, take, Float}
+use Rattle.std.specs.Prelude.{ℕ, ◌≤◌, ◌≡◌, true, List, ◌↔◌, length, take, Float, Result, Ok}
 use Rattle.workspace.specs.declared.Refusal.TheVariants.{Triangle}
 use Rattle.workspace.specs.Tables.{Answer, done, test, has}
 use Rattle.nnls.specs.Counted.{Counted}
@@ -11,8 +11,7 @@ use Rattle.problem_write.specs.File.{file}
 use Rattle.problem_write.specs.Lent.{Lent, problem_in}
 use Rattle.problem_write.specs.Claims.{Patterns, Writable}
 use Rattle.problem_write_call.specs.Promise.{numbers_in, strictly, are_clear, write_call, WritesFile}
-use Rattle.problem_write_call.specs.declared.Outcome.{Outcome}
-use Rattle.problem_write_call.specs.declared.Outcome.TheVariants.{Done}
+use Rattle.workspace.specs.declared.Refusal.{Refusal}
 
 -- its tests are those of the strict step on the numbers of the bits: the strict step's call is the step behind them
 abbrev pub SameTests : Type 0
@@ -35,7 +34,7 @@ WritesWritable = (p : Lent) (out : List ℕ) (w : List Float) (iw : List ℕ) (f
 
 -- so the bytes that it tells say the problem that was lent, bit for bit, and the numbers that the record program reads in them are those of the bits
 abbrev pub Rereads : Type 0
-Rereads = (p : Lent) (k : ℕ) (out out' : List ℕ) (w w' : List Float) (iw iw' : List ℕ) → AllPatterns p → WritesFile (write_call p out w iw) (Done k) out out' w w' iw iw'
+Rereads = (p : Lent) (k : ℕ) (out out' : List ℕ) (w w' : List Float) (iw iw' : List ℕ) → AllPatterns p → WritesFile (write_call p out w iw) (Ok k) out out' w w' iw iw'
     → (decode (take k out') ≡ problem (problem_in p)) × (read_numbers (take k out') ≡ problem (numbers_of (problem_in p)))
 
 -- two files are equal exactly when their problems are, bit for bit
@@ -50,5 +49,5 @@ RoomSuffices = (p : Lent) (out : List ℕ) (w : List Float) (iw : List ℕ) → 
 
 -- whatever the answer c, the outcome and all that is left are fixed by what was there before
 abbrev pub OneAnswer : Type 0
-OneAnswer = (c : Answer (List ℕ)) (o p : Outcome) (out out' out'' : List ℕ) (w w' w'' : List Float) (iw iw' iw'' : List ℕ)
+OneAnswer = (c : Answer (List ℕ)) (o p : Result ℕ Refusal) (out out' out'' : List ℕ) (w w' w'' : List Float) (iw iw' iw'' : List ℕ)
     → WritesFile c o out out' w w' iw iw' → WritesFile c p out out'' w w'' iw iw'' → (o ≡ p) × (out' ≡ out'') × (w' ≡ w'') × (iw' ≡ iw'')

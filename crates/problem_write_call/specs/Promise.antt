@@ -1,5 +1,5 @@
 -- What a call that writes a problem file answers and leaves. Definitions only.
-use Rattle.std.specs.Prelude.{ℕ, ◌+◌, ◌*◌, ◌≡◌, Bool, true, cond, ◌&&◌, List, ◌++◌, map, leb, ltb, eqb, length, drop, Float}
+use Rattle.std.specs.Prelude.{ℕ, ◌+◌, ◌*◌, ◌≡◌, Bool, true, cond, ◌&&◌, List, ◌++◌, map, leb, ltb, eqb, length, drop, Float, Result, Ok, Err}
 use Rattle.numbers.specs.Numbers.{nth}
 use Rattle.workspace.specs.declared.Refusal.TheVariants.{Width, Output, Triangle}
 use Rattle.workspace.specs.Tables.{Answer, done, refused, call, test, output, floats, words, is_dimension, is_constraints, is_room, has}
@@ -10,8 +10,7 @@ use Rattle.problem_read.specs.Bits.{number}
 use Rattle.problem_read.specs.Input.{all_below}
 use Rattle.problem_write.specs.File.{file}
 use Rattle.problem_write.specs.Lent.{Lent, problem_in}
-use Rattle.problem_write_call.specs.declared.Outcome.{Outcome}
-use Rattle.problem_write_call.specs.declared.Outcome.TheVariants.{Done, Refused}
+use Rattle.workspace.specs.declared.Refusal.{Refusal}
 
 -- the problem in numbers: those of its bits
 abbrev pub numbers_in : Lent → Problem
@@ -45,12 +44,12 @@ write_call p out w iw =
     strictly p w iw (test (are_clear p.n p.factor) Triangle (test (leb (length f) (length out)) Output (done f)))
 
 -- what it tells: where it is done, how many bytes were written
-abbrev pub outcome_of : Answer (List ℕ) → Outcome
-outcome_of (done f) = Done (length f)
-outcome_of (refused r) = Refused r
+abbrev pub outcome_of : Answer (List ℕ) → Result ℕ Refusal
+outcome_of (done f) = Ok (length f)
+outcome_of (refused r) = Err r
 
 -- From its answer c: the outcome, and what the output and the workspaces hold before and, primed, afterwards. Behind the file the output is as it was.
-pub record WritesFile (c : Answer (List ℕ)) (o : Outcome) (out out' : List ℕ) (w w' : List Float) (iw iw' : List ℕ) : Type 0 where
+pub record WritesFile (c : Answer (List ℕ)) (o : Result ℕ Refusal) (out out' : List ℕ) (w w' : List Float) (iw iw' : List ℕ) : Type 0 where
   pub the_outcome : o ≡ outcome_of c
   pub the_output : out' ≡ output c (λ f. f ++ drop (length f) out) out
   pub the_floats : w' ≡ floats c w

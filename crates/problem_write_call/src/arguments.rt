@@ -6,11 +6,12 @@ ghost use Rattle.step_call.specs.Promise.{are_kinds, is_width, are_widths};
 ghost use Rattle.problem_read.specs.Bits.{number};
 ghost use Rattle.problem_read.specs.Input.{all_below};
 ghost use Rattle.problem_write.specs.Lent.{lent_of};
-ghost use Rattle.problem_write.specs.inner.Work.{Sized};
+ghost use Rattle.problem_write.specs.inner.Shared.{lent_in};
 ghost use Rattle.problem_write_call.specs.Promise.{is_clear, are_clear};
-ghost use Rattle.problem_write_call.specs.inner.Work.{bounds_told, strict_told, file_told, call_told, clear_at};
+ghost use Rattle.problem_write_call.specs.inner.Work.{bounds_told, strict_told, file_told, clear_at};
 
-use workspace::{Outcome, Refusal};
+use problem_write::bits::ProblemBits;
+use workspace::Refusal;
 
 // The lengths of the factor, the gradient, the kinds, the values and the Jacobian.
 fn are_lengths(
@@ -67,7 +68,7 @@ fn are_widths(kinds: &[u8], widths: &[u64], m: usize) -> bool
 }
 
 // The bounds of n variables, the lowest first.
-fn test_bounds(lower: &[u64], upper: &[u64], n: usize) -> Outcome
+fn test_bounds(lower: &[u64], upper: &[u64], n: usize) -> Result<(), Refusal>
     requires { (n ≤ 16) × (length lower.now ≡ n) × (length upper.now ≡ n) }
     ensures { result ≡ bounds_told lower.now upper.now n 0 }
 {
@@ -76,10 +77,10 @@ fn test_bounds(lower: &[u64], upper: &[u64], n: usize) -> Outcome
             problem_read::value(lower[i]),
             problem_read::value(upper[i]),
         ) {
-            return Outcome::Refused(Refusal::Bound(i as u32));
+            return Err(Refusal::Bound(i as u32));
         }
     }
-    Outcome::Done
+    Ok(())
 }
 
 // An entry of the factor: the bits of +0 above the diagonal.
@@ -118,8 +119,8 @@ fn are_clear(factor: &[u64], n: usize) -> bool
     true
 }
 
-// The strict step's tests before its arithmetic.
-fn test_strict(
+// The strict step's tests before its arithmetic, of slices: their lengths are known to fit only where these pass.
+pub fn test_strict(
     n: usize,
     m: usize,
     factor: &[u64],
@@ -132,84 +133,40 @@ fn test_strict(
     upper: &[u64],
     w: usize,
     iw: usize,
-) -> Outcome
+) -> Result<(), Refusal>
     ensures { result ≡ strict_told (lent_of n m factor.now gradient.now kinds.now values.now widths.now jacobian.now lower.now upper.now) w «iw» }
 {
     if !step_call::are_sizes(n, m) {
-        return Outcome::Refused(Refusal::Size);
+        return Err(Refusal::Size);
     }
     if !are_lengths(n, m, factor, gradient, kinds, values, jacobian) {
-        return Outcome::Refused(Refusal::Length);
+        return Err(Refusal::Length);
     }
     if !are_other_lengths(n, m, widths.len(), lower.len(), upper.len()) {
-        return Outcome::Refused(Refusal::Length);
+        return Err(Refusal::Length);
     }
     if !workspace::is_room(w, iw) {
-        return Outcome::Refused(Refusal::Room);
+        return Err(Refusal::Room);
     }
     if !step_call::are_kinds(kinds) {
-        return Outcome::Refused(Refusal::Kind);
+        return Err(Refusal::Kind);
     }
     if !are_widths(kinds, widths, m) {
-        return Outcome::Refused(Refusal::Width);
+        return Err(Refusal::Width);
     }
     test_bounds(lower, upper, n)
 }
 
 // The factor's upper triangle, then the room for the file.
-fn test_file(
-    n: usize,
-    m: usize,
-    factor: &[u64],
-    gradient: &[u64],
-    kinds: &[u8],
-    values: &[u64],
-    widths: &[u64],
-    jacobian: &[u64],
-    lower: &[u64],
-    upper: &[u64],
-    out: usize,
-) -> Outcome
-    requires { Sized (lent_of n m factor.now gradient.now kinds.now values.now widths.now jacobian.now lower.now upper.now) }
-    ensures { result ≡ file_told (lent_of n m factor.now gradient.now kinds.now values.now widths.now jacobian.now lower.now upper.now) out }
+pub fn test_file(p: &ProblemBits, out: usize) -> Result<(), Refusal>
+    ensures { result ≡ file_told (lent_in p.now) out }
 {
-    if !are_clear(factor, n) {
-        return Outcome::Refused(Refusal::Triangle);
+    if !are_clear(p.factor, p.n) {
+        return Err(Refusal::Triangle);
     }
-    let records = problem_write::count::count_records(
-        n, m, factor, gradient, kinds, values, widths, jacobian, lower, upper,
-    );
+    let records = problem_write::count::count_records(p);
     if out < problem_write::RECORD * records {
-        return Outcome::Refused(Refusal::Output);
+        return Err(Refusal::Output);
     }
-    Outcome::Done
-}
-
-// All tests, in their order.
-pub fn test_call(
-    n: usize,
-    m: usize,
-    factor: &[u64],
-    gradient: &[u64],
-    kinds: &[u8],
-    values: &[u64],
-    widths: &[u64],
-    jacobian: &[u64],
-    lower: &[u64],
-    upper: &[u64],
-    out: usize,
-    w: usize,
-    iw: usize,
-) -> Outcome
-    ensures { result ≡ call_told (lent_of n m factor.now gradient.now kinds.now values.now widths.now jacobian.now lower.now upper.now) out w «iw» }
-{
-    let told = test_strict(
-        n, m, factor, gradient, kinds, values, widths, jacobian, lower, upper, w, iw,
-    );
-    let Outcome::Done = told else {
-        return told;
-    };
-    test_file(
-        n, m, factor, gradient, kinds, values, widths, jacobian, lower, upper, out,
-    )
+    Ok(())
 }

@@ -1,38 +1,27 @@
 -- Laws of answers: what is given by an ending, and what a call then leaves.
-use mathlib.Core.Path.{◌≡◌, refl, sym, ap, ◌∙◌}
-use mathlib.Core.List.{List, [], ◌∷◌, ◌++◌}
-use mathlib.Core.Logic.{⊎_elim}
+use mathlib.Core.Path.{◌≡◌, refl, ap, ◌∙◌}
+use mathlib.Core.List.{List, [], ◌++◌}
 use Prim.Native.Nat.{ℕ}
-use native.Mathlib.Omega.{arith}
-use types.Run.{OneOf}
-use denote.Enum.Declared.{tag_of}
 use lib.ListN.{length, drop}
 use lib.Ieee.{Float}
-use Rattle.workspace.specs.Tables.{Answer, outcome_of, output}
-use Rattle.workspace.specs.declared.Outcome.{Outcome}
-use Rattle.workspace.specs.declared.Outcome.TheVariants.{Done}
+use Rattle.workspace.specs.Tables.{output}
+use Rattle.workspace.specs.Tables.{Outcome}
+use Rattle.std.specs.Prelude.{Result, Ok, Err, ⊤}
 use Rattle.workspace.specs.Readings.{Cleared}
 use Rattle.nnls.specs.Counted.{Counted}
 use Rattle.lsei.specs.Lsei.{Solution}
-use Rattle.lsei.specs.inner.Work.{ending_answer, ended_solution}
+use Rattle.lsei.specs.inner.Work.{refusal_of, ending_answer, ended_solution}
 use Rattle.lsei.specs.declared.Ended.{Ended}
-use Rattle.lsei.specs.declared.Ending.{Ending}
-use Rattle.lsei.specs.declared.Ending.TheVariants as E
-use Rattle.lsei.specs.contracts.Ending.{the_type}
-use Rattle.lsei_call.specs.Promise.{Solves}
+use Rattle.lsei.specs.declared.Unsolved.{Unsolved}
 use Rattle.lsei_call.proofs.Giving.{solved}
 use Rattle.reconcile.specs.Day.{named}
 use Rattle.reconcile_call.specs.Promise.{Reconciles}
 use Rattle.reconcile_call.specs.inner.Work.{DayGiven}
 
-pub given-none : (n : ℕ) (o : Ending) (s : Solution) (k : Outcome) (x : List Float) (marks : List ℕ) → OneOf (1 ∷ 2 ∷ 3 ∷ 4 ∷ []) (tag_of the_type o) → k ≡ outcome_of (ending_answer o s) → DayGiven n (ending_answer o s) k x x marks marks
-given-none n E.Done s k x marks h e = absurd (⊎_elim (λ e. omega arith) (λ g. ⊎_elim (λ e. omega arith) (λ k. ⊎_elim (λ e. omega arith) (λ e. omega arith) k) g) h)
-given-none n (E.Deficient place) s k x marks h e = record { the_outcome = e; the_volumes = refl; the_marks = refl }
-given-none n (E.Dependent place) s k x marks h e = record { the_outcome = e; the_volumes = refl; the_marks = refl }
-given-none n E.Infeasible s k x marks h e = record { the_outcome = e; the_volumes = refl; the_marks = refl }
-given-none n E.Capped s k x marks h e = record { the_outcome = e; the_volumes = refl; the_marks = refl }
+pub given-none : (n : ℕ) (o : Result ⊤ Unsolved) (s : Solution) (u : Unsolved) (x : List Float) (marks : List ℕ) → o ≡ Err u → DayGiven n (ending_answer o s) (Err (refusal_of u)) x x marks marks
+given-none n o s u x marks h = rw h (record { the_outcome = refl; the_volumes = refl; the_marks = refl })
 
-pub given-all : (n : ℕ) (o : Ending) (s : Solution) (x x' : List Float) (marks marks' : List ℕ) → o ≡ E.Done → x' ≡ s.x → marks' ≡ named n x' → DayGiven n (ending_answer o s) Done x x' marks marks'
+pub given-all : (n : ℕ) (o : Result ⊤ Unsolved) (s : Solution) (x x' : List Float) (marks marks' : List ℕ) {v : ⊤} → o ≡ Ok v → x' ≡ s.x → marks' ≡ named n x' → DayGiven n (ending_answer o s) (Ok tt) x x' marks marks'
 given-all n o s x x' marks marks' d ex em = rw d (record { the_outcome = refl; the_volumes = ex; the_marks = em ∙ ap (named n) ex })
 
 -- a call that reached the arithmetic leaves what LSEI's leaves, and the marks: v and u are what the kernel left in the first 8,192 and 512 entries

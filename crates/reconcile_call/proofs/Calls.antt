@@ -1,5 +1,5 @@
 -- Laws of a call: what it leaves where a test refuses, and what the tests show where none does.
-use mathlib.Core.Path.{◌≡◌, refl, sym, ap, ◌∙◌}
+use mathlib.Core.Path.{◌≡◌, refl}
 use mathlib.Core.Bool.{Bool, true, false, ◌&&◌}
 use mathlib.Core.List.{List}
 use Prim.Native.Nat.{ℕ, ◌*◌, ◌≤◌}
@@ -10,24 +10,24 @@ use borrow.Author.Tests.{leb-true, eqb-true}
 use Rattle.workspace.specs.Tables.{Answer, refused, call, is_equalities, is_late, has}
 use Rattle.workspace.specs.declared.Refusal.{Refusal}
 use Rattle.workspace.specs.declared.Refusal.TheVariants.{Size, Length, Room}
-use Rattle.workspace.specs.declared.Outcome.{Outcome}
-use Rattle.workspace.specs.declared.Outcome.TheVariants.{Refused}
+use Rattle.workspace.specs.Tables.{Outcome}
+use Rattle.std.specs.Prelude.{Err}
 use Rattle.workspace.proofs.Tests.{and-true, equalities-le}
 use Rattle.lsei.specs.Lsei.{Solution}
 use Rattle.reconcile_call.specs.Promise.{is_meters, Reconciles}
 
 module _ (n : ℕ) (s t r : Bool) (a : Answer Solution) (x : List Float) (marks : List ℕ) (w : List Float) (iw : List ℕ) where
-  pub size-refused : s ≡ false → Reconciles n (call s t r true a) (Refused Size) x x marks marks w w iw iw
+  pub size-refused : s ≡ false → Reconciles n (call s t r true a) (Err Size) x x marks marks w w iw iw
   size-refused hs = rw hs (record { the_outcome = refl; the_volumes = refl; the_marks = refl; the_floats = refl; the_words = refl })
 
-  pub length-refused : s ≡ true → t ≡ false → Reconciles n (call s t r true a) (Refused Length) x x marks marks w w iw iw
+  pub length-refused : s ≡ true → t ≡ false → Reconciles n (call s t r true a) (Err Length) x x marks marks w w iw iw
   length-refused hs ht = rw (hs, ht) (record { the_outcome = refl; the_volumes = refl; the_marks = refl; the_floats = refl; the_words = refl })
 
-  pub room-refused : s ≡ true → t ≡ true → r ≡ false → Reconciles n (call s t r true a) (Refused Room) x x marks marks w w iw iw
+  pub room-refused : s ≡ true → t ≡ true → r ≡ false → Reconciles n (call s t r true a) (Err Room) x x marks marks w w iw iw
   room-refused hs ht hr = rw (hs, ht, hr) (record { the_outcome = refl; the_volumes = refl; the_marks = refl; the_floats = refl; the_words = refl })
 
   -- a meter is refused, and nothing is written
-  pub meter-refused : (k : Refusal) → s ≡ true → t ≡ true → r ≡ true → (a ≡ refused k) × (is_late k ≡ false) → Reconciles n (call s t r true a) (Refused k) x x marks marks w w iw iw
+  pub meter-refused : (k : Refusal) → s ≡ true → t ≡ true → r ≡ true → (a ≡ refused k) × (is_late k ≡ false) → Reconciles n (call s t r true a) (Err k) x x marks marks w w iw iw
   meter-refused k hs ht hr h = rw (hs, ht, hr, h.0) (record { the_outcome = refl; the_volumes = refl; the_marks = refl; the_floats = rw h.1 refl; the_words = rw h.1 refl })
 
 -- no test refuses

@@ -1,6 +1,5 @@
 -- The promise allows one answer only.
 use mathlib.Core.Path.{sym, ◌∙◌}
-use Rattle.reconcile_call.specs.Promise.{Reconciles}
 use Rattle.reconcile_call.specs.Claims.{OneAnswer}
 
 pub one_answer : OneAnswer

@@ -1,20 +1,18 @@
 -- What a call tells and leaves: the lowest meter that is not sound, and the marks.
-use mathlib.Core.Path.{◌≡◌, refl, sym, ap, subst, ◌∙◌}
-use mathlib.Core.Bool.{Bool, true, false, ◌&&◌}
+use mathlib.Core.Path.{◌≡◌, refl, subst, ◌∙◌}
+use mathlib.Core.Bool.{Bool, true, false}
 use mathlib.Core.List.{List}
 use mathlib.Core.Logic.{◌⊎◌, ◌↔◌}
 use Prim.Native.Nat.{ℕ, ◌<◌}
-use native.Mathlib.Omega.{arith}
 use lib.Ieee.{Float, nan, lt}
 use Rattle.numbers.specs.Numbers.{+0, at, nth}
 use Rattle.workspace.specs.Tables.{Answer, done, refused, call, is_late, is_room}
 use Rattle.workspace.specs.declared.Refusal.{Refusal}
 use Rattle.workspace.specs.declared.Refusal.TheVariants.{Reading, Spread}
-use Rattle.workspace.specs.declared.Outcome.{Outcome}
-use Rattle.workspace.specs.declared.Outcome.TheVariants.{Done, Refused}
-use Rattle.nnls.specs.Counted.{Counted}
+use Rattle.workspace.specs.Tables.{Outcome}
+use Rattle.std.specs.Prelude.{Ok, Err}
 use Rattle.lsei.specs.Lsei.{Solution}
-use Rattle.reconcile.specs.Day.{Day, corrected, named}
+use Rattle.reconcile.specs.Day.{Day, corrected}
 use Rattle.reconcile.proofs.Names.{named-is, else-not}
 use Rattle.reconcile_call.specs.Promise.{are_sizes, are_lengths, meters, day_call, Reconciles}
 use Rattle.reconcile_call.specs.Claims.{Lowest, all_sound, wrong_reading, wrong_spread, Untouched, LowestTold, every_sound, reading_told, spread_told, CallLowestFirst, CallNamedIs}
@@ -27,7 +25,7 @@ module _ (d : Day) (o : Outcome) (x x' : List Float) (marks marks' : List ℕ) (
   Left c = Reconciles d.n c o x x' marks marks' w w' iw iw'
 
   -- a refusal before the arithmetic
-  early : (r : Refusal) → is_late r ≡ false → Left (refused r) → (o ≡ Refused r) × Untouched x x' marks marks' w w' iw iw'
+  early : (r : Refusal) → is_late r ≡ false → Left (refused r) → (o ≡ Err r) × Untouched x x' marks marks' w w' iw iw'
   early r l q = (q.the_outcome, (q.the_volumes, q.the_marks, q.the_floats ∙ rw l refl, q.the_words ∙ rw l refl))
 
   told : (c : Answer Solution) → Lowest d.before d.after d.spreads d.n (corrected d).answer c → Left c → LowestTold d o x x' marks marks' w w' iw iw'
@@ -51,9 +49,9 @@ call-lowest-first d o x x' marks marks' w w' iw iw' s t r q =
 -- ---- the marks
 
 module _ (n : ℕ) (x x' : List Float) (marks marks' : List ℕ) (w w' : List Float) (iw iw' : List ℕ) (i : ℕ) (h : i < n) where
-  marked : (c : Answer Solution) → Reconciles n c Done x x' marks marks' w w' iw iw'
+  marked : (c : Answer Solution) → Reconciles n c (Ok tt) x x' marks marks' w w' iw iw'
       → ((nth marks' i ≡ 1) ↔ ((lt (at x' i) +0 ≡ true) ⊎ (at x' i ≡ nan))) × ((nth marks' i ≡ 0) ⊎ (nth marks' i ≡ 1))
-  marked (refused r) q = let e : Done ≡ Refused r = q.the_outcome in let z : ◌≡◌ {A = ℕ} 0 1 = cc in absurd (let y : ⊥ = omega (arith, z) in y)
+  marked (refused r) q = let e : ◌≡◌ {A = Outcome} (Ok tt) (Err r) = q.the_outcome in absurd (let y : ⊥ = cc in y)
   marked (done s) q = rw (q.the_volumes, q.the_marks) (named-is n s.x i h, else-not n s.x i h)
 
 pub call-named-is : CallNamedIs

@@ -1,13 +1,12 @@
 -- What is shown of calls of the day's reconciliation: the lowest meter is told, the marks name what is below zero or NaN, and the promise allows one answer only. Definitions only.
-use Rattle.std.specs.Prelude.{ℕ, ◌+◌, ◌<◌, ◌≡◌, true, false, ◌&&◌, List, ◌⊎◌, ◌↔◌, Float}
+use Rattle.std.specs.Prelude.{ℕ, ◌<◌, ◌≡◌, true, false, ◌&&◌, List, ◌⊎◌, ◌↔◌, Float}
 use Rattle.std.specs.Float.{nan}
 use Rattle.std.specs.Float.Ieee.{lt}
 use Rattle.numbers.specs.Numbers.{+0, at, nth}
 use Rattle.workspace.specs.Tables.{Answer, refused, is_room}
 use Rattle.workspace.specs.declared.Refusal.TheVariants.{Reading, Spread}
-use Rattle.workspace.specs.declared.Outcome.{Outcome}
-use Rattle.workspace.specs.declared.Outcome.TheVariants.{Done, Refused}
-use Rattle.nnls.specs.Counted.{Counted}
+use Rattle.workspace.specs.Tables.{Outcome}
+use Rattle.std.specs.Prelude.{Ok, Err}
 use Rattle.lsei.specs.Lsei.{Solution}
 use Rattle.reconcile.specs.Day.{Day, corrected}
 use Rattle.reconcile_call.specs.Promise.{are_sizes, are_lengths, is_reading, is_spread, meters, day_call, Reconciles}
@@ -41,9 +40,9 @@ Untouched x x' marks marks' w w' iw iw' = (x' ≡ x) × (marks' ≡ marks) × (w
 pub data LowestTold (d : Day) (o : Outcome) (x x' : List Float) (marks marks' : List ℕ) (w w' : List Float) (iw iw' : List ℕ) : Type 0 where
   every_sound : ((i : ℕ) → i < d.n → Sound d.before d.after d.spreads i) → Reconciles d.n (corrected d).answer o x x' marks marks' w w' iw iw'
       → LowestTold d o x x' marks marks' w w' iw iw'
-  reading_told : (i : ℕ) → i < d.n → ((j : ℕ) → j < i → Sound d.before d.after d.spreads j) → (is_reading (nth d.before i) && is_reading (nth d.after i)) ≡ false → o ≡ Refused (Reading i)
+  reading_told : (i : ℕ) → i < d.n → ((j : ℕ) → j < i → Sound d.before d.after d.spreads j) → (is_reading (nth d.before i) && is_reading (nth d.after i)) ≡ false → o ≡ Err (Reading i)
       → Untouched x x' marks marks' w w' iw iw' → LowestTold d o x x' marks marks' w w' iw iw'
-  spread_told : (i : ℕ) → i < d.n → ((j : ℕ) → j < i → Sound d.before d.after d.spreads j) → Read d.before d.after i → is_spread (at d.spreads i) ≡ false → o ≡ Refused (Spread i)
+  spread_told : (i : ℕ) → i < d.n → ((j : ℕ) → j < i → Sound d.before d.after d.spreads j) → Read d.before d.after i → is_spread (at d.spreads i) ≡ false → o ≡ Err (Spread i)
       → Untouched x x' marks marks' w w' iw iw' → LowestTold d o x x' marks marks' w w' iw iw'
 
 -- where sizes, lengths and workspaces are right
@@ -56,7 +55,7 @@ CallLowestFirst = (d : Day) (o : Outcome) (x x' : List Float) (marks marks' : Li
 
 -- where a call is done, the mark of each meter is 1 exactly where the volume that it leaves is below zero or NaN, and else 0
 abbrev pub CallNamedIs : Type 0
-CallNamedIs = (d : Day) (x x' : List Float) (marks marks' : List ℕ) (w w' : List Float) (iw iw' : List ℕ) → Reconciles d.n (day_call d x marks w iw) Done x x' marks marks' w w' iw iw'
+CallNamedIs = (d : Day) (x x' : List Float) (marks marks' : List ℕ) (w w' : List Float) (iw iw' : List ℕ) → Reconciles d.n (day_call d x marks w iw) (Ok tt) x x' marks marks' w w' iw iw'
     → (i : ℕ) → i < d.n → ((nth marks' i ≡ 1) ↔ ((lt (at x' i) +0 ≡ true) ⊎ (at x' i ≡ nan))) × ((nth marks' i ≡ 0) ⊎ (nth marks' i ≡ 1))
 
 -- ---- one answer only

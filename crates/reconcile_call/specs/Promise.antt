@@ -5,9 +5,8 @@ use Rattle.std.specs.Float.Ieee.{lt}
 use Rattle.numbers.specs.Numbers.{+0, at, nth}
 use Rattle.workspace.specs.Tables.{Answer, call, test, outcome_of, output, floats, words, is_equalities, is_room, has}
 use Rattle.workspace.specs.declared.Refusal.TheVariants.{Reading, Spread}
-use Rattle.workspace.specs.declared.Outcome.{Outcome}
+use Rattle.workspace.specs.Tables.{Outcome}
 use Rattle.totaliser.specs.Volume.{largest}
-use Rattle.nnls.specs.Counted.{Counted}
 use Rattle.lsei.specs.Lsei.{Solution}
 use Rattle.reconcile.specs.Day.{Day, corrected, named}
 

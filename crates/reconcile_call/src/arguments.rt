@@ -5,7 +5,7 @@ ghost use Rattle.workspace.specs.declared.Refusal.TheVariants.{Reading, Spread};
 ghost use Rattle.reconcile_call.specs.Promise.{is_meters, is_reading, is_spread};
 ghost use Rattle.reconcile_call.specs.inner.Work.{tested_outcome};
 
-use workspace::{Outcome, Refusal};
+use workspace::Refusal;
 
 // The sizes.
 pub fn are_sizes(n: usize, m: usize) -> bool
@@ -61,30 +61,27 @@ pub fn is_spread(s: f64) -> bool
 }
 
 // One meter: a wrong reading is told before a wrong spread.
-fn test_meter(old: u32, new: u32, spread: f64, i: u32) -> Outcome
+fn test_meter(old: u32, new: u32, spread: f64, i: u32) -> Result<(), Refusal>
     ensures { result ≡ outcome_of {A = Unit} (test (is_reading old && is_reading new) (Reading i) (test (is_spread spread) (Spread i) (done tt))) }
 {
     let read = are_readings(old, new);
     let spreads = is_spread(spread);
     if !read {
-        return Outcome::Refused(Refusal::Reading(i));
+        return Err(Refusal::Reading(i));
     }
     if !spreads {
-        return Outcome::Refused(Refusal::Spread(i));
+        return Err(Refusal::Spread(i));
     }
-    Outcome::Done
+    Ok(())
 }
 
 // All meters, the lowest first.
-pub fn test_meters(before: &[u32], after: &[u32], spreads: &[f64], n: usize) -> Outcome
+pub fn test_meters(before: &[u32], after: &[u32], spreads: &[f64], n: usize) -> Result<(), Refusal>
     requires { (n ≤ 16) × (length before.now ≡ n) × (length after.now ≡ n) × (length spreads.now ≡ n) }
     ensures { result ≡ tested_outcome before.now after.now spreads.now n 0 }
 {
     for i in 0..n {
-        let told = test_meter(before[i], after[i], spreads[i], i as u32);
-        let Outcome::Done = told else {
-            return told;
-        };
+        test_meter(before[i], after[i], spreads[i], i as u32)?;
     }
-    Outcome::Done
+    Ok(())
 }

@@ -15,26 +15,24 @@ ghost use Rattle.reconcile_call.specs.inner.Work.{DayGiven};
 
 use crate::arguments::{are_lengths, test_meters};
 pub use arguments::{are_sizes, is_spread};
-use workspace::{Outcome, Refusal};
+use workspace::Refusal;
 
-// Where the ending is Done, the n volumes that LSEI left, and their marks.
+// Where the solve ended well, the n volumes that LSEI left, and their marks.
 fn give(
     w: &[f64],
     volumes: &mut [f64],
     named: &mut [u8],
-    ending: lsei::Ending,
+    ending: Result<(), lsei::Unsolved>,
     n: usize,
     m: usize,
-) -> Outcome
+) -> Result<(), Refusal>
     requires { (n ≤ 16) × (LSEI_ROOM ≤ length w.now) × (length volumes.old ≡ n) × (length named.old ≡ n) }
     ensures { DayGiven n (ending_answer ending (solution_in n m n w.now)) result volumes.old volumes.new named.old named.new }
 {
-    let lsei::Ending::Done = ending else {
-        return ending.outcome();
-    };
+    ending?;
     workspace::unload(w, volumes, lsei_nullspace::LSEI_X, n);
     reconcile::mark_all(volumes, named, n);
-    Outcome::Done
+    Ok(())
 }
 
 // The call where no test refuses.
@@ -49,7 +47,7 @@ fn solve_all(
     iw: &mut [u32],
     n: usize,
     m: usize,
-) -> Outcome
+) -> Result<(), Refusal>
     requires { Readable n before.now after.now spreads.now × (m ≤ 16) × (length balances.now ≡ m * n) × (length volumes.old ≡ n) × (length named.old ≡ n) × (8192 ≤ length w.old) × (512 ≤ length iw.old) }
     ensures { Reconciles n (corrected (day_of n m before.now after.now spreads.now balances.now)).answer result volumes.old volumes.new named.old named.new w.old w.new iw.old iw.new }
 {
@@ -86,11 +84,11 @@ impl Day {
         named: &mut [u8],
         w: &mut [f64],
         iw: &mut [u32],
-    ) -> Outcome
+    ) -> Result<(), Refusal>
         ensures { Reconciles n (day_call (day_of n m before.now after.now spreads.now balances.now) volumes.old named.old w.old iw.old) result volumes.old volumes.new named.old named.new w.old w.new iw.old iw.new }
     {
         if !are_sizes(n, m) {
-            return Outcome::Refused(Refusal::Size);
+            return Err(Refusal::Size);
         }
         if !are_lengths(
             n,
@@ -102,15 +100,12 @@ impl Day {
             volumes.len(),
             named.len(),
         ) {
-            return Outcome::Refused(Refusal::Length);
+            return Err(Refusal::Length);
         }
         if !workspace::is_room(w.len(), iw.len()) {
-            return Outcome::Refused(Refusal::Room);
+            return Err(Refusal::Room);
         }
-        let told = test_meters(before, after, spreads, n);
-        let Outcome::Done = told else {
-            return told;
-        };
+        test_meters(before, after, spreads, n)?;
         solve_all(
             before, after, spreads, balances, volumes, named, w, iw, n, m,
         )

@@ -4,8 +4,6 @@
 
 ghost use Rattle.std.specs.Prelude.{◌≡◌, length};
 
-use input::Reading;
-
 // 9,504 zeros, for the input.
 fn input_room() -> [u8; 9504]
     ensures { 9504 ≡ length result }
@@ -32,9 +30,9 @@ fn answer(rt: &(impl Print + Eprint), input: &[u8]) {
 fn main(rt: HostRuntime) {
     let mut bytes = input_room();
     match input::fill(&mut rt.stdin(), &mut bytes) {
-        Reading::Failed(_) => {
+        Err(_) => {
             let _ = rt.eprintln("gritstrut: standard input cannot be read");
         }
-        Reading::Bytes(n) => answer(&rt, &bytes[..n]),
+        Ok(n) => answer(&rt, &bytes[..n]),
     }
 }

@@ -13,7 +13,7 @@ mod volumes;
 ghost use Rattle.std.specs.Prelude.{◌≡◌, length};
 
 use crate::run::{STDOUT, run};
-use replay_list::{Call, is_whole, values_of, word};
+use replay_list::{Call, Operation, is_whole, values_of, word};
 
 // The descriptor of standard input.
 const STDIN: i32 = 0;
@@ -41,11 +41,11 @@ fn end_line() {
 }
 
 // Runs a call and writes its line.
-fn replay(operation: u64, call: &Call) {
-    io::print_decimal(STDOUT, operation);
+fn replay(number: u64, operation: Operation, call: &Call) {
+    io::print_decimal(STDOUT, number);
     write_space();
     let values = values_of(call);
-    let digest = run(operation as usize, call, &values);
+    let digest = run(operation, call, &values);
     write_space();
     io::print_hex(STDOUT, digest, 16);
     end_line();
@@ -58,12 +58,12 @@ fn no_call() -> Call
     [0; 12288]
 }
 
-// Reads a call of an operation and n bytes and replays it, if it is one.
-fn replay_next(operation: u64, n: usize) -> bool {
+// Reads a call of the operation with a number, in n bytes, and replays it, if it is one.
+fn replay_next(number: u64, n: usize) -> bool {
     let mut call = no_call();
-    if 24 < operation {
+    let Ok(operation) = Operation::try_from(number) else {
         return false;
-    }
+    };
     if 12288 < n {
         return false;
     }
@@ -73,7 +73,7 @@ fn replay_next(operation: u64, n: usize) -> bool {
     if !is_whole(&call, n) {
         return false;
     }
-    replay(operation, &call);
+    replay(number, operation, &call);
     true
 }
 

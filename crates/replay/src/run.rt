@@ -6,33 +6,27 @@ use crate::runs::{run_begin, run_tell};
 use crate::steps::run_step;
 use crate::volumes::{run_certify, run_settle};
 use replay_list::{
-    Call, Values, digest_of, first_output, length_at, lent_output, mark, mix_float, mix_mark,
-    mix_output, mix_places, mix_room, mix_values, part, places, room, size,
+    Call, Operation, Values, digest_of, first_output, length_at, lent_output, mark, mix_float,
+    mix_mark, mix_output, mix_places, mix_room, mix_values, part, places, room, size,
 };
 
 // The descriptor of standard output.
 pub const STDOUT: i32 = 1;
 
-// A u32 as a word.
-fn long(x: u32) -> u64 {
-    x as u64
-}
-
 // Writes a call's number, with which its digest starts.
 pub fn told(number: u32) -> u64 {
-    io::print_decimal(STDOUT, long(number));
+    io::print_decimal(STDOUT, u64::from(number));
     digest_of(number)
 }
 
-// The root of the first value, the sum or the norm of an input.
-fn run_real(operation: usize, call: &Call, values: &Values) -> f64 {
-    if operation == 0 {
-        return gritstrut::gritstrut_sqrt(values[0]);
+// The root of the first value, the sum or the norm of an input; other operations are lent workspaces.
+fn run_real(operation: Operation, call: &Call, values: &Values) -> Option<f64> {
+    match operation {
+        Operation::Sqrt => Some(gritstrut::gritstrut_sqrt(values[0])),
+        Operation::Sum => Some(gritstrut::gritstrut_sum(part(call, values, 0))),
+        Operation::Norm => Some(gritstrut::gritstrut_norm(part(call, values, 0))),
+        _ => None,
     }
-    if operation == 1 {
-        return gritstrut::gritstrut_sum(part(call, values, 0));
-    }
-    gritstrut::gritstrut_norm(part(call, values, 0))
 }
 
 // Householder QR, whose last output and permutation only this has.
@@ -81,7 +75,7 @@ pub fn told_place(number: u32, place: u32) -> u64 {
 // The approximation B, square or as its lower triangle: the identity, a product, the factor, or the update of the
 // matrix in x.
 fn run_hessian(
-    operation: usize,
+    operation: Operation,
     call: &Call,
     values: &Values,
     x: &mut [f64],
@@ -93,13 +87,13 @@ fn run_hessian(
     let b = part(call, values, 1);
     let c = part(call, values, 2);
     match operation {
-        8 => told(gritstrut::gritstrut_identity(n, x, w, iw)),
-        9 => told(gritstrut::gritstrut_times(n, a, b, x, w, iw)),
-        10 => told(gritstrut::gritstrut_cholesky(n, a, x, w, iw)),
-        11 => told(gritstrut::gritstrut_update(n, x, b, c, w, iw)),
-        13 => told(gritstrut::gritstrut_packed_identity(n, x, w, iw)),
-        14 => told(gritstrut::gritstrut_packed_times(n, a, b, x, w, iw)),
-        15 => told(gritstrut::gritstrut_packed_cholesky(n, a, x, w, iw)),
+        Operation::Identity => told(gritstrut::gritstrut_identity(n, x, w, iw)),
+        Operation::Times => told(gritstrut::gritstrut_times(n, a, b, x, w, iw)),
+        Operation::Cholesky => told(gritstrut::gritstrut_cholesky(n, a, x, w, iw)),
+        Operation::Update => told(gritstrut::gritstrut_update(n, x, b, c, w, iw)),
+        Operation::PackedIdentity => told(gritstrut::gritstrut_packed_identity(n, x, w, iw)),
+        Operation::PackedTimes => told(gritstrut::gritstrut_packed_times(n, a, b, x, w, iw)),
+        Operation::PackedCholesky => told(gritstrut::gritstrut_packed_cholesky(n, a, x, w, iw)),
         _ => told(gritstrut::gritstrut_packed_update(n, x, b, c, w, iw)),
     }
 }
@@ -163,7 +157,7 @@ fn run_lsei(
 
 // A call that is lent workspaces.
 fn run_any(
-    operation: usize,
+    operation: Operation,
     call: &Call,
     values: &Values,
     x: &mut [f64],
@@ -176,32 +170,32 @@ fn run_any(
     let a = part(call, values, 0);
     let b = part(call, values, 1);
     match operation {
-        3 => run_qr(call, values, x, y, w, iw),
-        4 => {
+        Operation::Qr => run_qr(call, values, x, y, w, iw),
+        Operation::Nnls => {
             let k = size(call, 2);
             let mut p = mark(call);
             let mut q = mark(call);
             let number = gritstrut::gritstrut_nnls(i, j, k, a, b, x, &mut p, &mut q, w, iw);
             told_counts(number, p, q)
         }
-        5 => told(gritstrut::gritstrut_ldp(i, j, a, b, x, y, w, iw)),
-        6 => run_lsi(call, values, x, y, w, iw),
-        7 => run_lsei(call, values, x, y, w, iw),
-        12 => run_step(operation, call, values, x, y, w, iw),
-        17 => run_day(call, values, x, w, iw),
-        18 => run_step(operation, call, values, x, y, w, iw),
-        19 => run_check(call, values, w, iw),
-        20 => run_begin(call, values, x, w, iw),
-        21 => run_tell(call, values, x, w, iw),
-        22 => run_suspect(call, values, x, w, iw),
-        23 => run_settle(call, values, x, y, w, iw),
-        24 => run_certify(call, values, w, iw),
+        Operation::Ldp => told(gritstrut::gritstrut_ldp(i, j, a, b, x, y, w, iw)),
+        Operation::Lsi => run_lsi(call, values, x, y, w, iw),
+        Operation::Lsei => run_lsei(call, values, x, y, w, iw),
+        Operation::Step => run_step(operation, call, values, x, y, w, iw),
+        Operation::Day => run_day(call, values, x, w, iw),
+        Operation::StrictStep => run_step(operation, call, values, x, y, w, iw),
+        Operation::Check => run_check(call, values, w, iw),
+        Operation::Begin => run_begin(call, values, x, w, iw),
+        Operation::Tell => run_tell(call, values, x, w, iw),
+        Operation::Suspect => run_suspect(call, values, x, w, iw),
+        Operation::Settle => run_settle(call, values, x, y, w, iw),
+        Operation::Certify => run_certify(call, values, w, iw),
         _ => run_hessian(operation, call, values, x, w, iw),
     }
 }
 
 // Lends a call its outputs and workspaces, and mixes all that they hold afterwards.
-fn run_lent(operation: usize, call: &Call, values: &Values) -> u64 {
+fn run_lent(operation: Operation, call: &Call, values: &Values) -> u64 {
     let xs = length_at(call, 2, 1200);
     let ys = length_at(call, 3, 1200);
     let ws = length_at(call, 0, 8231);
@@ -223,12 +217,10 @@ fn run_lent(operation: usize, call: &Call, values: &Values) -> u64 {
 }
 
 // Runs a call, writes its number, and gives the digest of all that it left, its inputs last.
-pub fn run(operation: usize, call: &Call, values: &Values) -> u64 {
-    if operation < 3 {
-        return mix_values(
-            mix_float(told(0), run_real(operation, call, values)),
-            values,
-        );
-    }
-    mix_values(run_lent(operation, call, values), values)
+pub fn run(operation: Operation, call: &Call, values: &Values) -> u64 {
+    let digest = match run_real(operation, call, values) {
+        Some(x) => mix_float(told(0), x),
+        None => run_lent(operation, call, values),
+    };
+    mix_values(digest, values)
 }

@@ -1,13 +1,13 @@
 // Runs a stored step, or strict step, through the C interface.
 use crate::run::told;
 use replay_list::{
-    Call, Values, junk, kinds, length_at, mix_count, mix_float, mix_kinds, mix_places, part,
-    places, size, tally,
+    Call, Operation, Values, junk, kinds, length_at, mix_count, mix_float, mix_kinds, mix_places,
+    part, places, size, tally,
 };
 
-// The step, operation 12, or the strict step.
+// The step, or the strict step.
 fn step_by(
-    operation: usize,
+    operation: Operation,
     call: &Call,
     values: &Values,
     d: &mut [f64],
@@ -28,7 +28,7 @@ fn step_by(
     let jacobian = part(call, values, 4);
     let lower = part(call, values, 5);
     let upper = part(call, values, 6);
-    if operation == 12 {
+    if operation == Operation::Step {
         return gritstrut::gritstrut_step(
             n,
             m,
@@ -72,7 +72,7 @@ fn step_by(
 
 // Its number, the relaxation, the tally, the report's whole memory and the kinds, which it has read.
 pub fn run_step(
-    operation: usize,
+    operation: Operation,
     call: &Call,
     values: &Values,
     d: &mut [f64],

@@ -10,25 +10,11 @@ pub type Call = [u8; 12288];
 // Its bytes from the first input on as floats.
 pub type Values = [f64; 1525];
 
-// A word as a size.
-fn whole(x: u64) -> usize
-    ensures { result ≡ x }
-{
-    x as usize
-}
-
-// The lesser of two sizes.
-pub fn least(a: usize, b: usize) -> usize
-    ensures { (result ≤ a) × (result ≤ b) }
-{
-    if a < b { a } else { b }
-}
-
 // One of the four sizes.
 pub fn size(call: &Call, i: usize) -> usize
     requires { i < 4 }
 {
-    whole(word(call, 8 * i))
+    word(call, 8 * i) as usize
 }
 
 // The float that outputs hold before the call.
@@ -68,7 +54,7 @@ fn length_of(call: &Call, i: usize) -> usize
     requires { i < 16 }
     ensures { result < 65536 }
 {
-    whole(short(call, 56 + 2 * i))
+    short(call, 56 + 2 * i) as usize
 }
 
 // A length, or `most` where it is larger; `is_whole` refuses a call that has such a length.
@@ -76,7 +62,7 @@ pub fn length_at(call: &Call, i: usize, most: usize) -> usize
     requires { i < 16 }
     ensures { result ≤ most }
 {
-    least(length_of(call, i), most)
+    length_of(call, i).min(most)
 }
 
 // How many values stand before input i.
@@ -102,7 +88,7 @@ pub fn between(values: &[f64], from: usize, to: usize) -> &[f64]
 pub fn part<'a>(call: &Call, values: &'a Values, i: usize) -> &'a [f64]
     requires { i < 9 }
 {
-    let from = least(start(call, i), 1525);
+    let from = start(call, i).min(1525);
     between(values, from, from + length_at(call, 7 + i, 1525 - from))
 }
 
@@ -115,7 +101,7 @@ fn among(bytes: &[u8], from: usize, to: usize) -> &[u8]
 
 // The kinds.
 pub fn kinds(call: &Call) -> &[u8] {
-    let from = least(88 + 8 * start(call, 9), 12288);
+    let from = (88 + 8 * start(call, 9)).min(12288);
     among(call, from, from + length_at(call, 6, 12288 - from))
 }
 

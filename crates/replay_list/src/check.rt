@@ -37,7 +37,7 @@ pub fn uppers<'a>(call: &Call, values: &'a Values) -> &'a [f64] {
 // The tolerance.
 pub fn tolerance(call: &Call, values: &Values) -> f64 {
     let pasted = part(call, values, 8);
-    if pasted.len() == 0 {
+    if pasted.is_empty() {
         return 0.0;
     }
     pasted[pasted.len() - 1]

@@ -1,7 +1,7 @@
 // The readings and the marks of a stored day.
 ghost use Rattle.std.specs.Prelude.{◌≡◌, ◌+◌, ◌<◌, ◌≤◌, length};
 
-use crate::call::{Call, least, length_at, low, mark, start};
+use crate::call::{Call, length_at, low, mark, start};
 use crate::digest::mix_kinds;
 use crate::little::word;
 use crate::memory::{Places, places};
@@ -25,7 +25,7 @@ pub fn lent_marks(call: &Call) -> Marks
 fn reading_at(call: &Call, k: usize) -> u32
     requires { k ≤ 100000 }
 {
-    low(word(call, least(88 + 8 * k, 12280)))
+    low(word(call, (88 + 8 * k).min(12280)))
 }
 
 // The readings that are the call's first input or its second, each the last half of a word.

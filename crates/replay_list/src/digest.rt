@@ -3,8 +3,6 @@ ghost use Rattle.std.specs.Prelude.{◌≡◌, ◌/◌, ◌%◌, ◌<◌, length
 ghost use Rattle.numbers.specs.Numbers.{at, nth};
 ghost use Rattle.replay_list.specs.Digest.{lane as digest_lane, mix, over, pattern_of};
 
-use crate::little::wide;
-
 // A half of the digest, with a number more.
 fn lane(h: u64, x: u64) -> u64
     requires { (h < 4294967296) × (x < 8589934592) }
@@ -42,8 +40,8 @@ pub fn mix_floats(digest: u64, xs: &[f64]) -> u64
     ensures { result ≡ over (length xs.now) digest (λ i. pattern_of (at xs.now i)) }
 {
     let mut d = digest;
-    for i in 0..xs.len() {
-        d = mix_float(d, xs[i]);
+    for &x in xs {
+        d = mix_float(d, x);
     }
     d
 }
@@ -55,18 +53,11 @@ pub fn mix_count(d: u64, x: u64) -> u64
     mixed(mixed(d, x / 4294967296), x % 4294967296)
 }
 
-// A u32 as a word.
-fn long(x: u32) -> u64
-    ensures { result ≡ x }
-{
-    x as u64
-}
-
 // The digest with a u32 more.
 pub fn mix_mark(d: u64, x: u32) -> u64
     ensures { result ≡ mix d x }
 {
-    mixed(d, long(x))
+    mixed(d, u64::from(x))
 }
 
 // The digest with every u32 of a slice.
@@ -74,8 +65,8 @@ pub fn mix_marks(digest: u64, xs: &[u32]) -> u64
     ensures { result ≡ over (length xs.now) digest (nth xs.now) }
 {
     let mut d = digest;
-    for i in 0..xs.len() {
-        d = mix_mark(d, xs[i]);
+    for &x in xs {
+        d = mix_mark(d, x);
     }
     d
 }
@@ -84,23 +75,16 @@ pub fn mix_marks(digest: u64, xs: &[u32]) -> u64
 fn mix_kind(d: u64, x: u8) -> u64
     ensures { result ≡ mix d x }
 {
-    mixed(d, wide(x))
-}
-
-// A count as a word.
-fn count(n: usize) -> u64
-    ensures { result ≡ n }
-{
-    n as u64
+    mixed(d, u64::from(x))
 }
 
 // The digest with a slice's length and then every byte of it.
 pub fn mix_kinds(digest: u64, xs: &[u8]) -> u64
     ensures { result ≡ over (length xs.now) (mix digest (length xs.now)) (nth xs.now) }
 {
-    let mut d = mixed(digest, count(xs.len()));
-    for i in 0..xs.len() {
-        d = mix_kind(d, xs[i]);
+    let mut d = mixed(digest, xs.len() as u64);
+    for &x in xs {
+        d = mix_kind(d, x);
     }
     d
 }

@@ -8,6 +8,7 @@ mod day;
 mod digest;
 mod little;
 mod memory;
+mod operation;
 
 pub use call::{
     Call, Values, is_whole, junk, kinds, length_at, mark, part, size, small_size, tally, values_of,
@@ -19,3 +20,4 @@ pub use little::word;
 pub use memory::{
     first_output, lent_output, mix_output, mix_places, mix_room, mix_values, places, room,
 };
+pub use operation::{Operation, UnknownOperation};

@@ -1,8 +1,9 @@
 // The memory that a call is lent, full of the call's junk, and its digest afterwards.
 ghost use Rattle.std.specs.Prelude.{◌≡◌, length};
 
-use crate::call::{Call, Values, junk, least, mark, part, room_junk};
+use crate::call::{Call, Values, junk, mark, part, room_junk};
 use crate::digest::{mix_floats, mix_marks};
+use crate::operation::Operation;
 
 // The memory of a slice of floats that is written.
 pub type Output = [f64; 1200];
@@ -36,24 +37,20 @@ pub fn places(call: &Call) -> Places
 
 // Copies a slice to the front of another, as far as that goes.
 fn load(to: &mut [f64], from: &[f64]) {
-    for i in 0..least(to.len(), from.len()) {
-        to[i] = from[i];
-    }
+    let n = to.len().min(from.len());
+    to[..n].copy_from_slice(&from[..n]);
 }
 
-// An operation whose output is its first input: `update`, square or packed, and an answer to a search.
-fn is_changed(operation: usize) -> bool {
-    if operation == 11 {
-        return true;
-    }
-    if operation == 16 {
-        return true;
-    }
-    operation == 21
+// An operation whose output is its first input: an update, square or packed, and an answer to a search.
+fn is_changed(operation: Operation) -> bool {
+    matches!(
+        operation,
+        Operation::Update | Operation::PackedUpdate | Operation::Tell
+    )
 }
 
 // The memory of the first output: for an update the matrix, for an answer the machine, which are changed where they stand.
-pub fn first_output(operation: usize, call: &Call, values: &Values) -> Output
+pub fn first_output(operation: Operation, call: &Call, values: &Values) -> Output
     ensures { 1200 ≡ length result }
 {
     if !is_changed(operation) {

@@ -16,8 +16,8 @@ use Rattle.numbers.proofs.Cases.{last-or-before}
 use Rattle.workspace.specs.Readings.{vec}
 use Rattle.workspace.proofs.Tests.{and-true}
 use Rattle.workspace.specs.Tables.{Answer, done, refused, number, outcome_number, call, test, floats, words, is_dimension, is_constraints, is_room, is_tolerance, has}
-use Rattle.workspace.specs.declared.Outcome.{Outcome}
-use Rattle.workspace.specs.declared.Outcome.TheVariants.{Done, Refused}
+use Rattle.workspace.specs.Tables.{Outcome}
+use Rattle.std.specs.Prelude.{Ok, Err}
 use Rattle.nnls.proofs.Signs.{T→true}
 use Rattle.workspace.specs.declared.Refusal.{Refusal}
 use Rattle.workspace.specs.declared.Refusal.TheVariants.{Size, Length, Room, Kind, Tolerance, Bound, Crossed, Unasked}
@@ -89,8 +89,8 @@ all (v ∷ vs) p M s h k = all vs p (hears p M v) (told_once v s) h (once p M s 
 
 -- ---- a beginning that is done
 
-never-refused : {A : Type 0} (k : Refusal) → Done ≡ Refused k → A
-never-refused k e = let z : ◌≡◌ {A = ℕ} 0 1 = cc in absurd (let y : ⊥ = omega (arith, z) in y)
+never-refused : {A : Type 0} (k : Refusal) → ◌≡◌ {A = Outcome} (Ok tt) (Err k) → A
+never-refused k e = absurd (let y : ⊥ = cc in y)
 
 record Tested (p : Setup) (s l k : Bool) (o : Bool) (m : Machine) (c : Answer Machine) : Type 0 where
   sizes : s ≡ true
@@ -101,12 +101,12 @@ record Tested (p : Setup) (s l k : Bool) (o : Bool) (m : Machine) (c : Answer Ma
   answers : c ≡ done m
 
 module _ (p : Setup) (m : Machine) where
-  last-test : (k o : Bool) (c : Answer Machine) → k ≡ true → LowestBound p.lower p.upper p.n (test o Crossed (done m)) c → Done ≡ call_outcome c → Tested p true true k o m c
+  last-test : (k o : Bool) (c : Answer Machine) → k ≡ true → LowestBound p.lower p.upper p.n (test o Crossed (done m)) c → (Ok tt) ≡ call_outcome c → Tested p true true k o m c
   last-test k false c h (all_bounded b e) d = never-refused Crossed (d ∙ ap call_outcome e)
   last-test k true c h (all_bounded b e) d = record { sizes = refl; lengths = refl; kinds = h; bounded = b; ordered = refl; answers = e }
   last-test k o c h (wrong_bound i l b f e) d = never-refused (Bound i) (d ∙ ap call_outcome e)
 
-  tests-pass : (s l r k t o : Bool) (c : Answer Machine) → LowestBound p.lower p.upper p.n (test o Crossed (done m)) c → Done ≡ call_outcome (call s l r k (test t Tolerance c))
+  tests-pass : (s l r k t o : Bool) (c : Answer Machine) → LowestBound p.lower p.upper p.n (test o Crossed (done m)) c → (Ok tt) ≡ call_outcome (call s l r k (test t Tolerance c))
       → Tested p s l k o m (call s l r k (test t Tolerance c))
   tests-pass false l r k t o c b d = never-refused Size d
   tests-pass true false r k t o c b d = never-refused Length d
@@ -239,7 +239,7 @@ silent-in p (some M) v h = silent-at p v (tell p M v) (standing p M) h
 
 -- what a refusal by 18 leaves
 unasked : (p : Setup) (c : Answer Machine) (o : Outcome) (f f' : List Float) (u u' : List ℕ) (w w' : List Float) (iw iw' : List ℕ) → c ≡ refused Unasked
-    → Runs false p c o f f' u u' w w' iw iw' → (o ≡ Refused Unasked) × (outcome_number o ≡ 18) × (f' ≡ f) × (u' ≡ u) × (w' ≡ w) × (iw' ≡ iw)
+    → Runs false p c o f f' u u' w w' iw iw' → (o ≡ Err Unasked) × (outcome_number o ≡ 18) × (f' ≡ f) × (u' ≡ u) × (w' ≡ w) × (iw' ≡ iw)
 unasked p c o f f' u u' w w' iw iw' e r = (
   r.the_outcome ∙ ap call_outcome e,
   ap outcome_number (r.the_outcome ∙ ap call_outcome e),

@@ -5,8 +5,8 @@ use Rattle.std.proofs.Math.ListN.{get_elem?}
 use Rattle.std.specs.Float.Ieee.{lt}
 use Rattle.numbers.specs.Numbers.{at}
 use Rattle.workspace.specs.Readings.{vec}
-use Rattle.workspace.specs.declared.Outcome.{Outcome}
-use Rattle.workspace.specs.declared.Outcome.TheVariants.{Done, Refused}
+use Rattle.workspace.specs.Tables.{Outcome}
+use Rattle.std.specs.Prelude.{Ok, Err}
 use Rattle.workspace.specs.declared.Refusal.TheVariants.{Crossed, Unasked}
 use Rattle.workspace.specs.Tables.{Answer, refused, outcome_number, is_room, has}
 use Rattle.step_call.specs.Strict.{is_bounded}
@@ -57,7 +57,7 @@ ReadsPoint p (waits q) f = vec SEARCH_POINT p.n f ≡ point_asked q
 -- a beginning that is done left f and u
 abbrev pub BeginsDone : (p : Setup) (scheme : ℕ) (x : List Float) (b : ℕ) (f : List Float) (u : List ℕ) → Type 0
 BeginsDone p scheme x b f u =
-    (f₀ : List Float) × (u₀ : List ℕ) × (w : List Float) × (w' : List Float) × (iw : List ℕ) × (iw' : List ℕ) × Runs true p (begin_call p scheme x b f₀ u₀ w iw) Done f₀ f u₀ u w w' iw iw'
+    (f₀ : List Float) × (u₀ : List ℕ) × (w : List Float) × (w' : List Float) × (iw : List ℕ) × (iw' : List ℕ) × Runs true p (begin_call p scheme x b f₀ u₀ w iw) (Ok tt) f₀ f u₀ u w w' iw iw'
 
 -- The problem of such a beginning has all that a search needs, and its bounds mean something and are in order.
 pub record Sound (p : Setup) (b : ℕ) : Type 0 where
@@ -111,7 +111,7 @@ is_silent p (some m) = not (is_waiting (standing p m))
 abbrev pub NoQuestion : Type 0
 NoQuestion = (v f f' : List Float) (u u' : List ℕ) (w w' : List Float) (iw iw' : List ℕ) (r : Outcome) → length f ≡ SEARCH_MACHINE → length u ≡ SEARCH_WORDS → is_room w iw ≡ true
     → is_silent (setup_in f u) (machine_in f u) ≡ true → Runs false (setup_in f u) (tell_call v f u w iw) r f f' u u' w w' iw iw'
-    → (r ≡ Refused Unasked) × (outcome_number r ≡ 18) × (f' ≡ f) × (u' ≡ u) × (w' ≡ w) × (iw' ≡ iw)
+    → (r ≡ Err Unasked) × (outcome_number r ≡ 18) × (f' ≡ f) × (u' ≡ u) × (w' ≡ w) × (iw' ≡ iw)
 
 -- Whatever the answer c, the outcome and all that is left are fixed by what was there before.
 abbrev pub OneAnswer : Type 0

@@ -4,8 +4,8 @@ use Rattle.std.proofs.Math.Option.{Option, none, some}
 use Rattle.std.specs.Float.Ieee.{lt}
 use Rattle.numbers.specs.Numbers.{at}
 use Rattle.workspace.specs.declared.Refusal.TheVariants.{Length, Room, Tolerance, Crossed, Nonfinite, Unasked}
-use Rattle.workspace.specs.declared.Outcome.{Outcome}
-use Rattle.workspace.specs.declared.Outcome.TheVariants.{Done, Refused}
+use Rattle.workspace.specs.Tables.{Outcome}
+use Rattle.std.specs.Prelude.{Ok, Err}
 use Rattle.workspace.specs.Tables.{Answer, done, refused, call, test, output, floats, words, is_dimension, is_constraints, is_room, is_tolerance, has}
 use Rattle.step_call.specs.Strict.{bounds}
 use Rattle.search.specs.Places.{SEARCH_MACHINE, SEARCH_WORDS}
@@ -67,22 +67,22 @@ tell_call v f u w iw = tell_in (setup_in f u) (machine_in f u) (has f SEARCH_MAC
 
 -- the outcome: refused by 17 where a nonfinite number has ended the run
 abbrev pub end_outcome : Ending → Outcome
-end_outcome converged = Done
-end_outcome infeasible = Done
-end_outcome exhausted = Done
-end_outcome nonfinite = Refused Nonfinite
+end_outcome converged = Ok tt
+end_outcome infeasible = Ok tt
+end_outcome exhausted = Ok tt
+end_outcome nonfinite = Err Nonfinite
 
 abbrev pub state_outcome : Machine → Outcome
 state_outcome (ended e r) = end_outcome e
-state_outcome (starting b x) = Done
-state_outcome (trying b s line α again) = Done
-state_outcome (sloping b goal q) = Done
-state_outcome (raised b goal q rows cols g) = Done
-state_outcome (lowered b goal q rows cols g v) = Done
+state_outcome (starting b x) = Ok tt
+state_outcome (trying b s line α again) = Ok tt
+state_outcome (sloping b goal q) = Ok tt
+state_outcome (raised b goal q rows cols g) = Ok tt
+state_outcome (lowered b goal q rows cols g v) = Ok tt
 
 abbrev pub call_outcome : Answer Machine → Outcome
 call_outcome (done m) = state_outcome m
-call_outcome (refused r) = Refused r
+call_outcome (refused r) = Err r
 
 -- the two slices of the machine: `first` where the run begins, so that both are written whole; a refusal leaves them as they were
 abbrev pub floats_from : (first : Bool) → Setup → List Float → List Float

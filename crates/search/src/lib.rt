@@ -75,6 +75,8 @@ pub const SEARCH_WORDS: usize = 32;
 
 // ---- what the words say
 
+// Phases and schemes are numbers and no enums: they stand in memory that callers lend and read (docs/SEARCH.md).
+
 // No question, and no machine.
 pub const PHASE_NONE: u32 = 0;
 // All values at the start are asked for; at a trial; all slopes; one value with a coordinate raised; lowered.

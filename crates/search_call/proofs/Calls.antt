@@ -13,8 +13,8 @@ use Rattle.numbers.specs.Numbers.{nth}
 use Rattle.workspace.specs.Tables.{Answer, done, refused, is_late, call, test, is_dimension, is_constraints, is_room, has}
 use Rattle.workspace.specs.declared.Refusal.{Refusal}
 use Rattle.workspace.specs.declared.Refusal.TheVariants.{Size, Length, Room, Kind, Tolerance, Crossed, Unasked}
-use Rattle.workspace.specs.declared.Outcome.{Outcome}
-use Rattle.workspace.specs.declared.Outcome.TheVariants.{Refused}
+use Rattle.workspace.specs.Tables.{Outcome}
+use Rattle.std.specs.Prelude.{Err}
 use Rattle.workspace.specs.Readings.{Cleared}
 use Rattle.workspace.proofs.Tests.{and-true, dimension-le, dimension-ge, constraints-le, has-length}
 use Rattle.search.specs.Setup.{Setup, is_budget, is_scheme, are_kinds, Report, Ending, converged, infeasible, exhausted, nonfinite}
@@ -28,34 +28,34 @@ use Rattle.search_call.specs.inner.Work.{Begins, Started, question_in, is_told, 
 use Rattle.search_call.proofs.Questions.{Asked, asked_of}
 
 -- a refusal before the arithmetic leaves all as it was
-refused-by : (first : Bool) (p : Setup) (c : Answer Machine) (q : Refusal) (f w : List Float) (u iw : List ℕ) → is_late q ≡ false → c ≡ refused q → Runs first p c (Refused q) f f u u w w iw iw
+refused-by : (first : Bool) (p : Setup) (c : Answer Machine) (q : Refusal) (f w : List Float) (u iw : List ℕ) → is_late q ≡ false → c ≡ refused q → Runs first p c (Err q) f f u u w w iw iw
 refused-by first p c q f w u iw l e =
     rw e (record { the_outcome = refl; the_machine = refl; the_state = refl; the_floats = rw l refl; the_words = rw l refl })
 
 -- ---- beginning
 
 module _ (p : Setup) (f w : List Float) (u iw : List ℕ) where
-  pub crossed-refused : (o : Bool) (a : Answer Machine) → o ≡ false → Runs true p (test o Crossed a) (Refused Crossed) f f u u w w iw iw
+  pub crossed-refused : (o : Bool) (a : Answer Machine) → o ≡ false → Runs true p (test o Crossed a) (Err Crossed) f f u u w w iw iw
   crossed-refused o a h = refused-by true p (test o Crossed a) Crossed f w u iw refl (rw h refl)
 
   module _ (a : Answer Machine) (s l r k : Bool) where
-    pub size-refused : s ≡ false → Runs true p (call s l r k a) (Refused Size) f f u u w w iw iw
+    pub size-refused : s ≡ false → Runs true p (call s l r k a) (Err Size) f f u u w w iw iw
     size-refused h = refused-by true p (call s l r k a) Size f w u iw refl (rw h refl)
 
-    pub length-refused : s ≡ true → l ≡ false → Runs true p (call s l r k a) (Refused Length) f f u u w w iw iw
+    pub length-refused : s ≡ true → l ≡ false → Runs true p (call s l r k a) (Err Length) f f u u w w iw iw
     length-refused h i = refused-by true p (call s l r k a) Length f w u iw refl (rw (h, i) refl)
 
-    pub room-refused : s ≡ true → l ≡ true → r ≡ false → Runs true p (call s l r k a) (Refused Room) f f u u w w iw iw
+    pub room-refused : s ≡ true → l ≡ true → r ≡ false → Runs true p (call s l r k a) (Err Room) f f u u w w iw iw
     room-refused h i j = refused-by true p (call s l r k a) Room f w u iw refl (rw (h, i, j) refl)
 
-    pub kind-refused : s ≡ true → l ≡ true → r ≡ true → k ≡ false → Runs true p (call s l r k a) (Refused Kind) f f u u w w iw iw
+    pub kind-refused : s ≡ true → l ≡ true → r ≡ true → k ≡ false → Runs true p (call s l r k a) (Err Kind) f f u u w w iw iw
     kind-refused h i j q = refused-by true p (call s l r k a) Kind f w u iw refl (rw (h, i, j, q) refl)
 
     module _ (t : Bool) (hs : s ≡ true) (hl : l ≡ true) (hr : r ≡ true) (hk : k ≡ true) where
-      pub tolerance-refused : t ≡ false → Runs true p (call s l r k (test t Tolerance a)) (Refused Tolerance) f f u u w w iw iw
+      pub tolerance-refused : t ≡ false → Runs true p (call s l r k (test t Tolerance a)) (Err Tolerance) f f u u w w iw iw
       tolerance-refused h = refused-by true p (call s l r k (test t Tolerance a)) Tolerance f w u iw refl (rw (hs, hl, hr, hk, h) refl)
 
-      pub bound-refused : (q : Refusal) → t ≡ true → (a ≡ refused q) × (is_late q ≡ false) → Runs true p (call s l r k (test t Tolerance a)) (Refused q) f f u u w w iw iw
+      pub bound-refused : (q : Refusal) → t ≡ true → (a ≡ refused q) × (is_late q ≡ false) → Runs true p (call s l r k (test t Tolerance a)) (Err q) f f u u w w iw iw
       bound-refused q h e = refused-by true p (call s l r k (test t Tolerance a)) q f w u iw e.1 (rw (hs, hl, hr, hk, h) e.0)
 
       pub call-answered : (b : Answer Machine) (o : Outcome) (f' w' : List Float) (u' iw' : List ℕ) → t ≡ true → a ≡ b → Runs true p b o f f' u u' w w' iw iw'
@@ -209,7 +209,7 @@ short-tell p none v l r h = rw h refl
 short-tell p (some M) v l r h = rw h refl
 
 module _ (v f w : List Float) (u iw : List ℕ) where
-  pub slices-refused : (has f 1024 && has u 32) ≡ false → Runs false (setup_in f u) (tell_call v f u w iw) (Refused Length) f f u u w w iw iw
+  pub slices-refused : (has f 1024 && has u 32) ≡ false → Runs false (setup_in f u) (tell_call v f u w iw) (Err Length) f f u u w w iw iw
   slices-refused h = refused-by false (setup_in f u) (tell_call v f u w iw) Length f w u iw refl (short-tell (setup_in f u) (machine_in f u) v (has f 1024 && has u 32) (is_room w iw) h)
 
   module _ (h : (has f 1024 && has u 32) ≡ true) where
@@ -228,16 +228,16 @@ module _ (v f w : List Float) (u iw : List ℕ) where
     asked-suc : (k : ℕ) → suc k ≡ question_in u → Asked (suc k) u
     asked-suc k e = asked_of u (suc k) e (λ z. absurd (let y : ⊥ = omega arith in y))
 
-    pub told-refused : (k : ℕ) → k ≡ question_in u → is_told k (nth u 8) (nth u 9) (length v) ≡ false → Runs false (setup_in f u) (tell_call v f u w iw) (Refused Length) f f u u w w iw iw
+    pub told-refused : (k : ℕ) → k ≡ question_in u → is_told k (nth u 8) (nth u 9) (length v) ≡ false → Runs false (setup_in f u) (tell_call v f u w iw) (Err Length) f f u u w w iw iw
     told-refused zero e t = absurd (true≢false t)
     told-refused (suc k) e t = let b = sym (told-suc k (nth u 8) (nth u 9) (length v)) ∙ t in refused-by false (setup_in f u) (tell_call v f u w iw) Length f w u iw refl (asked-tell k (asked-suc k e) ∙ rw b refl)
 
     pub told-room : (k : ℕ) → k ≡ question_in u → is_told k (nth u 8) (nth u 9) (length v) ≡ true → is_room w iw ≡ false
-        → Runs false (setup_in f u) (tell_call v f u w iw) (Refused Room) f f u u w w iw iw
+        → Runs false (setup_in f u) (tell_call v f u w iw) (Err Room) f f u u w w iw iw
     told-room zero e t r = refused-by false (setup_in f u) (tell_call v f u w iw) Room f w u iw refl (quiet-tell (sym e) ∙ rw r refl)
     told-room (suc k) e t r = let b = sym (told-suc k (nth u 8) (nth u 9) (length v)) ∙ t in refused-by false (setup_in f u) (tell_call v f u w iw) Room f w u iw refl (asked-tell k (asked-suc k e) ∙ rw (b, r) refl)
 
-    pub told-unasked : (k : ℕ) → k ≡ question_in u → is_room w iw ≡ true → k ≡ 0 → Runs false (setup_in f u) (tell_call v f u w iw) (Refused Unasked) f f u u w w iw iw
+    pub told-unasked : (k : ℕ) → k ≡ question_in u → is_room w iw ≡ true → k ≡ 0 → Runs false (setup_in f u) (tell_call v f u w iw) (Err Unasked) f f u u w w iw iw
     told-unasked k e r z = refused-by false (setup_in f u) (tell_call v f u w iw) Unasked f w u iw refl (quiet-tell (sym e ∙ z) ∙ rw r refl)
 
     pub heard-of : (k : ℕ) → k ≡ question_in u → is_told k (nth u 8) (nth u 9) (length v) ≡ true → (k ≡ 0 → ⊥) → Heard v f u

@@ -9,7 +9,7 @@ use lib.Ieee.{Float, nan}
 use Rattle.numbers.specs.Numbers.{+0}
 use Rattle.numbers.proofs.Lists.{length-tab, tab-same, tab-replicate}
 use Rattle.workspace.specs.declared.Refusal.TheVariants.{Nonfinite}
-use Rattle.workspace.specs.declared.Outcome.TheVariants.{Done, Refused}
+use Rattle.std.specs.Prelude.{Ok, Err}
 use Rattle.workspace.specs.Readings.{vec}
 use Rattle.search.specs.Setup.{Setup, Ending, exhausted, nonfinite, are_finite}
 use Rattle.search.specs.Turn.{clipped, unknown, blank}
@@ -107,17 +107,17 @@ module _ (p : Setup) (h : Posed p) where
       }
 
   pub started-nonfinite : (x : List Float) (b : ℕ) (f f' : List Float) (u u' : List ℕ) → f ≡ setup_floats p → u ≡ setup_words p → are_finite x ≡ false
-      → Unknown 9 p.n p.m (clipped p x) f f' u u' → Started p x b (Refused Nonfinite) f' u'
+      → Unknown 9 p.n p.m (clipped p x) f f' u u' → Started p x b (Err Nonfinite) f' u'
   unfolding begin
   started-nonfinite x b f f' u u' hf hu a k = ended-as nonfinite x b f f' u u' hf hu (rw a refl) k
 
   pub started-exhausted : (x : List Float) (b : ℕ) (f f' : List Float) (u u' : List ℕ) → f ≡ setup_floats p → u ≡ setup_words p → are_finite x ≡ true → b ≡ 0
-      → Unknown 8 p.n p.m (clipped p x) f f' u u' → Started p x b Done f' u'
+      → Unknown 8 p.n p.m (clipped p x) f f' u u' → Started p x b (Ok tt) f' u'
   unfolding begin
   started-exhausted x b f f' u u' hf hu a e k = ended-as exhausted x b f f' u u' hf hu (rw (a, e) refl) k
 
   asked-as : (x : List Float) (b : ℕ) (f f' : List Float) (u u' : List ℕ) → f ≡ setup_floats p → u ≡ setup_words p → are_finite x ≡ true
-      → Asks b p.m (clipped p x) f f' u u' → Started p x (suc b) Done f' u'
+      → Asks b p.m (clipped p x) f f' u u' → Started p x (suc b) (Ok tt) f' u'
   unfolding begin machine_words
   asked-as x b f f' u u' hf hu a k =
       let y = clipped p x in
@@ -129,6 +129,6 @@ module _ (p : Setup) (h : Posed p) where
       }
 
   pub started-first : (x : List Float) (b : ℕ) (f f' : List Float) (u u' : List ℕ) → f ≡ setup_floats p → u ≡ setup_words p → are_finite x ≡ true → (b ≡ 0 → ⊥)
-      → Asks (b - 1) p.m (clipped p x) f f' u u' → Started p x b Done f' u'
+      → Asks (b - 1) p.m (clipped p x) f f' u u' → Started p x b (Ok tt) f' u'
   started-first x zero f f' u u' hf hu a z k = absurd (z refl)
   started-first x (suc b) f f' u u' hf hu a z k = let e : suc b - 1 ≡ b = omega arith in asked-as x b f f' u u' hf hu a (subst (λ (c : ℕ). Asks c p.m (clipped p x) f f' u u') e k)

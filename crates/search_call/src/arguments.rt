@@ -66,8 +66,8 @@ pub fn are_slices(machine: usize, words: usize) -> bool
 pub fn are_kinds(kinds: &[u8]) -> bool
     ensures { result ≡ are_kinds kinds.now }
 {
-    for j in 0..kinds.len() {
-        if kinds[j] > 1 {
+    for &kind in kinds {
+        if kind > 1 {
             return false;
         }
     }

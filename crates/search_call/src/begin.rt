@@ -11,7 +11,7 @@ use search::{
     SEARCH_LEFT, SEARCH_LOWER, SEARCH_MACHINE, SEARCH_NEW_X, SEARCH_POINT, SEARCH_SCHEME,
     SEARCH_TOLERANCE, SEARCH_UPPER, SEARCH_VALUES, SEARCH_VARIABLES, SEARCH_WORDS, SEARCH_X,
 };
-use workspace::{Outcome, Refusal};
+use workspace::Refusal;
 
 // A kind as a word.
 fn word_of(kind: u8) -> u32
@@ -134,7 +134,7 @@ pub fn begin_posed(
     scheme: u32,
     f: &mut [f64],
     u: &mut [u32],
-) -> Outcome
+) -> Result<(), Refusal>
     requires { Begins (setup_of n m kinds.now lower.now upper.now ftol scheme) x.now f.old u.old × (scheme ≤ SCHEME_CENTRAL) }
     ensures { Started (setup_of n m kinds.now lower.now upper.now ftol scheme) x.now budget result f.new u.new }
 {
@@ -142,12 +142,12 @@ pub fn begin_posed(
     pose_words(u, kinds, n, m, scheme);
     if !search_turn::are_finite(x) {
         end_unknown(f, u, lower, upper, x, n, m, PHASE_NONFINITE);
-        return Outcome::Refused(Refusal::Nonfinite);
+        return Err(Refusal::Nonfinite);
     }
     if budget == 0 {
         end_unknown(f, u, lower, upper, x, n, m, PHASE_EXHAUSTED);
-        return Outcome::Done;
+        return Ok(());
     }
     ask_first(f, u, lower, upper, x, n, m, budget - 1);
-    Outcome::Done
+    Ok(())
 }

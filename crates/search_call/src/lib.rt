@@ -21,20 +21,20 @@ use crate::arguments::{
 };
 use crate::begin::begin_posed;
 use search::{PHASE_NONE, PHASE_NONFINITE, SEARCH_ASKED};
-use workspace::{Outcome, Refusal};
+use workspace::Refusal;
 
 // The search around the step.
 #[derive(Clone, Copy)]
 pub struct Search {}
 
 // The outcome of a state whose first word is `phase`.
-fn outcome_of(phase: u32) -> Outcome
+fn outcome_of(phase: u32) -> Result<(), Refusal>
     ensures { result ≡ outcome_in phase }
 {
     if phase == PHASE_NONFINITE {
-        return Outcome::Refused(Refusal::Nonfinite);
+        return Err(Refusal::Nonfinite);
     }
-    Outcome::Done
+    Ok(())
 }
 
 // The call that begins, where the bounds mean something: they are in order, or it is refused.
@@ -52,12 +52,12 @@ fn begin_bounded(
     words: &mut [u32],
     w: &mut [f64],
     iw: &mut [u32],
-) -> Outcome
+) -> Result<(), Refusal>
     requires { Begins (setup_of n m kinds.now lower.now upper.now ftol scheme) x.now machine.old words.old × (scheme ≤ SCHEME_CENTRAL) × (8192 ≤ length w.old) × (512 ≤ length iw.old) }
     ensures { Runs true (setup_of n m kinds.now lower.now upper.now ftol scheme) (test (are_ordered n lower.now upper.now) Crossed (done (Machine.begin (setup_of n m kinds.now lower.now upper.now ftol scheme) x.now budget))) result machine.old machine.new words.old words.new w.old w.new iw.old iw.new }
 {
     if !are_ordered(lower, upper, n) {
-        return Outcome::Refused(Refusal::Crossed);
+        return Err(Refusal::Crossed);
     }
     let r = begin_posed(
         n, m, kinds, lower, upper, x, ftol, budget, scheme, machine, words,
@@ -73,7 +73,7 @@ fn hear_all(
     words: &mut [u32],
     w: &mut [f64],
     iw: &mut [u32],
-) -> Outcome
+) -> Result<(), Refusal>
     requires { Heard told.now machine.old words.old × (8192 ≤ length w.old) × (512 ≤ length iw.old) }
     ensures { Told told.now machine.old machine.new words.old words.new × Cleared w.old w.new iw.old iw.new × (result ≡ outcome_in (nth words.new SEARCH_ASKED)) }
 {
@@ -100,33 +100,31 @@ impl Search {
         words: &mut [u32],
         w: &mut [f64],
         iw: &mut [u32],
-    ) -> Outcome
+    ) -> Result<(), Refusal>
         ensures { Runs true (setup_of n m kinds.now lower.now upper.now ftol scheme) (begin_call (setup_of n m kinds.now lower.now upper.now ftol scheme) scheme x.now budget machine.old words.old w.old iw.old) result machine.old machine.new words.old words.new w.old w.new iw.old iw.new }
     {
         if !are_sizes(n, m, budget, scheme) {
-            return Outcome::Refused(Refusal::Size);
+            return Err(Refusal::Size);
         }
         if !are_lengths(n, m, kinds.len(), lower.len(), upper.len(), x.len()) {
-            return Outcome::Refused(Refusal::Length);
+            return Err(Refusal::Length);
         }
         if !are_slices(machine.len(), words.len()) {
-            return Outcome::Refused(Refusal::Length);
+            return Err(Refusal::Length);
         }
         if !workspace::is_room(w.len(), iw.len()) {
-            return Outcome::Refused(Refusal::Room);
+            return Err(Refusal::Room);
         }
         if !are_kinds(kinds) {
-            return Outcome::Refused(Refusal::Kind);
+            return Err(Refusal::Kind);
         }
         if !workspace::is_tolerance(ftol) {
-            return Outcome::Refused(Refusal::Tolerance);
+            return Err(Refusal::Tolerance);
         }
-        match step_call::strict::test_bounds(lower, upper, n) {
-            Outcome::Refused(why) => Outcome::Refused(why),
-            Outcome::Done => begin_bounded(
-                n, m, kinds, lower, upper, x, ftol, budget, scheme, machine, words, w, iw,
-            ),
-        }
+        step_call::strict::test_bounds(lower, upper, n)?;
+        begin_bounded(
+            n, m, kinds, lower, upper, x, ftol, budget, scheme, machine, words, w, iw,
+        )
     }
 
     // The machine is told the answer to its question.
@@ -136,21 +134,21 @@ impl Search {
         words: &mut [u32],
         w: &mut [f64],
         iw: &mut [u32],
-    ) -> Outcome
+    ) -> Result<(), Refusal>
         ensures { Runs false (setup_in machine.old words.old) (tell_call told.now machine.old words.old w.old iw.old) result machine.old machine.new words.old words.new w.old w.new iw.old iw.new }
     {
         if !are_slices(machine.len(), words.len()) {
-            return Outcome::Refused(Refusal::Length);
+            return Err(Refusal::Length);
         }
         let phase = question_of(words);
         if !is_told(words, phase, told.len()) {
-            return Outcome::Refused(Refusal::Length);
+            return Err(Refusal::Length);
         }
         if !workspace::is_room(w.len(), iw.len()) {
-            return Outcome::Refused(Refusal::Room);
+            return Err(Refusal::Room);
         }
         if phase == PHASE_NONE {
-            return Outcome::Refused(Refusal::Unasked);
+            return Err(Refusal::Unasked);
         }
         hear_all(told, machine, words, w, iw)
     }

@@ -9,8 +9,8 @@ use lib.ListN.{length, take, drop}
 use lib.Ieee.{Float, nan}
 use Rattle.numbers.specs.Numbers.{at, nth}
 use Rattle.workspace.specs.Tables.{Answer, done, refused}
-use Rattle.workspace.specs.declared.Outcome.{Outcome}
-use Rattle.workspace.specs.declared.Outcome.TheVariants.{Done, Refused}
+use Rattle.workspace.specs.Tables.{Outcome}
+use Rattle.std.specs.Prelude.{Ok, Err}
 use Rattle.workspace.specs.declared.Refusal.{Refusal}
 use Rattle.workspace.specs.Readings.{vec, nums}
 use Rattle.hessian.specs.Hessian.{identity, cholesky}
@@ -27,14 +27,14 @@ use Rattle.search_open.specs.inner.Work.{Factors}
 
 -- ---- what was made
 
-never : {A : Type 0} (o : Outcome) (k : Refusal) → o ≡ Done → o ≡ Refused k → A
+never : {A : Type 0} (o : Outcome) (k : Refusal) → o ≡ Ok tt → o ≡ Err k → A
 never o k p q = let z : ◌≡◌ {A = ℕ} 0 1 = cc in absurd (let y : ⊥ = omega arith in y)
 
-pub made-whole : (n : ℕ) (a : Answer (List Float)) (o : Outcome) (f : List Float) (u : List ℕ) (l l' : List Float) → FactorMade a o l l' → o ≡ Done → Factors n a f f u u l'
+pub made-whole : (n : ℕ) (a : Answer (List Float)) (o : Outcome) (f : List Float) (u : List ℕ) (l l' : List Float) → FactorMade a o l l' → o ≡ Ok tt → Factors n a f f u u l'
 made-whole n (done v) o f u l l' h e = record { floats = refl; words = refl; factor = h.the_output }
 made-whole n (refused k) o f u l l' h e = never o k e h.the_outcome
 
-pub made_none : (n : ℕ) (a : Answer (List Float)) (o : Outcome) (k : Refusal) (f f' : List Float) (u u' : List ℕ) (l l' l'' : List Float) → FactorMade a o l l' → o ≡ Refused k
+pub made_none : (n : ℕ) (a : Answer (List Float)) (o : Outcome) (k : Refusal) (f f' : List Float) (u u' : List ℕ) (l l' l'' : List Float) → FactorMade a o l l' → o ≡ Err k
     → f' ≡ laid 720 (identity n) f → u' ≡ laid 3 (1 ∷ []) u → l'' ≡ identity n → Factors n a f f' u u' l''
 made_none n (done v) o k f f' u u' l l' l'' h e p q r = never o k h.the_outcome e
 made_none n (refused j) o k f f' u u' l l' l'' h e p q r = record { floats = p; words = q; factor = r }

@@ -18,7 +18,6 @@ use Rattle.workspace.proofs.Tests.{and-true}
 use Rattle.workspace.proofs.Writes.{written_all}
 use Rattle.workspace.proofs.Parts.{vec-front}
 use Rattle.step_rows.specs.Problem.{Problem, problem_of}
-use Rattle.step_rows.specs.inner.Work.{Lengths}
 use Rattle.step.specs.inner.Work.{EndsStep, stepped_answer}
 use Rattle.step.specs.declared.Stepped.{Stepped}
 use Rattle.search.specs.Setup.{are_kinds}
@@ -26,7 +25,7 @@ use Rattle.search.specs.Turn.{model_of}
 use Rattle.search.specs.Layout.{setup_in, iterate_in}
 use Rattle.search.specs.inner.Work.{Ready}
 use Rattle.search.proofs.Layouts.{bounds}
-use Rattle.search.proofs.Lent.{part_length, part-vec}
+use Rattle.search.proofs.Lent.{part-vec}
 
 -- ---- kinds and gaps
 
@@ -106,23 +105,6 @@ module _ (n m : ℕ) (f : List Float) (few : n ≤ 16) (less : m ≤ 16) (z : le
 
   abbrev jacobian : List Float
   jacobian = take (176 + n + m * n - (176 + n)) (drop (176 + n) f)
-
-  pub gradient-length : length gradient ≡ n
-  gradient-length = part_length 176 n (176 + n - 176) f (omega arith) (omega arith)
-
-  pub lengths-lent : (kinds : List ℕ) (widths lower upper : List Float) → Lengths n m kinds (vec 129 m f) widths (vec (176 + n) (m * n) f) lower upper → Lengths n m kinds values widths jacobian lower upper
-  lengths-lent kinds widths lower upper h =
-      let r = rows_few n m few less in
-      record {
-        variables = few;
-        constraints = less;
-        kind = h.kind;
-        value = part_length 129 m (129 + m - 129) f (omega arith) (omega arith);
-        width = h.width;
-        entries = part_length (176 + n) (m * n) (176 + n + m * n - (176 + n)) f (omega arith) (omega arith);
-        low = h.low;
-        high = h.high;
-      }
 
   pub problem-lent : (l : List Float) (kinds : List ℕ) (widths lower upper : List Float)
       → problem_of n m l gradient kinds values widths jacobian lower upper ≡ problem_of n m l (vec 176 n f) kinds (vec 129 m f) widths (vec (176 + n) (m * n) f) lower upper

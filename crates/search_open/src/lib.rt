@@ -6,8 +6,7 @@ ghost use Rattle.numbers.specs.Numbers.{one, at, tab, ◌⊖◌};
 ghost use Rattle.workspace.specs.Tables.{done};
 ghost use Rattle.workspace.specs.Readings.{vec, nums};
 ghost use Rattle.hessian.specs.Hessian.{identity, cholesky};
-ghost use Rattle.step_rows.specs.Problem.{problem_of};
-ghost use Rattle.step_rows.specs.inner.Work.{Lengths};
+ghost use Rattle.step_rows.specs.Lent.{problem_in};
 ghost use Rattle.step.specs.inner.Work.{EndsStep, stepped_answer};
 ghost use Rattle.step.specs.inner.Places.{STEP_D, STEP_MULTIPLIERS};
 ghost use Rattle.search.specs.Places.{SEARCH_ALL_SLOPES, SEARCH_ALPHA, SEARCH_B, SEARCH_CONSTRAINT_VALUES, SEARCH_D, SEARCH_FRESH, SEARCH_KINDS, SEARCH_MACHINE, SEARCH_PENALTIES, SEARCH_UPPER, SEARCH_VALUES, SEARCH_WORDS, SEARCH_X};
@@ -24,7 +23,7 @@ use search::{
 };
 use search_move::vector_room;
 use step::{STEP_D, STEP_MULTIPLIERS, Stepped};
-use workspace::Outcome;
+use step_rows::Subproblem;
 
 // How a turn opens: there is a line to search along, or the run ends.
 #[derive(Clone, Copy)]
@@ -53,7 +52,7 @@ fn factor_turn(f: &mut [f64], u: &mut [u32], factor: &mut [f64], w: &mut [f64], 
 {
     let e = SEARCH_B + n * n;
     let made = hessian::factor_into(n, &f[SEARCH_B..e], factor, w);
-    let Outcome::Done = made else {
+    let Ok(()) = made else {
         reset_turn(f, u, factor, n);
         return;
     };
@@ -61,24 +60,13 @@ fn factor_turn(f: &mut [f64], u: &mut [u32], factor: &mut [f64], w: &mut [f64], 
 
 // ---- the step
 
-// A kind as a byte.
-fn kind_of(k: u32) -> u8
-    requires { k ≤ 1 }
-    ensures { result ≡ k }
-{
-    if k == 0 {
-        return 0;
-    }
-    1
-}
-
 // The kinds as bytes.
 fn kinds_of(u: &[u32], kinds: &mut [u8], m: usize)
     requires { (length u.now ≡ SEARCH_WORDS) × (length kinds.old ≡ m) × (m ≤ 16) × (are_kinds (nums SEARCH_KINDS m u.now) ≡ true) }
     ensures { kinds.new ≡ nums SEARCH_KINDS m u.now }
 {
     for j in 0..m {
-        kinds[j] = kind_of(u[SEARCH_KINDS + j]);
+        kinds[j] = u[SEARCH_KINDS + j] as u8;
     }
 }
 
@@ -92,33 +80,14 @@ fn gaps_into(f: &[f64], o: usize, gaps: &mut [f64], n: usize)
     }
 }
 
-// The step in the front of the workspaces, with gradient, values and Jacobian as they stand in f.
-fn solve_at(
-    f: &[f64],
-    factor: &[f64],
-    kinds: &[u8],
-    widths: &[f64],
-    lower: &[f64],
-    upper: &[f64],
-    w: &mut [f64],
-    iw: &mut [u32],
-    n: usize,
-    m: usize,
-) -> Stepped
-    requires { (length f.now ≡ SEARCH_MACHINE) × (length factor.now ≡ n * n) × Lengths n m kinds.now (vec SEARCH_CONSTRAINT_VALUES m f.now) widths.now (vec (SEARCH_ALL_SLOPES + n) (m * n) f.now) lower.now upper.now × (8192 ≤ length w.old) × (512 ≤ length iw.old) }
-    ensures { EndsStep n m result w.new (problem_of n m factor.now (vec SEARCH_ALL_SLOPES n f.now) kinds.now (vec SEARCH_CONSTRAINT_VALUES m f.now) widths.now (vec (SEARCH_ALL_SLOPES + n) (m * n) f.now) lower.now upper.now) }
+// The step in the front of the workspaces.
+fn solve_front(p: &Subproblem, w: &mut [f64], iw: &mut [u32]) -> Stepped
+    requires { (8192 ≤ length w.old) × (512 ≤ length iw.old) }
+    ensures { EndsStep p.now.n p.now.m result w.new (problem_in p.now) }
 {
-    let a = SEARCH_ALL_SLOPES + n;
-    let e = a + m * n;
-    let c = SEARCH_CONSTRAINT_VALUES + m;
-    let gradient = &f[SEARCH_ALL_SLOPES..a];
-    let values = &f[SEARCH_CONSTRAINT_VALUES..c];
-    let jacobian = &f[a..e];
     let v = &mut w[..8192];
     let u = &mut iw[..512];
-    step::solve_step(
-        factor, gradient, kinds, values, widths, jacobian, lower, upper, v, u, n, m,
-    )
+    step::solve_step(p, v, u)
 }
 
 // Room for a byte of each constraint.
@@ -153,7 +122,25 @@ fn step_turn(
     workspace::blank(widths, 0, m);
     gaps_into(f, SEARCH_LOWER, lower, n);
     gaps_into(f, SEARCH_UPPER, upper, n);
-    solve_at(f, factor, kinds, widths, lower, upper, w, iw, n, m)
+    let slopes = SEARCH_ALL_SLOPES + n;
+    let last = slopes + m * n;
+    let after = SEARCH_CONSTRAINT_VALUES + m;
+    let gradient = &f[SEARCH_ALL_SLOPES..slopes];
+    let values = &f[SEARCH_CONSTRAINT_VALUES..after];
+    let jacobian = &f[slopes..last];
+    let p = Subproblem {
+        n,
+        m,
+        factor,
+        gradient,
+        kinds,
+        values,
+        widths,
+        jacobian,
+        lower,
+        upper,
+    };
+    solve_front(&p, w, iw)
 }
 
 // ---- the line
@@ -227,9 +214,9 @@ fn open_step(answer: Stepped, f: &mut [f64], u: &[u32], w: &[f64], n: usize, m: 
     requires { Ready n m f.old u.now × (8192 ≤ length w.now) }
     ensures { Opens result (stepped (setup_in f.old u.now) (iterate_in n m f.old u.now) (stepped_answer answer (vec STEP_D n w.now) (vec STEP_MULTIPLIERS m w.now))) f.old f.new u.now u.now }
 {
-    match answer {
-        Stepped::Done(t, report) => open_line(f, u, w, t, n, m),
-        Stepped::Refused(why, report) => Opening::Infeasible,
+    match answer.relaxation {
+        Ok(t) => open_line(f, u, w, t, n, m),
+        Err(_) => Opening::Infeasible,
     }
 }
 

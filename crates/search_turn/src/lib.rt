@@ -119,8 +119,8 @@ pub fn move_of(x: f64) -> f64
 pub fn are_finite(v: &[f64]) -> bool
     ensures { result ≡ are_finite v.now }
 {
-    for i in 0..v.len() {
-        if !is_finite(v[i]) {
+    for &x in v {
+        if !is_finite(x) {
             return false;
         }
     }

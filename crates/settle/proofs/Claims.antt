@@ -10,7 +10,7 @@ use lib.Ieee.{Float, nan, lt}
 use Rattle.numbers.specs.Numbers.{+0, near, nth, at, ◌⊘◌}
 use Rattle.numbers.proofs.Lists.{length-tab, tab-same, get_d-tab}
 use Rattle.numbers.proofs.Order.{lt-asym, lt_irrefl}
-use Rattle.exact.specs.Exact.{ℚ, whole, ◌+ℚ◌, ◌*ℚ◌, squared, value, Finite}
+use Rattle.exact.specs.Exact.{whole, ◌+ℚ◌, ◌*ℚ◌, squared, value, Finite}
 use Rattle.exact.proofs.Laws as laws
 use Rattle.exact.proofs.Monotone.{sum_mono}
 use Rattle.workspace.specs.Tables.{Answer, done, refused, number_of, place_of}

@@ -15,13 +15,13 @@ use Rattle.workspace.specs.Readings.{vec, stack, Block, Stacked}
 use Rattle.workspace.proofs.Readings.{vec-same, stack_same, nth-nums}
 use Rattle.workspace.proofs.Writes.{block-vec}
 use Rattle.lsei.specs.inner.Work.{sides, Spaced}
-use Rattle.settle.specs.Settle.{target, targets, held_rows, held_sides}
+use Rattle.settle.specs.Settle.{Measured, measured, target, targets, held_rows, held_sides}
 use Rattle.reconcile.specs.inner.Work.{Scaled}
 use Rattle.settle.specs.inner.Work.{FirstIn, HeldIn, PinnedIn}
 
 -- each part stays while the later ones are written behind it
 pub first-in : (n m p : ℕ) (v s b l f w w₁ w₂ w₃ w₄ w₅ w₆ : List Float) → n ≤ 16 → m ≤ 16 → length f ≡ p → Stacked 426 m n b w w₁ → Block 714 m (λ _. +0) w₁ w₂ → Scaled n s w₂ w₃
-    → Block 1038 n (λ i. target v s i) w₃ w₄ → Stacked 1056 p n l w₄ w₅ → Spaced (1056 + n) p (λ t. at f t) w₅ w₆ → FirstIn n m p v s b l f w₆
+    → Block 1038 n (λ i. target v s i) w₃ w₄ → Stacked 1056 p n l w₄ w₅ → Spaced (1056 + n) p (λ t. at f t) w₅ w₆ → FirstIn (measured n m p v s b l f) w₆
 unfolding targets sides
 first-in n m p v s b l f w w₁ w₂ w₃ w₄ w₅ w₆ n16 m16 lf C D E F G H =
     let late : (x : ℕ) → x < 1056 → at w₆ x ≡ at w₄ x = λ x h. H.others x (λ t q e. omega arith) ∙ G.before x h in
@@ -38,22 +38,22 @@ first-in n m p v s b l f w w₁ w₂ w₃ w₄ w₅ w₆ n16 m16 lf C D E F G H 
     }
 
 -- ---- the limits that are held
-pub held_none : (n m : ℕ) (l f : List Float) (iw : List ℕ) (w : List Float) → HeldIn n m 0 l f iw w w
-held_none n m l f iw w = record { rows = λ t j h. absurd (omega arith); bounds = λ t h. absurd (omega arith); low = λ x h. refl; middle = λ x h k. refl; after = λ x h. refl }
+pub held_none : (d : Measured) (iw : List ℕ) (w : List Float) → HeldIn d 0 iw w w
+held_none d iw w = record { rows = λ t j h. absurd (omega arith); bounds = λ t h. absurd (omega arith); low = λ x h. refl; middle = λ x h k. refl; after = λ x h. refl }
 
-pub held_more : (n m t k : ℕ) (l f : List Float) (iw : List ℕ) (w w' w'' : List Float) → n ≤ 16 → m + t < 16 → 6030 ≤ length w'' → k ≡ nth iw (300 + t) → HeldIn n m t l f iw w w'
-    → Block (426 + (m + t) * 18) n (λ j. at l (k * n + j * 1)) w' w'' → HeldIn n m (t + 1) l f iw w (set w'' (714 + (m + t)) (at f k))
-held_more n m t k l f iw w w' w'' n16 mt lw ke r b = record {
+pub held_more : (d : Measured) (t k : ℕ) (iw : List ℕ) (w w' w'' : List Float) → d.n ≤ 16 → d.m + t < 16 → 6030 ≤ length w'' → k ≡ nth iw (300 + t) → HeldIn d t iw w w'
+    → Block (426 + (d.m + t) * 18) d.n (λ j. at d.limits (k * d.n + j * 1)) w' w'' → HeldIn d (t + 1) iw w (set w'' (714 + (d.m + t)) (at d.least k))
+held_more d t k iw w w' w'' n16 mt lw ke r b = record {
   rows = λ i j hi hj.
-      get_or-set_other w'' (714 + (m + t)) (426 + (m + i) * 18 + j) (at f k) nan (λ e. omega arith)
-      ∙ ⊎_elim (λ (q : i < t). b.before (426 + (m + i) * 18 + j) (omega arith) ∙ r.rows i j q hj)
-      (λ (q : t ≤ i). let e : i ≡ t = omega arith in rw e (b.inside j hj ∙ ap₂ (λ (a z : ℕ). at l (a * n + z)) ke (one-times j))) (lt-or-ge i t);
+      get_or-set_other w'' (714 + (d.m + t)) (426 + (d.m + i) * 18 + j) (at d.least k) nan (λ e. omega arith)
+      ∙ ⊎_elim (λ (q : i < t). b.before (426 + (d.m + i) * 18 + j) (omega arith) ∙ r.rows i j q hj)
+      (λ (q : t ≤ i). let e : i ≡ t = omega arith in rw e (b.inside j hj ∙ ap₂ (λ (a z : ℕ). at d.limits (a * d.n + z)) ke (one-times j))) (lt-or-ge i t);
   bounds = λ i hi.
-      ⊎_elim (λ (q : i < t). get_or-set_other w'' (714 + (m + t)) (714 + (m + i)) (at f k) nan (λ e. omega arith) ∙ b.after (714 + (m + i)) (omega arith) ∙ r.bounds i q)
-      (λ (q : t ≤ i). let e : i ≡ t = omega arith in rw e (get_or-set_same w'' (714 + (m + t)) (at f k) nan (omega arith) ∙ ap (λ (a : ℕ). at f a) ke)) (lt-or-ge i t);
-  low = λ x h. get_or-set_other w'' (714 + (m + t)) x (at f k) nan (λ e. omega arith) ∙ b.before x (omega arith) ∙ r.low x h;
-  middle = λ x h q. get_or-set_other w'' (714 + (m + t)) x (at f k) nan (λ e. omega arith) ∙ b.after x (omega arith) ∙ r.middle x h q;
-  after = λ x h. get_or-set_other w'' (714 + (m + t)) x (at f k) nan (λ e. omega arith) ∙ b.after x (omega arith) ∙ r.after x h;
+      ⊎_elim (λ (q : i < t). get_or-set_other w'' (714 + (d.m + t)) (714 + (d.m + i)) (at d.least k) nan (λ e. omega arith) ∙ b.after (714 + (d.m + i)) (omega arith) ∙ r.bounds i q)
+      (λ (q : t ≤ i). let e : i ≡ t = omega arith in rw e (get_or-set_same w'' (714 + (d.m + t)) (at d.least k) nan (omega arith) ∙ ap (λ (a : ℕ). at d.least a) ke)) (lt-or-ge i t);
+  low = λ x h. get_or-set_other w'' (714 + (d.m + t)) x (at d.least k) nan (λ e. omega arith) ∙ b.before x (omega arith) ∙ r.low x h;
+  middle = λ x h q. get_or-set_other w'' (714 + (d.m + t)) x (at d.least k) nan (λ e. omega arith) ∙ b.after x (omega arith) ∙ r.middle x h q;
+  after = λ x h. get_or-set_other w'' (714 + (d.m + t)) x (at d.least k) nan (λ e. omega arith) ∙ b.after x (omega arith) ∙ r.after x h;
 }
   where
     one-times : (j : ℕ) → j * 1 ≡ j
@@ -77,7 +77,7 @@ tab-join m (suc c) f =
     ∙ append_assoc (tab m f) (tab c (λ t. f (m + t))) (f (m + c) ∷ []) ∙ ap (λ (v : List Float). tab m f ++ v) (sym (tab-more c (λ t. f (m + t))) ∙ ap (λ (k : ℕ). tab k (λ t. f (m + t))) (add-one c))
 
 pub pinned-in : (n m p c : ℕ) (v s b l f : List Float) (iw : List ℕ) (w w₁ w₂ w₃ w₄ w₅ : List Float) → n ≤ 16 → m + c ≤ 16 → Stacked 426 m n b w w₁ → Block 714 m (λ _. +0) w₁ w₂
-    → HeldIn n m c l f iw w₂ w₃ → Scaled n s w₃ w₄ → Block 1038 n (λ i. target v s i) w₄ w₅ → PinnedIn n m p c v s b l f iw w w₅
+    → HeldIn (measured n m p v s b l f) c iw w₂ w₃ → Scaled n s w₃ w₄ → Block 1038 n (λ i. target v s i) w₄ w₅ → PinnedIn (measured n m p v s b l f) c iw w w₅
 unfolding targets held_rows held_sides stack row vec
 pinned-in n m p c v s b l f iw w w₁ w₂ w₃ w₄ w₅ n16 mc C D H E F =
     let mid : (x : ℕ) → x < 1038 → at w₅ x ≡ at w₄ x = λ x h. F.before x h in

@@ -19,21 +19,20 @@ use Rattle.workspace.proofs.Parts.{vec-front}
 use Rattle.nnls.specs.Counted.{Counted}
 use Rattle.lsei.specs.Lsei.{Solution, lsei}
 use Rattle.lsei.specs.inner.Work.{sides, ending_answer, ended_solution}
-use Rattle.lsei.specs.declared.Ending.{Ending}
-use Rattle.lsei.specs.declared.Ending.TheVariants.{Done, Deficient, Dependent, Infeasible, Capped}
+use Rattle.std.specs.Prelude.{Result, Ok, Err, ⊤}
+use Rattle.lsei.specs.declared.Unsolved.{Unsolved}
 use Rattle.lsei.specs.declared.Ended.{Ended}
 use Rattle.lsei_nullspace.specs.inner.Work.{solution_in}
 use Rattle.interval.proofs.Answers.{TOP, top-is}
-use Rattle.settle.specs.Settle.{Measured, Settled, again, none, measured, certified, first, first_of, pinned, pinned_of, next, tries, without, second, positives, is_kept, is_ordinary, is_better, better, chosen, choose, settled}
+use Rattle.settle.specs.Settle.{Measured, Settled, again, none, certified, first, first_of, pinned, pinned_of, next, tries, without, second, positives, is_kept, is_ordinary, is_better, better, chosen, choose, settled}
 use Rattle.settle.specs.declared.Step.{Step}
 use Rattle.settle.specs.declared.Step.TheVariants.{Found, Let, Stop}
-use Rattle.settle.specs.inner.Work.{Held, HeldFound, LetGo, FirstStored, AgainStored, PinnedIn, FirstStays, again_in, other_in, settled_in, ended_settled, step_of, after, Tried, TriedAll, told_again, WorkedAgain, first_in, Judged, JudgedAgain}
+use Rattle.settle.specs.inner.Work.{Held, HeldFound, LetGo, FirstStored, AgainStored, PinnedIn, FirstStays, again_in, other_in, settled_in, settled_by, step_of, after, Tried, TriedAll, told_again, WorkedAgain, first_in, Judged, JudgedAgain}
 use Rattle.settle.specs.declared.Standing.{Standing}
 use Rattle.settle.proofs.Working.{is_found, onward-told, stop-found, let-found}
 use types.Run.{OneOf}
 use denote.Enum.Declared.{tag_of}
 use Rattle.settle.specs.contracts.Step.{the_type}
-use Rattle.lsei.specs.contracts.Ending.{the_type as ending-type}
 use lib.Ieee.{of_fields, odd, round, units, size, span, climb}
 use lib.Count.{count_trailing_zeros}
 use lib.ListN.{length-append, length-drop}
@@ -50,16 +49,16 @@ no_sides : (n : ℕ) (w : List Float) → sides 1056 0 n w ≡ []
 unfolding sides tab
 no_sides n w = refl
 
-pub solved : (n m p c : ℕ) (v s b l f : List Float) (iw : List ℕ) (w w₁ u : List Float) (r : Ended) → n ≤ 16 → m + c ≤ 16 → PinnedIn n m p c v s b l f iw w w₁
-    → ended_solution r (solution_in n (m + c) 0 u) ≡ lsei n (m + c) n 0 (stack 426 (m + c) n (take 6030 w₁)) (vec 714 (m + c) (take 6030 w₁)) (stack 732 n n (take 6030 w₁)) (vec 1038 n (take 6030 w₁)) (stack 1056 0 n (take 6030 w₁)) (sides 1056 0 n (take 6030 w₁))
-    → ended_solution r (solution_in n (m + c) 0 u) ≡ pinned (measured n m p v s b l f) c (nums 300 c iw)
+pub solved : (d : Measured) (c : ℕ) (iw : List ℕ) (w w₁ u : List Float) (r : Ended) → d.n ≤ 16 → d.m + c ≤ 16 → PinnedIn d c iw w w₁
+    → ended_solution r (solution_in d.n (d.m + c) 0 u) ≡ lsei d.n (d.m + c) d.n 0 (stack 426 (d.m + c) d.n (take 6030 w₁)) (vec 714 (d.m + c) (take 6030 w₁)) (stack 732 d.n d.n (take 6030 w₁)) (vec 1038 d.n (take 6030 w₁)) (stack 1056 0 d.n (take 6030 w₁)) (sides 1056 0 d.n (take 6030 w₁))
+    → ended_solution r (solution_in d.n (d.m + c) 0 u) ≡ pinned d c (nums 300 c iw)
 unfolding pinned
-solved n m p c v s b l f iw w w₁ u r n16 mc P e =
-    let C = stack_same 426 (m + c) n w₁ (take 6030 w₁) (λ k i hk hi. at_front 6030 (426 + k * 18 + i) w₁ (omega arith)) ∙ P.the_c in
-    let D = vec-same 714 (m + c) w₁ (take 6030 w₁) (λ i hi. at_front 6030 (714 + i) w₁ (omega arith)) ∙ P.the_d in
-    let E = stack_same 732 n n w₁ (take 6030 w₁) (λ k i hk hi. at_front 6030 (732 + k * 18 + i) w₁ (omega arith)) ∙ P.the_e in
-    let F = vec-same 1038 n w₁ (take 6030 w₁) (λ i hi. at_front 6030 (1038 + i) w₁ (omega arith)) ∙ P.the_f in
-    e ∙ rw (C, D, E, F, none_left n (take 6030 w₁), no_sides n (take 6030 w₁)) refl
+solved d c iw w w₁ u r n16 mc P e =
+    let C = stack_same 426 (d.m + c) d.n w₁ (take 6030 w₁) (λ k i hk hi. at_front 6030 (426 + k * 18 + i) w₁ (omega arith)) ∙ P.the_c in
+    let D = vec-same 714 (d.m + c) w₁ (take 6030 w₁) (λ i hi. at_front 6030 (714 + i) w₁ (omega arith)) ∙ P.the_d in
+    let E = stack_same 732 d.n d.n w₁ (take 6030 w₁) (λ k i hk hi. at_front 6030 (732 + k * 18 + i) w₁ (omega arith)) ∙ P.the_e in
+    let F = vec-same 1038 d.n w₁ (take 6030 w₁) (λ i hi. at_front 6030 (1038 + i) w₁ (omega arith)) ∙ P.the_f in
+    e ∙ rw (C, D, E, F, none_left d.n (take 6030 w₁), no_sides d.n (take 6030 w₁)) refl
 
 -- what lies behind is as it was
 pub behind : (k x : ℕ) (u w : List Float) → length u ≡ k → k ≤ x → at (u ++ drop k w) x ≡ at w x
@@ -91,8 +90,8 @@ pub tried-found : (d : Measured) (c : ℕ) (q : Step) (r : Ended) (iw iw' : List
     → AgainStored d c iw w₂ w' → FirstStays w w' → ((x : ℕ) → 300 ≤ x → nth iw' x ≡ nth iw x) → Tried d c q iw iw' w w'
 tried-found d c q r iw iw' w w₂ w' e k h a f g =
     let s = solution_in d.n (d.m + c) 0 w₂ in
-    let i : r.ending ≡ Done = is_found d.m r.ending (sym k ∙ h) in
-    let j : done s ≡ (pinned d c (nums 300 c iw)).answer = ap (λ (z : Ending). ending_answer z s) (sym i) ∙ answer-of r s (pinned d c (nums 300 c iw)) e in
+    let i : r.ending ≡ Ok tt = is_found d.m r.ending (sym k ∙ h) in
+    let j : done s ≡ (pinned d c (nums 300 c iw)).answer = ap (λ (z : Result ⊤ Unsolved). ending_answer z s) (sym i) ∙ answer-of r s (pinned d c (nums 300 c iw)) e in
     record {
       told = λ on. ap (λ (z : Answer Solution). next d c (nums 300 c iw) z on) (sym j) ∙ ap again (sym a.answer) ∙ ap (λ (t : Step). after t (again_in d w') on) (sym h);
       first = f;
@@ -204,6 +203,42 @@ one_less d (suc c) t p q iw iw₁ iw' w w' h e T G l H =
     let T' : Tried d (suc c) (Let t) iw iw₁ w w' = subst (λ (z : Step). Tried d (suc c) z iw iw₁ w w') e T in
     (ap (λ (u : ℕ). tries d u (nums 300 u iw')) k ∙ sym (tries-step d c iw iw₁ iw' t w w' T' G'), subst (λ (u : ℕ). Held p u iw') (sym k) (held-less p c t iw iw₁ iw' l T.words G' H))
 
+-- after some limits are gone: what is still to do gives the answer, or nothing is left to try
+pub record Trying (d : Measured) (held gone : ℕ) (iw iw' : List ℕ) (w w' : List Float) : Type 0 where
+  pub on : gone ≤ held → tries d (held - gone) (nums 300 (held - gone) iw') ≡ tries d held (nums 300 held iw)
+  pub left : gone ≤ held → Held d.p (held - gone) iw'
+  pub out : held < gone → none ≡ tries d held (nums 300 held iw)
+  pub first : FirstStays w w'
+
+pub trying-none : (d : Measured) (held : ℕ) (iw : List ℕ) (w : List Float) → Held d.p held iw → Trying d held 0 iw iw w w
+trying-none d held iw w H =
+    let e : held ≡ held - 0 = omega arith in
+    record { on = λ h. ap (λ (u : ℕ). tries d u (nums 300 u iw)) (sym e); left = λ h. subst (λ (u : ℕ). Held d.p u iw) e H; out = λ h. absurd (omega arith); first = λ x h k. refl }
+
+module _ (d : Measured) (held gone t : ℕ) (q : Step) (iw iw₀ iw₁ : List ℕ) (w w₀ w₁ : List Float) (K : Trying d held gone iw iw₀ w w₀) (e : q ≡ Let t) (T : Tried d (held - gone) q iw₀ iw₁ w₀ w₁) where
+  -- one is let go
+  pub trying-less : (iw₂ : List ℕ) → gone < held → LetGo (held - gone - 1) t iw₁ iw₂ → length iw₂ ≡ length iw₀ → Trying d held (gone + 1) iw iw₂ w w₁
+  trying-less iw₂ h G l =
+      let k : held - gone - 1 ≡ held - (gone + 1) = omega arith in
+      let o = one_less d (held - gone) t d.p q iw₀ iw₁ iw₂ w₀ w₁ (λ z. omega arith) e T G l (K.left (omega arith)) in
+      record {
+        on = λ u. sym (ap (λ (v : ℕ). tries d v (nums 300 v iw₂)) k) ∙ o.0 ∙ K.on (omega arith);
+        left = λ u. subst (λ (v : ℕ). Held d.p v iw₂) k o.1;
+        out = λ u. absurd (omega arith);
+        first = λ x a b. T.first x a b ∙ K.first x a b;
+      }
+
+  -- and there is none to let go
+  pub trying-out : held ≡ gone → Trying d held (gone + 1) iw iw₁ w w₁
+  trying-out h =
+      let T' : Tried d (held - gone) (Let t) iw₀ iw₁ w₀ w₁ = subst (λ (z : Step). Tried d (held - gone) z iw₀ iw₁ w₀ w₁) e T in
+      record {
+        on = λ u. absurd (omega arith);
+        left = λ u. absurd (omega arith);
+        out = λ u. tries-out d (held - gone) t iw₀ iw₁ w₀ w₁ (omega arith) T' ∙ K.on (omega arith);
+        first = λ x a b. T.first x a b ∙ K.first x a b;
+      }
+
 -- ---- the second working
 pub worked-none : (d : Measured) (c : ℕ) (z : List Float) (iw : List ℕ) (w : List Float) → 16 < d.m + c → HeldFound d.p c z iw → WorkedAgain d z false w w
 unfolding second
@@ -223,7 +258,7 @@ worked d c z r iw w w' h H T = record {
 
 -- ---- the whole
 -- LSEI's own answer, where it is stored
-firstly : (d : Measured) (t : Float) (r : Ended) (far : Float) (w₁ w₂ : List Float) → r.ending ≡ Done → ended_solution r (solution_in d.n d.m d.p w₁) ≡ first d → FirstStored d.n d.m d.p w₁ w₂
+firstly : (d : Measured) (t : Float) (r : Ended) (far : Float) (w₁ w₂ : List Float) {v : ⊤} → r.ending ≡ Ok v → ended_solution r (solution_in d.n d.m d.p w₁) ≡ first d → FirstStored d.n d.m d.p w₁ w₂
     → far ≡ (first_in d w₂).far
     → (settled_in d.n d.m d.p w₂ far ≡ first_of d (solution_in d.n d.m d.p w₁)) × (settled d t ≡ done (chosen d t (settled_in d.n d.m d.p w₂ far)))
 unfolding first_of settled
@@ -235,7 +270,7 @@ firstly d t r far w₁ w₂ e h K f =
     K.z ∙ vec-is 4332 d.p w₁ _ (λ k l. sym (ap (λ (u : ℕ). at (vec 360 d.m w₁ ++ vec 4332 d.p w₁) (u + k)) (sym (length-vec 360 d.m w₁)) ∙ get_or-append-add (vec 360 d.m w₁) (vec 4332 d.p w₁) k nan ∙ at-vec 4332 d.p w₁ k l)) in
     let one : settled_in d.n d.m d.p w₂ far ≡ first_of d s =
     ap (settled_in d.n d.m d.p w₂) f ∙ ap (λ (x : List Float). certified d x (vec 6048 d.m w₂) (vec 6066 d.p w₂)) K.x ∙ ap₂ (λ (y z : List Float). certified d (vec 714 d.n w₁) y z) ey ez in
-    let a : done s ≡ (first d).answer = ap (λ (z : Ending). ending_answer z s) (sym e) ∙ ap (λ (x : Counted Solution). x.answer) h in
+    let a : done s ≡ (first d).answer = ap (λ (z : Result ⊤ Unsolved). ending_answer z s) (sym e) ∙ ap (λ (x : Counted Solution). x.answer) h in
     (one, ap (choose d t) (sym a) ∙ ap (λ (x : Settled). done (chosen d t x)) (sym one))
 
 pub lit-near : of_bits binary64 4562146422526312448 ≡ near 1 1024
@@ -245,16 +280,10 @@ lit-near = refl
 abbrev LIT : Float
 LIT = of_bits binary64 4562146422526312448
 
-pub refused-told : (d : Measured) (t : Float) (r : Ended) (sol : Solution) (s : Settled) → OneOf (1 ∷ 2 ∷ 3 ∷ 4 ∷ []) (tag_of ending-type r.ending) → ended_solution r sol ≡ first d → ended_settled r.ending s ≡ settled d t
+pub refused-told : (d : Measured) (t : Float) (r : Ended) (sol : Solution) (s : Float → Settled) (u : Unsolved) → r.ending ≡ Err u → ended_solution r sol ≡ first d → settled_by (Err u) s ≡ settled d t
 unfolding settled
-refused-told d t r sol s h e = go r.ending h ∙ ap (choose d t) (ap (λ (x : Counted Solution). x.answer) e)
-  where
-    go : (e : Ending) → OneOf (1 ∷ 2 ∷ 3 ∷ 4 ∷ []) (tag_of ending-type e) → ended_settled e s ≡ choose d t (ending_answer e sol)
-    go Done h = absurd (⊎_elim (λ e. omega arith) (λ g. ⊎_elim (λ e. omega arith) (λ k. ⊎_elim (λ e. omega arith) (λ e. omega arith) k) g) h)
-    go (Deficient k) h = refl
-    go (Dependent k) h = refl
-    go Infeasible h = refl
-    go Capped h = refl
+refused-told d t r sol s u i e =
+    ap (λ (o : Result ⊤ Unsolved). choose d t (ending_answer o sol)) (sym i) ∙ ap (choose d t) (ap (λ (x : Counted Solution). x.answer) e)
 
 pub ordinary-is : (k : Bool) (far : Float) → k ≡ true → le far LIT ≡ is_ordinary k far
 ordinary-is k far h = rw h (ap (le far) lit-near)
@@ -304,16 +333,13 @@ settled-moved n m p far w w' n16 m16 p48 B =
     four : (i : ℕ) → 6114 + (36 + i) ≡ 6150 + i
     four i = omega arith
 
-module _ (d : Measured) (t : Float) (r : Ended) (J : Standing) (w₁ w₂ : List Float) (n16 : d.n ≤ 16) (m16 : d.m ≤ 16) (p48 : d.p ≤ 48) (e : r.ending ≡ Done)
+module _ (d : Measured) (t : Float) (r : Ended) (J : Standing) (w₁ w₂ : List Float) (n16 : d.n ≤ 16) (m16 : d.m ≤ 16) (p48 : d.p ≤ 48) {v : ⊤} (e : r.ending ≡ Ok v)
     (h : ended_solution r (solution_in d.n d.m d.p w₁) ≡ first d) (K : FirstStored d.n d.m d.p w₁ w₂) (f : Judged d t (first_in d w₂) J) where
   abbrev a : Settled
   a = settled_in d.n d.m d.p w₂ J.far
 
-  ended : (s : Settled) → ended_settled r.ending s ≡ done s
-  ended s = ap (λ (z : Ending). ended_settled z s) e
-
-  pub settled-first : (q : Bool) → q ≡ is_ordinary J.kept J.far → q ≡ true → ended_settled r.ending a ≡ settled d t
-  settled-first q k u = ended a ∙ ap done (sym (chosen-near d t a (ap (λ (b : Bool). is_ordinary b J.far) (sym f.kept) ∙ sym k ∙ u))) ∙ sym (firstly d t r J.far w₁ w₂ e h K f.far).1
+  pub settled-first : (q : Bool) → q ≡ is_ordinary J.kept J.far → q ≡ true → settled_by (Ok J.far) (settled_in d.n d.m d.p w₂) ≡ settled d t
+  settled-first q k u = ap done (sym (chosen-near d t a (ap (λ (b : Bool). is_ordinary b J.far) (sym f.kept) ∙ sym k ∙ u))) ∙ sym (firstly d t r J.far w₁ w₂ e h K f.far).1
 
   -- worked again
   module _ (L : Standing) (w₃ : List Float) (q : Bool) (k : q ≡ is_ordinary J.kept J.far) (u : q ≡ false) (F : JudgedAgain d t (vec 6066 d.p w₂) L w₂ w₃) where
@@ -322,13 +348,13 @@ module _ (d : Measured) (t : Float) (r : Ended) (J : Standing) (w₁ w₂ : List
         chosen-far d t a (ap (λ (b : Bool). is_ordinary b J.far) (sym f.kept) ∙ sym k ∙ u) ∙ F.told a
         ∙ ap (λ (b : Bool). cond b (other_in d.n d.m d.p w₃ L.far) a) (ap (λ (b : Bool). is_better b L.kept J.far L.far) (sym f.kept) ∙ sym x)
 
-    pub settled-stays : (v : Bool) → v ≡ is_better J.kept L.kept J.far L.far → v ≡ false → ended_settled r.ending (settled_in d.n d.m d.p w₃ J.far) ≡ settled d t
+    pub settled-stays : (v : Bool) → v ≡ is_better J.kept L.kept J.far L.far → v ≡ false → settled_by (Ok J.far) (settled_in d.n d.m d.p w₃) ≡ settled d t
     settled-stays v x y =
-        ended (settled_in d.n d.m d.p w₃ J.far) ∙ ap done (settled_same d.n d.m d.p J.far w₂ w₃ n16 m16 p48 F.first
+        ap done (settled_same d.n d.m d.p J.far w₂ w₃ n16 m16 p48 F.first
         ∙ sym (chosen_is v x ∙ ap (λ (b : Bool). cond b (other_in d.n d.m d.p w₃ L.far) a) y)) ∙ sym (firstly d t r J.far w₁ w₂ e h K f.far).1
 
     pub settled-other : (w₄ : List Float) (v : Bool) → v ≡ is_better J.kept L.kept J.far L.far → v ≡ true → Block 6030 84 (λ t. at w₃ (6114 + t)) w₃ w₄
-        → ended_settled r.ending (settled_in d.n d.m d.p w₄ L.far) ≡ settled d t
+        → settled_by (Ok L.far) (settled_in d.n d.m d.p w₄) ≡ settled d t
     settled-other w₄ v x y B =
-        ended (settled_in d.n d.m d.p w₄ L.far) ∙ ap done (settled-moved d.n d.m d.p L.far w₃ w₄ n16 m16 p48 B
+        ap done (settled-moved d.n d.m d.p L.far w₃ w₄ n16 m16 p48 B
         ∙ sym (chosen_is v x ∙ ap (λ (b : Bool). cond b (other_in d.n d.m d.p w₃ L.far) a) y)) ∙ sym (firstly d t r J.far w₁ w₂ e h K f.far).1

@@ -23,8 +23,9 @@ use Rattle.settle.specs.inner.Work.{HeldFound, LetGo, FirstStored, AgainStored, 
 use Rattle.settle.specs.declared.Step.{Step}
 use Rattle.settle.specs.declared.Step.TheVariants.{Found, Let, Stop}
 use Rattle.lsei.specs.inner.Work.{ending_answer}
-use Rattle.lsei.specs.declared.Ending.{Ending}
-use Rattle.lsei.specs.declared.Ending.TheVariants.{Done, Deficient, Dependent, Infeasible, Capped}
+use Rattle.std.specs.Prelude.{Result, Ok, Err, ⊤}
+use Rattle.lsei.specs.declared.Unsolved.{Unsolved}
+use Rattle.lsei.specs.declared.Unsolved.TheVariants.{Deficient, Dependent, Infeasible, Capped}
 
 -- ---- choices
 pub not_below_holds : (v : Float) → lt v (of_bits binary64 0) ≡ true → of_bits binary64 0 ≡ not_below v
@@ -50,9 +51,9 @@ pub finding-none : (z : List Float) (iw : List ℕ) → Finding 0 0 z iw
 unfolding positives nums tab
 finding-none z iw = record { which = refl; how_many = refl; few = omega arith; below = λ t h. absurd (omega arith) }
 
-pub finding-more : (k c : ℕ) (z : List Float) (iw : List ℕ) (b : Bool) → 300 + c < length iw → b ≡ lt +0 (at z k) → Finding k c z iw → Finding (k + 1) (cond b (c + 1) c) z (set iw (300 + c) k)
+pub finding-held : (k c : ℕ) (z : List Float) (iw : List ℕ) → 300 + c < length iw → lt +0 (at z k) ≡ true → Finding k c z iw → Finding (k + 1) (c + 1) z (set iw (300 + c) k)
 unfolding positives nums
-finding-more k c z iw true l e f = record {
+finding-held k c z iw l e f = record {
   which = unfolded ∙ ap₂ (λ (a : List ℕ) (u : ℕ). a ++ (u ∷ [])) (same ∙ f.which) (get_or-set_same iw (300 + c) k 0 l) ∙ sym more;
   how_many = ap (λ (u : ℕ). u + 1) f.how_many ∙ sym (length-append (positives k z) (k ∷ [])) ∙ ap length (sym more);
   few = omega (arith, f.few);
@@ -67,19 +68,14 @@ finding-more k c z iw true l e f = record {
     same = nums-same 300 c iw (set iw (300 + c) k) (λ i h. get_or-set_other iw (300 + c) (300 + i) k 0 (λ e. omega arith))
 
     more : positives (k + 1) z ≡ positives k z ++ (k ∷ [])
-    more = rw (add-one k, sym e) refl
-finding-more k c z iw false l e f = record {
-  which = same ∙ f.which ∙ sym more;
-  how_many = f.how_many ∙ ap length (sym more);
-  few = omega (arith, f.few);
-  below = λ t h. let s : nth (set iw (300 + c) k) (300 + t) ≡ nth iw (300 + t) = get_or-set_other iw (300 + c) (300 + t) k 0 (λ e. omega arith) in omega (arith, f.below t h, s);
-}
-  where
-    same : nums 300 c (set iw (300 + c) k) ≡ nums 300 c iw
-    same = nums-same 300 c iw (set iw (300 + c) k) (λ i h. get_or-set_other iw (300 + c) (300 + i) k 0 (λ e. omega arith))
+    more = rw (add-one k, e) refl
 
+pub finding-passed : (k c : ℕ) (z : List Float) (iw : List ℕ) → lt +0 (at z k) ≡ false → Finding k c z iw → Finding (k + 1) c z iw
+unfolding positives
+finding-passed k c z iw e f = record { which = f.which ∙ sym more; how_many = f.how_many ∙ ap length (sym more); few = omega (arith, f.few); below = λ t h. omega (arith, f.below t h) }
+  where
     more : positives (k + 1) z ≡ positives k z
-    more = rw (add-one k, sym e) refl
+    more = rw (add-one k, e) refl
 
 pub witness-at : (p k : ℕ) (w : List Float) → k < p → lt (of_bits binary64 0) (at w (6066 + k)) ≡ lt +0 (at (vec 6066 p w) k)
 witness-at p k w h = ap₂ (λ (a b : Float). lt a b) lit-+0 (sym (at-vec 6066 p w k h))
@@ -136,13 +132,25 @@ pub witness-none : (m : ℕ) (hs : List ℕ) (mu : List Float) (k : ℕ) → of_
 unfolding witness
 witness-none m hs mu k = lit-+0
 
-pub witness-more : (m c t h k : ℕ) (iw : List ℕ) (w : List Float) (u r r' : Float) → t < c → h ≡ nth iw (300 + t) → u ≡ not_below (at w (360 + (m + t))) → r ≡ witness m t (nums 300 c iw) (vec 360 (m + c) w) k
+witness-more : (m c t h k : ℕ) (iw : List ℕ) (w : List Float) (u r r' : Float) → t < c → h ≡ nth iw (300 + t) → u ≡ not_below (at w (360 + (m + t))) → r ≡ witness m t (nums 300 c iw) (vec 360 (m + c) w) k
     → r' ≡ cond (eqb h k) u r → r' ≡ witness m (t + 1) (nums 300 c iw) (vec 360 (m + c) w) k
 unfolding witness
 witness-more m c t h k iw w u r r' l he ue re e =
     let q : h ≡ nth (nums 300 c iw) t = he ∙ sym (nth-nums 300 c iw t l) in
     let p : u ≡ not_below (at (vec 360 (m + c) w) (m + t)) = ue ∙ ap not_below (sym (at-vec 360 (m + c) w (m + t) (omega arith))) in
     e ∙ rw (add-one t) (ap₂ (λ (a z : Float). cond (eqb h k) a z) p re ∙ ap (λ (g : ℕ). cond (eqb g k) (not_below (at (vec 360 (m + c) w) (m + t))) (witness m t (nums 300 c iw) (vec 360 (m + c) w) k)) q)
+
+-- where limit k is entry t of those held, and where it is not
+pub witness-here : (m c t k : ℕ) (iw : List ℕ) (w : List Float) (u r' : Float) → t < c → nth iw (300 + t) ≡ k → u ≡ not_below (at w (360 + (m + t))) → r' ≡ u → r' ≡ witness m (t + 1) (nums 300 c iw) (vec 360 (m + c) w) k
+witness-here m c t k iw w u r' l e ue er =
+    let r = witness m t (nums 300 c iw) (vec 360 (m + c) w) k in
+    witness-more m c t (nth iw (300 + t)) k iw w u r r' l refl ue refl (er ∙ ap (λ (b : Bool). cond b u r) (sym (eq-eqb (nth iw (300 + t)) k e)))
+
+pub witness-on : (m c t k : ℕ) (iw : List ℕ) (w : List Float) (r r' : Float) → t < c → (nth iw (300 + t) ≡ k → ⊥) → r ≡ witness m t (nums 300 c iw) (vec 360 (m + c) w) k → r' ≡ r
+    → r' ≡ witness m (t + 1) (nums 300 c iw) (vec 360 (m + c) w) k
+witness-on m c t k iw w r r' l h re er =
+    let u = not_below (at w (360 + (m + t))) in
+    witness-more m c t (nth iw (300 + t)) k iw w u r r' l refl refl re (er ∙ ap (λ (b : Bool). cond b u r) (sym (ne_eqb (nth iw (300 + t)) k h)))
 
 -- ---- the answers, where they are stored
 pub stored-first : (n m p : ℕ) (w w₁ w₂ w₃ : List Float) → n ≤ 16 → m ≤ 16 → p ≤ 48 → Block 6030 n (λ t. at w (714 + t)) w w₁ → Block 6048 m (λ t. at w₁ (360 + t)) w₁ w₂ → Block 6066 p (λ t. at w₂ (4332 + t)) w₂ w₃
@@ -199,35 +207,35 @@ stored-again d c iw w w₁ w₂ w₃ n16 mc p48 X Y Z =
     }
 
 -- ---- what an ending comes to
-pub let-is : (m k : ℕ) (e : Ending) → e ≡ Dependent k → m ≤ k → Let (k - m) ≡ step_of m e
+pub let-is : (m k : ℕ) (e : Result ⊤ Unsolved) → e ≡ Err (Dependent k) → m ≤ k → Let (k - m) ≡ step_of m e
 let-is m k e h l = rw h (rw (le-leb m k l) refl)
 
-pub stop_is : (m k : ℕ) (e : Ending) → e ≡ Dependent k → k < m → Stop ≡ step_of m e
+pub stop_is : (m k : ℕ) (e : Result ⊤ Unsolved) → e ≡ Err (Dependent k) → k < m → Stop ≡ step_of m e
 stop_is m k e h l = rw h (rw (lt-leb m k l) refl)
 
-pub is_found : (m : ℕ) (e : Ending) → step_of m e ≡ Found → e ≡ Done
-is_found m Done h = refl
-is_found m (Deficient k) h = absurd (stop-found h)
-is_found m (Dependent k) h = absurd (go (leb m k) h)
+pub is_found : (m : ℕ) (e : Result ⊤ Unsolved) → step_of m e ≡ Found → e ≡ Ok tt
+is_found m (Ok tt) h = refl
+is_found m (Err (Deficient k)) h = absurd (stop-found h)
+is_found m (Err (Dependent k)) h = absurd (go (leb m k) h)
   where
     go : (b : Bool) → cond b (Let (k - m)) Stop ≡ Found → ⊥
     go true h = let-found (k - m) h
     go false h = stop-found h
-is_found m Infeasible h = absurd (stop-found h)
-is_found m Capped h = absurd (stop-found h)
+is_found m (Err Infeasible) h = absurd (stop-found h)
+is_found m (Err Capped) h = absurd (stop-found h)
 
 -- a try that comes to no answer of its own
-pub onward-told : (d : Measured) (c : ℕ) (hs : List ℕ) (e : Ending) (s : Solution) (t : Settled) (on : ℕ → Again) → (step_of d.m e ≡ Found → ⊥)
+pub onward-told : (d : Measured) (c : ℕ) (hs : List ℕ) (e : Result ⊤ Unsolved) (s : Solution) (t : Settled) (on : ℕ → Again) → (step_of d.m e ≡ Found → ⊥)
     → next d c hs (ending_answer e s) on ≡ after (step_of d.m e) t on
-onward-told d c hs Done s t on h = absurd (h refl)
-onward-told d c hs (Deficient k) s t on h = refl
-onward-told d c hs (Dependent k) s t on h = go (leb d.m k)
+onward-told d c hs (Ok tt) s t on h = absurd (h refl)
+onward-told d c hs (Err (Deficient k)) s t on h = refl
+onward-told d c hs (Err (Dependent k)) s t on h = go (leb d.m k)
   where
     go : (b : Bool) → cond (true && b) (on (k - d.m)) none ≡ after (cond b (Let (k - d.m)) Stop) t on
     go true = refl
     go false = refl
-onward-told d c hs Infeasible s t on h = refl
-onward-told d c hs Capped s t on h = refl
+onward-told d c hs (Err Infeasible) s t on h = refl
+onward-told d c hs (Err Capped) s t on h = refl
 
 -- ---- loops that are done
 pub own-done : (n t c : ℕ) (l f : List Float) (hs : List ℕ) (i : ℕ) (v r : Float) → t ≡ c → r ≡ owned n l f t hs i v → r ≡ owned n l f c hs i v

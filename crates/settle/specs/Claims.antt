@@ -1,17 +1,16 @@
 -- What is shown of settled volumes. Definitions only.
-use Rattle.std.specs.Prelude.{ℕ, ◌<◌, Bool, true, false, ◌⊎◌, List, ◌≡◌, replicate, Float}
+use Rattle.std.specs.Prelude.{ℕ, ◌<◌, true, false, ◌⊎◌, List, ◌≡◌, replicate, Float}
 use Rattle.std.specs.Float.Ieee.{lt}
 use Rattle.exact.specs.Exact.{ℚ, ◌≤ℚ◌, whole, ◌+ℚ◌, ◌-ℚ◌, ◌*ℚ◌, absℚ, squared, value, Finite}
 use Rattle.certain.specs.Day as exact
 use Rattle.certain.specs.Day.{AsGood, Feasible, BestOfDay, WithinTolerance, apart, misfit, exactly}
 use Rattle.numbers.specs.Numbers.{+0, near, nth, tab}
-use Rattle.workspace.specs.Tables.{Answer, done, refused}
+use Rattle.workspace.specs.Tables.{done, refused}
 use Rattle.workspace.specs.declared.Refusal.{Refusal}
 use Rattle.totaliser.specs.Volume.{volume}
-use Rattle.nnls.specs.Counted.{Counted}
 use Rattle.lsei.specs.Lsei.{Solution}
 use Rattle.reconcile.specs.Day.{Day, identity, corrected}
-use Rattle.settle.specs.Settle.{Measured, Settled, Again, again, measured, certified, first, first_of, second, is_kept, is_ordinary, settled}
+use Rattle.settle.specs.Settle.{Measured, Settled, again, measured, certified, first, first_of, second, is_kept, is_ordinary, settled}
 
 -- ---- how far they can be from the best
 

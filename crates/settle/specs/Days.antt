@@ -1,9 +1,9 @@
 -- Three days worked: the numbers, and what is settled within 0.001. `proofs/Days.antt` shows that the definitions answer so. Definitions only.
-use Rattle.std.specs.Prelude.{ℕ, ◌≡◌, List, [], ◌∷◌, replicate, Float}
+use Rattle.std.specs.Prelude.{ℕ, ◌≡◌, [], ◌∷◌, replicate, Float}
 use Rattle.std.specs.Float.{binary64}
 use Rattle.std.specs.Float.Ieee.{of_bits}
 use Rattle.numbers.specs.Numbers.{+0, near}
-use Rattle.workspace.specs.Tables.{Answer, done}
+use Rattle.workspace.specs.Tables.{done}
 use Rattle.reconcile.specs.Day.{identity}
 use Rattle.settle.specs.Settle.{Measured, Settled, measured, settled}
 

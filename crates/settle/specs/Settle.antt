@@ -1,5 +1,5 @@
 -- Settled volumes (docs/RULES.md, "Settled volumes"): LSEI's, or those worked again with the limits that hold as equalities. Definitions only.
-use Rattle.std.specs.Prelude.{ℕ, zero, suc, ◌+◌, ◌-◌, ◌*◌, Bool, true, false, cond, ◌&&◌, ◌||◌, List, [], ◌∷◌, ◌++◌, eqb, leb, ltb, length, replicate, Float}
+use Rattle.std.specs.Prelude.{ℕ, zero, suc, ◌+◌, ◌-◌, Bool, true, false, cond, ◌&&◌, ◌||◌, List, [], ◌∷◌, ◌++◌, eqb, leb, ltb, length, replicate, Float}
 use Rattle.std.specs.Float.Ieee.{lt, le, eq}
 use Rattle.numbers.specs.Numbers.{+0, near, one, ◌⊘◌, at, nth, tab, entry, rows, row}
 use Rattle.workspace.specs.Tables.{Answer, done, refused, number_of, place_of}

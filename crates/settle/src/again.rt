@@ -1,51 +1,16 @@
 // The second working: the limits whose witness is above zero as equalities, and one let go where it depends on the others.
-ghost use Rattle.std.specs.Prelude.{◌≡◌, cond, ℕ, ◌+◌, ◌-◌, ◌*◌, ◌<◌, ◌≤◌, length, eqb};
-ghost use Rattle.numbers.specs.Numbers.{+0, one, at, nth};
+ghost use Rattle.std.specs.Prelude.{◌≡◌, ℕ, ◌+◌, ◌*◌, ◌<◌, ◌≤◌, length};
+ghost use Rattle.numbers.specs.Numbers.{at};
 ghost use Rattle.workspace.specs.Readings.{vec, nums, Block};
 ghost use Rattle.settle.specs.Settle as Definition;
+ghost use Rattle.settle.specs.Lent.{measured_in};
 ghost use Rattle.lsei_nullspace.specs.inner.Places.{LSEI_X, LSEI_EQUALITY_MULTIPLIERS};
 ghost use Rattle.settle.specs.inner.Places.{SETTLE_Z, SETTLE_AGAIN_X, SETTLE_AGAIN_Z, SETTLE_HELD, SETTLE_ROOM, SETTLE_WORDS};
-ghost use Rattle.settle.specs.inner.Work.{Input, Held, HeldFound, LetGo, AgainStored, step_of, Tried, TriedAll, WorkedAgain};
+ghost use Rattle.settle.specs.inner.Work.{Held, HeldFound, LetGo, AgainStored, step_of, Tried, TriedAll, WorkedAgain};
 
 use crate::Step;
+use crate::day::MeasuredDay;
 use crate::problem::write_pinned;
-
-// a where t holds, and else b.
-fn pick(t: bool, a: f64, b: f64) -> f64
-    ensures { result ≡ cond t a b }
-{
-    if t {
-        return a;
-    }
-    b
-}
-
-fn wide(x: u32) -> usize
-    ensures { result ≡ x }
-{
-    x as usize
-}
-
-// One more where t holds.
-fn count(t: bool, c: usize) -> usize
-    requires { c ≤ 48 }
-    ensures { result ≡ cond t (c + 1) c }
-{
-    if t {
-        return c + 1;
-    }
-    c
-}
-
-// 1 at place i, and else 0.
-fn unit(j: usize, i: usize) -> f64
-    ensures { result ≡ cond (eqb j i) one +0 }
-{
-    if j == i {
-        return 1.0;
-    }
-    0.0
-}
 
 // ---- the limits that are held
 
@@ -55,11 +20,11 @@ fn find_held(w: &[f64], iw: &mut [u32], p: usize) -> usize
     ensures { HeldFound p result (vec SETTLE_Z p w.now) iw.new }
 {
     let mut c = 0;
-    let mut k = 0;
-    while k < p {
-        iw[crate::SETTLE_HELD + c] = k as u32;
-        c = count(0.0 < w[crate::SETTLE_Z + k], c);
-        k += 1;
+    for k in 0..p {
+        if 0.0 < w[crate::SETTLE_Z + k] {
+            iw[crate::SETTLE_HELD + c] = k as u32;
+            c += 1;
+        }
     }
     c
 }
@@ -69,55 +34,40 @@ fn let_go(iw: &mut [u32], c: usize, t: usize)
     requires { (c < 48) × (SETTLE_WORDS ≤ length iw.old) }
     ensures { LetGo c t iw.old iw.new }
 {
-    let mut i = t;
-    while i < c {
+    for i in t..c {
         iw[crate::SETTLE_HELD + i] = iw[crate::SETTLE_HELD + i + 1];
-        i += 1;
     }
 }
 
 // ---- the answer, where it is stored
 
-// Whether limit k is the floor of value i alone.
+// Whether limit k is the floor of value i alone: 1 there, and else 0.
 fn is_own(limits: &[f64], n: usize, k: usize, i: usize) -> bool
     requires { (k * n + n ≤ length limits.now) × (n ≤ 16) }
     ensures { result ≡ Definition.is_own n limits.now k i }
 {
-    let o = k * n;
-    let mut j = 0;
-    while j < n {
-        let v = unit(j, i);
-        if !(limits[o + j] == v) {
+    for j in 0..n {
+        let wanted = if j == i { 1.0 } else { 0.0 };
+        if !(limits[k * n + j] == wanted) {
             return false;
         }
-        j += 1;
     }
     true
 }
 
 // Value i, or its own floor where that is held.
-fn own(
-    limits: &[f64],
-    least: &[f64],
-    iw: &[u32],
-    n: usize,
-    p: usize,
-    c: usize,
-    i: usize,
-    v: f64,
-) -> f64
-    requires { (n ≤ 16) × (length limits.now ≡ p * n) × (length least.now ≡ p) × Held p c iw.now }
-    ensures { result ≡ Definition.owned n limits.now least.now c (nums SETTLE_HELD c iw.now) i v }
+fn own(day: &MeasuredDay, iw: &[u32], c: usize, i: usize, v: f64) -> f64
+    requires { Held day.now.p c iw.now }
+    ensures { result ≡ Definition.owned day.now.n day.now.limits.now day.now.least.now c (nums SETTLE_HELD c iw.now) i v }
 {
-    let mut r = v;
-    let mut t = 0;
-    while t < c {
+    let mut settled = v;
+    for t in 0..c {
         let k = iw[crate::SETTLE_HELD + t] as usize;
-        let t_own = is_own(limits, n, k, i);
-        r = pick(t_own, least[k], r);
-        t += 1;
+        if is_own(day.limits, day.n, k, i) {
+            settled = day.least[k];
+        }
     }
-    r
+    settled
 }
 
 fn not_below(v: f64) -> f64
@@ -134,23 +84,21 @@ fn witness(w: &[f64], iw: &[u32], m: usize, c: usize, k: usize) -> f64
     requires { (m + c ≤ 16) × (SETTLE_ROOM ≤ length w.now) × (SETTLE_WORDS ≤ length iw.now) }
     ensures { result ≡ Definition.witness m c (nums SETTLE_HELD c iw.now) (vec LSEI_EQUALITY_MULTIPLIERS (m + c) w.now) k }
 {
-    let mut r = 0.0;
-    let mut t = 0;
-    while t < c {
-        let v = not_below(w[lsei_nullspace::LSEI_EQUALITY_MULTIPLIERS + (m + t)]);
-        let h = wide(iw[crate::SETTLE_HELD + t]);
-        r = pick(h == k, v, r);
-        t += 1;
+    let mut z = 0.0;
+    for t in 0..c {
+        if iw[crate::SETTLE_HELD + t] as usize == k {
+            z = not_below(w[lsei_nullspace::LSEI_EQUALITY_MULTIPLIERS + (m + t)]);
+        }
     }
-    r
+    z
 }
 
-fn store_x(limits: &[f64], least: &[f64], w: &mut [f64], iw: &[u32], n: usize, p: usize, c: usize)
-    requires { (n ≤ 16) × (length limits.now ≡ p * n) × (length least.now ≡ p) × Held p c iw.now × (SETTLE_ROOM ≤ length w.old) }
-    ensures { Block SETTLE_AGAIN_X n (λ i. Definition.owned n limits.now least.now c (nums SETTLE_HELD c iw.now) i (at w.old (LSEI_X + i))) w.old w.new }
+fn store_x(day: &MeasuredDay, w: &mut [f64], iw: &[u32], c: usize)
+    requires { Held day.now.p c iw.now × (SETTLE_ROOM ≤ length w.old) }
+    ensures { Block SETTLE_AGAIN_X day.now.n (λ i. Definition.owned day.now.n day.now.limits.now day.now.least.now c (nums SETTLE_HELD c iw.now) i (at w.old (LSEI_X + i))) w.old w.new }
 {
-    for i in 0..n {
-        let v = own(limits, least, iw, n, p, c, i, w[lsei_nullspace::LSEI_X + i]);
+    for i in 0..day.n {
+        let v = own(day, iw, c, i, w[lsei_nullspace::LSEI_X + i]);
         w[crate::SETTLE_AGAIN_X + i] = v;
     }
 }
@@ -165,109 +113,72 @@ fn store_z(w: &mut [f64], iw: &[u32], m: usize, p: usize, c: usize)
     }
 }
 
-fn store_again(
-    values: &[f64],
-    spreads: &[f64],
-    balances: &[f64],
-    limits: &[f64],
-    least: &[f64],
-    w: &mut [f64],
-    iw: &[u32],
-    n: usize,
-    m: usize,
-    p: usize,
-    c: usize,
-)
-    requires { Input n m p values.now spreads.now balances.now limits.now least.now × (m + c ≤ 16) × Held p c iw.now × (SETTLE_ROOM ≤ length w.old) }
-    ensures { AgainStored (Definition.measured n m p values.now spreads.now balances.now limits.now least.now) c iw.now w.old w.new }
+fn store_again(day: &MeasuredDay, w: &mut [f64], iw: &[u32], c: usize)
+    requires { (day.now.m + c ≤ 16) × Held day.now.p c iw.now × (SETTLE_ROOM ≤ length w.old) }
+    ensures { AgainStored (measured_in day.now) c iw.now w.old w.new }
 {
-    store_x(limits, least, w, iw, n, p, c);
+    store_x(day, w, iw, c);
     workspace::copy_up(
         w,
         lsei_nullspace::LSEI_EQUALITY_MULTIPLIERS,
         crate::SETTLE_AGAIN_Y,
-        m,
+        day.m,
     );
-    store_z(w, iw, m, p, c);
+    store_z(w, iw, day.m, day.p, c);
 }
 
 // ---- the tries
 
 // Only a limit that depends on others is let go.
-fn step_of(ending: lsei::Ending, m: usize) -> Step
+fn step_of(ending: Result<(), lsei::Unsolved>, m: usize) -> Step
     ensures { result ≡ step_of m ending }
 {
     match ending {
-        lsei::Ending::Done => Step::Found,
-        lsei::Ending::Dependent(place) => {
-            let k = wide(place);
+        Ok(()) => Step::Found,
+        Err(lsei::Unsolved::Dependent(place)) => {
+            let k = place as usize;
             if m <= k {
                 return Step::Let(k - m);
             }
             Step::Stop
         }
-        lsei::Ending::Deficient(_) => Step::Stop,
-        lsei::Ending::Infeasible => Step::Stop,
-        lsei::Ending::Capped => Step::Stop,
+        Err(lsei::Unsolved::Deficient(_)) => Step::Stop,
+        Err(lsei::Unsolved::Infeasible) => Step::Stop,
+        Err(lsei::Unsolved::Capped) => Step::Stop,
     }
 }
 
 // One try, with the c limits that are held.
-fn try_once(
-    values: &[f64],
-    spreads: &[f64],
-    balances: &[f64],
-    limits: &[f64],
-    least: &[f64],
-    w: &mut [f64],
-    iw: &mut [u32],
-    n: usize,
-    m: usize,
-    p: usize,
-    c: usize,
-) -> Step
-    requires { Input n m p values.now spreads.now balances.now limits.now least.now × (m + c ≤ 16) × Held p c iw.old × (SETTLE_ROOM ≤ length w.old) × (SETTLE_WORDS ≤ length iw.old) }
-    ensures { Tried (Definition.measured n m p values.now spreads.now balances.now limits.now least.now) c result iw.old iw.new w.old w.new }
+fn try_once(day: &MeasuredDay, w: &mut [f64], iw: &mut [u32], c: usize) -> Step
+    requires { (day.now.m + c ≤ 16) × Held day.now.p c iw.old × (SETTLE_ROOM ≤ length w.old) }
+    ensures { Tried (measured_in day.now) c result iw.old iw.new w.old w.new }
 {
-    write_pinned(values, spreads, balances, limits, least, w, iw, n, m, p, c);
+    write_pinned(day, w, iw, c);
     let e = lsei_nullspace::solve_lsei(
         &mut w[..crate::SETTLE_X],
         &mut iw[..crate::SETTLE_HELD],
-        n,
-        m + c,
-        n,
+        day.n,
+        day.m + c,
+        day.n,
         0,
     );
     let ending = e.ending;
-    let s = step_of(ending, m);
+    let s = step_of(ending, day.m);
     let Step::Found = s else {
         return s;
     };
-    store_again(values, spreads, balances, limits, least, w, iw, n, m, p, c);
+    store_again(day, w, iw, c);
     s
 }
 
-// Tries, until one comes to an answer or to none.
-fn try_all(
-    values: &[f64],
-    spreads: &[f64],
-    balances: &[f64],
-    limits: &[f64],
-    least: &[f64],
-    w: &mut [f64],
-    iw: &mut [u32],
-    n: usize,
-    m: usize,
-    p: usize,
-    held: usize,
-) -> bool
-    requires { Input n m p values.now spreads.now balances.now limits.now least.now × (m + held ≤ 16) × Held p held iw.old × (SETTLE_ROOM ≤ length w.old) × (SETTLE_WORDS ≤ length iw.old) }
-    ensures { TriedAll (Definition.measured n m p values.now spreads.now balances.now limits.now least.now) held (nums SETTLE_HELD held iw.old) result w.old w.new }
+// Tries with ever fewer limits held, until one comes to an answer or to none.
+fn try_all(day: &MeasuredDay, w: &mut [f64], iw: &mut [u32], held: usize) -> bool
+    requires { (day.now.m + held ≤ 16) × Held day.now.p held iw.old × (SETTLE_ROOM ≤ length w.old) }
+    ensures { TriedAll (measured_in day.now) held (nums SETTLE_HELD held iw.old) result w.old w.new }
 {
-    let mut c = held;
-    loop {
-        let s = try_once(values, spreads, balances, limits, least, w, iw, n, m, p, c);
-        match s {
+    for gone in 0..held + 1 {
+        let c = held - gone;
+        match try_once(day, w, iw, c) {
             Step::Found => {
                 return true;
             }
@@ -275,35 +186,23 @@ fn try_all(
                 return false;
             }
             Step::Let(t) => {
-                if c == 0 {
-                    return false;
+                if 0 < c {
+                    let_go(iw, c - 1, t);
                 }
-                c -= 1;
-                let_go(iw, c, t);
             }
         }
     }
+    false
 }
 
 // Whether there is a second answer, which is stored.
-pub fn work_again(
-    values: &[f64],
-    spreads: &[f64],
-    balances: &[f64],
-    limits: &[f64],
-    least: &[f64],
-    w: &mut [f64],
-    iw: &mut [u32],
-    n: usize,
-    m: usize,
-    p: usize,
-) -> bool
-    requires { Input n m p values.now spreads.now balances.now limits.now least.now × (SETTLE_ROOM ≤ length w.old) × (SETTLE_WORDS ≤ length iw.old) }
-    ensures { WorkedAgain (Definition.measured n m p values.now spreads.now balances.now limits.now least.now) (vec SETTLE_Z p w.old) result w.old w.new }
+pub fn work_again(day: &MeasuredDay, w: &mut [f64], iw: &mut [u32]) -> bool
+    requires { (SETTLE_ROOM ≤ length w.old) × (SETTLE_WORDS ≤ length iw.old) }
+    ensures { WorkedAgain (measured_in day.now) (vec SETTLE_Z day.now.p w.old) result w.old w.new }
 {
-    let c = find_held(w, iw, p);
-    if m + c > 16 {
+    let c = find_held(w, iw, day.p);
+    if day.m + c > 16 {
         return false;
     }
-    try_all(values, spreads, balances, limits, least, w, iw, n, m, p, c)
+    try_all(day, w, iw, c)
 }

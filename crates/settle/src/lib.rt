@@ -5,17 +5,21 @@
 #![tactic(auto)]
 
 mod again;
+mod day;
 mod problem;
 
-ghost use Rattle.std.specs.Prelude.{◌≡◌, ℕ, ◌+◌, ◌*◌, ◌<◌, ◌≤◌, length};
+ghost use Rattle.std.specs.Prelude.{◌≡◌, ◌+◌, ◌≤◌, length};
 ghost use Rattle.workspace.specs.Readings.{vec};
 ghost use Rattle.lsei.specs.inner.Work.{ended_solution};
 ghost use Rattle.lsei_nullspace.specs.inner.Work.{solution_in};
+ghost use Rattle.certain.specs.Bound.{kept};
 ghost use Rattle.settle.specs.Settle as Definition;
+ghost use Rattle.settle.specs.Lent.{measured_in};
 ghost use Rattle.settle.specs.inner.Places.{SETTLE_Z, SETTLE_ROOM, SETTLE_WORDS};
-ghost use Rattle.settle.specs.inner.Work.{Input, FirstStored, stored_at, settled_in, ended_settled, Judged, JudgedAgain};
+ghost use Rattle.settle.specs.inner.Work.{FirstStored, stored_at, settled_in, settled_by, Judged, JudgedAgain};
 
 use crate::again::work_again;
+pub use crate::day::MeasuredDay;
 use crate::problem::write_first;
 
 // ---- where things stand behind LSEI's part
@@ -57,23 +61,12 @@ pub enum Step {
 // ---- LSEI's own answer
 
 // The problem in, and the kernel's answer.
-fn run_first(
-    values: &[f64],
-    spreads: &[f64],
-    balances: &[f64],
-    limits: &[f64],
-    least: &[f64],
-    w: &mut [f64],
-    iw: &mut [u32],
-    n: usize,
-    m: usize,
-    p: usize,
-) -> lsei::Ended
-    requires { Input n m p values.now spreads.now balances.now limits.now least.now × (SETTLE_ROOM ≤ length w.old) × (SETTLE_WORDS ≤ length iw.old) }
-    ensures { ended_solution result (solution_in n m p w.new) ≡ Definition.first (Definition.measured n m p values.now spreads.now balances.now limits.now least.now) }
+fn run_first(day: &MeasuredDay, w: &mut [f64], iw: &mut [u32]) -> lsei::Ended
+    requires { (SETTLE_ROOM ≤ length w.old) × (SETTLE_WORDS ≤ length iw.old) }
+    ensures { ended_solution result (solution_in day.now.n day.now.m day.now.p w.new) ≡ Definition.first (measured_in day.now) }
 {
-    write_first(values, spreads, balances, limits, least, w, n, m, p);
-    lsei_nullspace::solve_lsei(w, iw, n, m, n, p)
+    write_first(day, w);
+    lsei_nullspace::solve_lsei(w, iw, day.n, day.m, day.n, day.p)
 }
 
 // LSEI's answer, where it is stored.
@@ -88,69 +81,72 @@ fn store_first(w: &mut [f64], n: usize, m: usize, p: usize)
 
 // ---- the choice
 
+impl MeasuredDay<'_> {
+    // The bound of volumes x with the witnesses y of the balances and z of the limits.
+    pub fn bound(&self, x: &[f64], y: &[f64], z: &[f64]) -> f64
+        requires { (self.now.n ≤ length x.now) × (self.now.m ≤ length y.now) × (self.now.p ≤ length z.now) }
+        ensures { result ≡ (Definition.certified (measured_in self.now) x.now y.now z.now).far }
+    {
+        certain::bound(
+            self.n,
+            self.m,
+            self.p,
+            self.values,
+            self.spreads,
+            self.balances,
+            self.limits,
+            self.least,
+            x,
+            y,
+            z,
+        )
+    }
+
+    // Whether volumes x keep every balance and every limit within a tolerance.
+    pub fn is_kept(&self, x: &[f64], tolerance: f64) -> bool
+        requires { self.now.n ≤ length x.now }
+        ensures { result ≡ kept self.now.n self.now.m self.now.p self.now.balances.now self.now.limits.now self.now.least.now x.now tolerance }
+    {
+        certain::kept(
+            self.n,
+            self.m,
+            self.p,
+            self.balances,
+            self.limits,
+            self.least,
+            x,
+            tolerance,
+        )
+    }
+}
+
 // The standing of the answer that is stored from o on.
-fn judge(
-    values: &[f64],
-    spreads: &[f64],
-    balances: &[f64],
-    limits: &[f64],
-    least: &[f64],
-    w: &[f64],
-    o: usize,
-    n: usize,
-    m: usize,
-    p: usize,
-    tolerance: f64,
-) -> Standing
-    requires { Input n m p values.now spreads.now balances.now limits.now least.now × (o + 84 ≤ length w.now) }
-    ensures { Judged (Definition.measured n m p values.now spreads.now balances.now limits.now least.now) tolerance (stored_at (Definition.measured n m p values.now spreads.now balances.now limits.now least.now) o w.now) result }
+fn judge(day: &MeasuredDay, w: &[f64], o: usize, tolerance: f64) -> Standing
+    requires { o + 84 ≤ length w.now }
+    ensures { Judged (measured_in day.now) tolerance (stored_at (measured_in day.now) o w.now) result }
 {
     let a = o + 18;
     let b = o + 36;
-    let x = &w[o..o + n];
-    let y = &w[a..a + m];
-    let z = &w[b..b + p];
-    let far = certain::bound(n, m, p, values, spreads, balances, limits, least, x, y, z);
-    let kept = certain::kept(n, m, p, balances, limits, least, x, tolerance);
+    let x = &w[o..o + day.n];
+    let y = &w[a..a + day.m];
+    let z = &w[b..b + day.p];
+    let far = day.bound(x, y, z);
+    let kept = day.is_kept(x, tolerance);
     Standing { far, kept }
 }
 
 // That of the answer worked again, which is stored; where there is none, one that is never better.
-fn judge_again(
-    values: &[f64],
-    spreads: &[f64],
-    balances: &[f64],
-    limits: &[f64],
-    least: &[f64],
-    w: &mut [f64],
-    iw: &mut [u32],
-    n: usize,
-    m: usize,
-    p: usize,
-    tolerance: f64,
-) -> Standing
-    requires { Input n m p values.now spreads.now balances.now limits.now least.now × (SETTLE_ROOM ≤ length w.old) × (SETTLE_WORDS ≤ length iw.old) }
-    ensures { JudgedAgain (Definition.measured n m p values.now spreads.now balances.now limits.now least.now) tolerance (vec SETTLE_Z p w.old) result w.old w.new }
+fn judge_again(day: &MeasuredDay, w: &mut [f64], iw: &mut [u32], tolerance: f64) -> Standing
+    requires { (SETTLE_ROOM ≤ length w.old) × (SETTLE_WORDS ≤ length iw.old) }
+    ensures { JudgedAgain (measured_in day.now) tolerance (vec SETTLE_Z day.now.p w.old) result w.old w.new }
 {
-    if !work_again(values, spreads, balances, limits, least, w, iw, n, m, p) {
+    if !work_again(day, w, iw) {
         return Standing {
             far: 1.0 / 0.0,
             kept: false,
         };
     }
-    judge(
-        values,
-        spreads,
-        balances,
-        limits,
-        least,
-        w,
-        SETTLE_AGAIN_X,
-        n,
-        m,
-        p,
-        tolerance,
-    )
+    judge(day, w, SETTLE_AGAIN_X, tolerance)
 }
 
 // Whether LSEI's answer is taken at once.
@@ -172,57 +168,27 @@ fn is_better(kept: bool, again: bool, far: f64, other: f64) -> bool
 
 // ---- the whole
 
-// How LSEI ended, and the bound of the volumes that are settled.
-#[derive(Clone, Copy)]
-pub struct Settlement {
-    pub ending: lsei::Ending,
-    pub far: f64,
-}
-
-// The settled volumes with their witnesses, where LSEI's answer is stored.
+// The settled volumes with their witnesses, where LSEI's answer is stored: their bound, or why LSEI has none.
 pub fn settle(
-    values: &[f64],
-    spreads: &[f64],
-    balances: &[f64],
-    limits: &[f64],
-    least: &[f64],
+    day: &MeasuredDay,
     w: &mut [f64],
     iw: &mut [u32],
-    n: usize,
-    m: usize,
-    p: usize,
     tolerance: f64,
-) -> Settlement
-    requires { Input n m p values.now spreads.now balances.now limits.now least.now × (SETTLE_ROOM ≤ length w.old) × (SETTLE_WORDS ≤ length iw.old) }
-    ensures { ended_settled result.ending (settled_in n m p w.new result.far) ≡ Definition.settled (Definition.measured n m p values.now spreads.now balances.now limits.now least.now) tolerance }
+) -> Result<f64, lsei::Unsolved>
+    requires { (SETTLE_ROOM ≤ length w.old) × (SETTLE_WORDS ≤ length iw.old) }
+    ensures { settled_by result (settled_in day.now.n day.now.m day.now.p w.new) ≡ Definition.settled (measured_in day.now) tolerance }
 {
-    let e = run_first(values, spreads, balances, limits, least, w, iw, n, m, p);
-    let ending = e.ending;
-    let lsei::Ending::Done = ending else {
-        return Settlement { ending, far: 0.0 };
-    };
-    store_first(w, n, m, p);
-    let one = judge(
-        values, spreads, balances, limits, least, w, SETTLE_X, n, m, p, tolerance,
-    );
+    let e = run_first(day, w, iw);
+    e.ending?;
+    store_first(w, day.n, day.m, day.p);
+    let one = judge(day, w, SETTLE_X, tolerance);
     if is_ordinary(one.kept, one.far) {
-        return Settlement {
-            ending,
-            far: one.far,
-        };
+        return Ok(one.far);
     }
-    let two = judge_again(
-        values, spreads, balances, limits, least, w, iw, n, m, p, tolerance,
-    );
+    let two = judge_again(day, w, iw, tolerance);
     if is_better(one.kept, two.kept, one.far, two.far) {
         workspace::copy_down(w, SETTLE_AGAIN_X, SETTLE_X, 84);
-        return Settlement {
-            ending,
-            far: two.far,
-        };
+        return Ok(two.far);
     }
-    Settlement {
-        ending,
-        far: one.far,
-    }
+    Ok(one.far)
 }

@@ -3,7 +3,6 @@ use mathlib.Core.Path.{◌≡◌, refl, sym, ap, ap₂, subst, ◌∙◌}
 use mathlib.Core.Bool.{Bool, true, false, ◌&&◌}
 use mathlib.Core.List.{List, ◌++◌}
 use Prim.Native.Nat.{ℕ, ◌+◌}
-use native.Mathlib.Omega.{arith}
 use lib.Dec.{eqb}
 use lib.ListN.{length, take, drop, length-append}
 use lib.Seq.{take_at, drop_at}
@@ -13,7 +12,8 @@ use Rattle.exact.specs.Exact.{Finite}
 use Rattle.workspace.specs.Tables.{Answer, done, refused, call, test, outcome_of, output, is_tolerance, is_room, has}
 use Rattle.workspace.specs.declared.Refusal.{Refusal}
 use Rattle.workspace.specs.declared.Refusal.TheVariants.{Tolerance}
-use Rattle.workspace.specs.declared.Outcome.TheVariants.{Done, Refused}
+use Rattle.workspace.specs.Tables.{Outcome}
+use Rattle.settle_call.specs.Promise.{Bounded}
 use Rattle.workspace.proofs.Tests.{and-true}
 use Rattle.lsei.specs.Lsei.{Solution}
 use Rattle.reconcile.specs.Day.{Day, corrected}
@@ -27,23 +27,23 @@ use Rattle.settle.proofs.Claims as shown
 use Rattle.settle_call.specs.Promise.{are_sizes, are_lengths, in_turn, numbers_tested, bound_of, settle_call, Settles, reported, certify_call}
 use Rattle.settle_call.specs.Claims.{SettledIsNear, CertifiedIsNear, GivesBack, OrdinaryCalls, OneAnswer, OneCertificate}
 use Rattle.settle_call.specs.inner.Work.{values_told, leasts_told, data_has}
-use Rattle.settle_call.specs.declared.Bounded.TheVariants as bounded
+use Rattle.std.specs.Prelude.{Ok, Err}
 use Rattle.settle_call.proofs.Testing.{follows}
 
 -- ---- a call that is done
 
-same-bound : (a b : Float) → bounded.Done a ≡ bounded.Done b → a ≡ b
+same-bound : (a b : Float) → ◌≡◌ {A = Bounded} (Ok a) (Ok b) → a ≡ b
 same-bound a b e = cc
 
-done-of : {A P : Type 0} (far : A → Float) (c : Answer A) (B : Float) → bounded.Done B ≡ bound_of far c → ((s : A) → c ≡ done s → B ≡ far s → P) → P
+done-of : {A P : Type 0} (far : A → Float) (c : Answer A) (B : Float) → ◌≡◌ {A = Bounded} (Ok B) (bound_of far c) → ((s : A) → c ≡ done s → B ≡ far s → P) → P
 done-of far (done s) B e k = k s refl (same-bound B (far s) e)
 done-of far (refused r) B e k = no e
   where
-    no : {P : Type 0} → bounded.Done B ≡ bounded.Refused r → P
-    no h = let z : ◌≡◌ {A = ℕ} 0 1 = cc in absurd (let y : ⊥ = omega arith in y)
+    no : {P : Type 0} → ◌≡◌ {A = Bounded} (Ok B) (Err r) → P
+    no h = absurd (let y : ⊥ = cc in y)
 
 refused-not : {A P : Type 0} (r : Refusal) (v : A) → ◌≡◌ {A = Answer A} (refused r) (done v) → P
-refused-not r v h = let z : ◌≡◌ {A = ℕ} 0 1 = cc in absurd (let y : ⊥ = omega arith in y)
+refused-not r v h = absurd (let y : ⊥ = cc in y)
 
 -- no test of it has refused
 called : {A : Type 0} (s l r : Bool) (a : Answer A) (v : A) → call s l r true a ≡ done v → (s ≡ true) × (l ≡ true) × (r ≡ true) × (a ≡ done v)
@@ -75,7 +75,7 @@ record Stored (d : Measured) (t B : Float) (x x' mu mu' : List Float) (s : Settl
   pub lengths-right : are_lengths d x mu ≡ true
   pub tested : (b : Answer Settled) → numbers_tested d b ≡ b
 
-stored : {P : Type 0} (d : Measured) (t B : Float) (x x' mu mu' w w' : List Float) (iw iw' : List ℕ) → Settles (settle_call d t x mu w iw) (bounded.Done B) x x' mu mu' w w' iw iw'
+stored : {P : Type 0} (d : Measured) (t B : Float) (x x' mu mu' w w' : List Float) (iw iw' : List ℕ) → Settles (settle_call d t x mu w iw) (Ok B) x x' mu mu' w w' iw iw'
     → ((s : Settled) → Stored d t B x x' mu mu' s → P) → P
 stored d t B x x' mu mu' w w' iw iw' S k =
     done-of (λ (s : Settled). s.far) (settle_call d t x mu w iw) B S.the_outcome
@@ -134,19 +134,19 @@ gives_back d t B x x' mu mu' w w' u iw iw' iu S lx room =
 
 -- ---- beside the day's reconciliation
 
-reconciled : {P : Type 0} (d : Day) (v v' : List Float) (marks marks' : List ℕ) (w w' : List Float) (iw iw' : List ℕ) → Reconciles d.n (day_call d v marks w iw) Done v v' marks marks' w w' iw iw'
+reconciled : {P : Type 0} (d : Day) (v v' : List Float) (marks marks' : List ℕ) (w w' : List Float) (iw iw' : List ℕ) → Reconciles d.n (day_call d v marks w iw) (Ok tt) v v' marks marks' w w' iw iw'
     → ((l : Solution) → (corrected d).answer ≡ done l → v' ≡ l.x → P) → P
 reconciled {P = P} d v v' marks marks' w w' iw iw' R k = go (day_call d v marks w iw) refl R.the_outcome
   where
-    no : {P : Type 0} (r : Refusal) → Done ≡ Refused r → P
-    no r h = let z : ◌≡◌ {A = ℕ} 0 1 = cc in absurd (let y : ⊥ = omega arith in y)
+    no : {P : Type 0} (r : Refusal) → ◌≡◌ {A = Outcome} (Ok tt) (Err r) → P
+    no r h = absurd (let y : ⊥ = cc in y)
 
     sound : (l : Solution) (c : Answer Solution) → Lowest d.before d.after d.spreads d.n (corrected d).answer c → c ≡ done l → (corrected d).answer ≡ done l
     sound l c (all_sound h e) q = sym e ∙ q
     sound l c (wrong_reading i h s b e) q = refused-not _ l (sym e ∙ q)
     sound l c (wrong_spread i h s b p e) q = refused-not _ l (sym e ∙ q)
 
-    go : (c : Answer Solution) → day_call d v marks w iw ≡ c → Done ≡ outcome_of (day_call d v marks w iw) → P
+    go : (c : Answer Solution) → day_call d v marks w iw ≡ c → ◌≡◌ {A = Outcome} (Ok tt) (outcome_of (day_call d v marks w iw)) → P
     go (done l) e o =
         let c = called (day.are_sizes d) (day.are_lengths d v marks) (is_room w iw) (meters d.before d.after d.spreads d.n 0 (corrected d).answer) l e in
         k l (sound l (meters d.before d.after d.spreads d.n 0 (corrected d).answer) (lowest-first Solution d.before d.after d.spreads d.n (corrected d).answer) c.3)

@@ -4,12 +4,11 @@ use Rattle.numbers.specs.Numbers.{at}
 use Rattle.workspace.specs.Tables.{Answer, done, refused, call, test, output, floats, words, is_equalities, is_room, is_tolerance, has}
 use Rattle.workspace.specs.declared.Refusal.{Refusal}
 use Rattle.workspace.specs.declared.Refusal.TheVariants.{Tolerance, Reading, Spread, Bound}
-use Rattle.workspace.specs.declared.Outcome.{Outcome}
-use Rattle.workspace.specs.declared.Outcome.TheVariants.{Done, Refused}
+use Rattle.workspace.specs.Tables.{Outcome}
+use Rattle.std.specs.Prelude.{Result, Ok, Err}
 use Rattle.interval.specs.Intervals.{is_finite, is_positive}
 use Rattle.settle.specs.Settle.{Measured, Settled, certified, settled}
-use Rattle.settle_call.specs.declared.Bounded.{Bounded}
-use Rattle.settle_call.specs.declared.Bounded.TheVariants as bounded
+use Rattle.std.specs.Prelude.{Result, Ok, Err}
 
 -- ---- tests
 
@@ -24,16 +23,16 @@ are_lengths d x mu =
 
 -- value i is finite, and then its spread is finite and positive
 abbrev pub value_told : (value spread : Float) → ℕ → Outcome
-value_told v s i = cond (is_finite v) (cond (is_positive s) Done (Refused (Spread i))) (Refused (Reading i))
+value_told v s i = cond (is_finite v) (cond (is_positive s) (Ok tt) (Err (Spread i))) (Err (Reading i))
 
 -- what limit k is at least is finite
 abbrev pub least_told : Float → ℕ → Outcome
-least_told b k = cond (is_finite b) Done (Refused (Bound k))
+least_told b k = cond (is_finite b) (Ok tt) (Err (Bound k))
 
 -- a test that refuses ends it
 abbrev pub after : {A : Type 0} → Outcome → Answer A → Answer A
-after Done a = a
-after (Refused r) a = refused r
+after (Ok tt) a = a
+after (Err r) a = refused r
 
 -- n tests from i on, the lowest first
 unfoldable pub in_turn : {A : Type 0} → (ℕ → Outcome) → (n i : ℕ) → Answer A → Answer A
@@ -46,9 +45,12 @@ numbers_tested d a = in_turn (λ i. value_told (at d.values i) (at d.spreads i) 
 
 -- ---- what a call tells: where it is done, a bound
 
+abbrev pub Bounded : Type 0
+Bounded = Result Float Refusal
+
 abbrev pub bound_of : {A : Type 0} → (A → Float) → Answer A → Bounded
-bound_of far (done s) = bounded.Done (far s)
-bound_of far (refused r) = bounded.Refused r
+bound_of far (done s) = Ok (far s)
+bound_of far (refused r) = Err r
 
 -- ---- settling: LSEI's refusals pass through
 

@@ -5,7 +5,7 @@ ghost use Rattle.settle.specs.Settle.{measured};
 ghost use Rattle.settle_call.specs.Promise.{value_told, least_told};
 ghost use Rattle.settle_call.specs.inner.Work.{called_on, told_from, values_told, leasts_told};
 
-use workspace::{Outcome, Refusal};
+use workspace::Refusal;
 
 // ---- sizes and lengths
 
@@ -64,55 +64,49 @@ fn are_answers(n: usize, m: usize, p: usize, volumes: usize, multipliers: usize)
 // ---- numbers
 
 // One value: where it is not finite, that is told before a wrong spread.
-fn test_value(value: f64, spread: f64, i: u32) -> Outcome
+fn test_value(value: f64, spread: f64, i: u32) -> Result<(), Refusal>
     ensures { result ≡ value_told value spread i }
 {
     let finite = interval::is_finite(value);
     let positive = interval::is_positive(spread);
     if !finite {
-        return Outcome::Refused(Refusal::Reading(i));
+        return Err(Refusal::Reading(i));
     }
     if !positive {
-        return Outcome::Refused(Refusal::Spread(i));
+        return Err(Refusal::Spread(i));
     }
-    Outcome::Done
+    Ok(())
 }
 
 // All values, the lowest first.
-fn test_values(values: &[f64], spreads: &[f64], n: usize) -> Outcome
+fn test_values(values: &[f64], spreads: &[f64], n: usize) -> Result<(), Refusal>
     requires { (n ≤ 16) × (length values.now ≡ n) × (length spreads.now ≡ n) }
     ensures { result ≡ told_from (values_told values.now spreads.now) n 0 }
 {
     for i in 0..n {
-        let told = test_value(values[i], spreads[i], i as u32);
-        let Outcome::Done = told else {
-            return told;
-        };
+        test_value(values[i], spreads[i], i as u32)?;
     }
-    Outcome::Done
+    Ok(())
 }
 
-fn test_least(least: f64, k: u32) -> Outcome
+fn test_least(least: f64, k: u32) -> Result<(), Refusal>
     ensures { result ≡ least_told least k }
 {
     if !interval::is_finite(least) {
-        return Outcome::Refused(Refusal::Bound(k));
+        return Err(Refusal::Bound(k));
     }
-    Outcome::Done
+    Ok(())
 }
 
 // The least of all limits, the lowest first.
-fn test_leasts(least: &[f64], p: usize) -> Outcome
+fn test_leasts(least: &[f64], p: usize) -> Result<(), Refusal>
     requires { (p ≤ 48) × (length least.now ≡ p) }
     ensures { result ≡ told_from (leasts_told least.now) p 0 }
 {
     for k in 0..p {
-        let told = test_least(least[k], k as u32);
-        let Outcome::Done = told else {
-            return told;
-        };
+        test_least(least[k], k as u32)?;
     }
-    Outcome::Done
+    Ok(())
 }
 
 // ---- all of them
@@ -131,11 +125,11 @@ pub fn test_call(
     w: usize,
     iw: usize,
     tolerance: f64,
-) -> Outcome
+) -> Result<(), Refusal>
     ensures { result ≡ outcome_of {A = Unit} (called_on (measured n m p values.now spreads.now balances.now limits.now least.now) tolerance volumes multipliers w iw (done tt)) }
 {
     if !are_sizes(n, m, p) {
-        return Outcome::Refused(Refusal::Size);
+        return Err(Refusal::Size);
     }
     if !are_lengths(
         n,
@@ -147,20 +141,17 @@ pub fn test_call(
         limits.len(),
         least.len(),
     ) {
-        return Outcome::Refused(Refusal::Length);
+        return Err(Refusal::Length);
     }
     if !are_answers(n, m, p, volumes, multipliers) {
-        return Outcome::Refused(Refusal::Length);
+        return Err(Refusal::Length);
     }
     if !workspace::is_room(w, iw) {
-        return Outcome::Refused(Refusal::Room);
+        return Err(Refusal::Room);
     }
     if !workspace::is_tolerance(tolerance) {
-        return Outcome::Refused(Refusal::Tolerance);
+        return Err(Refusal::Tolerance);
     }
-    let told = test_values(values, spreads, n);
-    let Outcome::Done = told else {
-        return told;
-    };
+    test_values(values, spreads, n)?;
     test_leasts(least, p)
 }

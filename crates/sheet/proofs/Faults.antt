@@ -10,14 +10,16 @@ use lib.Dec.{ltb, eqb}
 use lib.ListN.{length, take, length-take}
 use lib.Seq.{take_all}
 use lib.Ieee.{Float}
+use Rattle.std.specs.Prelude.{Result, Ok, Err}
 use Rattle.numbers.proofs.Cases.{lt-or-ge}
 use Rattle.day_words.specs.Words.{lines_of, without_return}
 use Rattle.sheet_words.specs.declared.Expected.{Expected}
 use Rattle.sheet_words.specs.declared.Expected.TheVariants.{TitleLine, MeterLine, BalanceLine, ToleranceLine}
 use Rattle.sheet_words.specs.Lines.{after_mark}
 use Rattle.sheet_lines.specs.Lines.{State, Line, taken, wrong}
-use Rattle.sheet.specs.declared.Sheet.{Sheet}
-use Rattle.sheet.specs.declared.Sheet.TheVariants.{Whole, Fault, Long}
+use Rattle.sheet.specs.declared.Sizes.{Sizes}
+use Rattle.sheet.specs.declared.Unread.{Unread}
+use Rattle.sheet.specs.declared.Unread.TheVariants.{Fault, Long}
 use Rattle.sheet.specs.Sheet.{line_read, whole, fault, long, sheet_end, onward, lines_read, at_start, sheet_of}
 use Rattle.sheet.specs.Promise.{told, BlankUnlessWhole}
 use Rattle.sheet.specs.Claims.{NoneWithin, First, FirstFault, Same, OneAnswer, EnoughBytes}
@@ -119,16 +121,16 @@ unlike h = absurd (let z : ◌≡◌ {A = ℕ} 0 1 = cc in omega arith)
 whole_long : {A : Type 0} {i b l d : ℕ} {t v : List ℕ} {x : List Float} → whole i b l d t v x ≡ long → A
 whole_long h = absurd (let z : ◌≡◌ {A = ℕ} 0 1 = cc in omega arith)
 
-same : (bytes : List ℕ) (r q : Sheet) (a b : List ℕ) (x : List Float) (c d : List ℕ) (y : List Float) → told bytes r a b x ≡ told bytes q c d y → BlankUnlessWhole r a b x → BlankUnlessWhole q c d y → Same bytes r q a b x c d y
-same bytes (Whole i j l m) (Whole i' j' l' m') a b x c d y h f g = record { answer = (cc, cc, cc, cc); same_texts = cc; same_wholes = cc; same_numbers = cc }
-same bytes (Fault n e s t) (Fault n' e' s' t') a b x c d y h f g = record { answer = (cc, cc, cc); same_texts = f.0 ∙ sym g.0; same_wholes = f.1 ∙ sym g.1; same_numbers = f.2 ∙ sym g.2 }
-same bytes Long Long a b x c d y h f g = record { answer = tt; same_texts = f.0 ∙ sym g.0; same_wholes = f.1 ∙ sym g.1; same_numbers = f.2 ∙ sym g.2 }
-same bytes (Whole i j l m) (Fault n e s t) a b x c d y h f g = unlike h
-same bytes (Whole i j l m) Long a b x c d y h f g = whole_long h
-same bytes (Fault n e s t) (Whole i j l m) a b x c d y h f g = unlike (sym h)
-same bytes (Fault n e s t) Long a b x c d y h f g = not_long (sym h)
-same bytes Long (Whole i j l m) a b x c d y h f g = whole_long (sym h)
-same bytes Long (Fault n e s t) a b x c d y h f g = not_long h
+same : (bytes : List ℕ) (r q : Result Sizes Unread) (a b : List ℕ) (x : List Float) (c d : List ℕ) (y : List Float) → told bytes r a b x ≡ told bytes q c d y → BlankUnlessWhole r a b x → BlankUnlessWhole q c d y → Same bytes r q a b x c d y
+same bytes (Ok n) (Ok m) a b x c d y h f g = record { answer = (cc, cc, cc, cc); same_texts = cc; same_wholes = cc; same_numbers = cc }
+same bytes (Err (Fault n w)) (Err (Fault m v)) a b x c d y h f g = record { answer = (cc, cc, cc); same_texts = f.0 ∙ sym g.0; same_wholes = f.1 ∙ sym g.1; same_numbers = f.2 ∙ sym g.2 }
+same bytes (Err Long) (Err Long) a b x c d y h f g = record { answer = tt; same_texts = f.0 ∙ sym g.0; same_wholes = f.1 ∙ sym g.1; same_numbers = f.2 ∙ sym g.2 }
+same bytes (Ok n) (Err (Fault m v)) a b x c d y h f g = unlike h
+same bytes (Ok n) (Err Long) a b x c d y h f g = whole_long h
+same bytes (Err (Fault m v)) (Ok n) a b x c d y h f g = unlike (sym h)
+same bytes (Err (Fault m v)) (Err Long) a b x c d y h f g = not_long (sym h)
+same bytes (Err Long) (Ok n) a b x c d y h f g = whole_long (sym h)
+same bytes (Err Long) (Err (Fault m v)) a b x c d y h f g = not_long h
 
 pub one_answer : OneAnswer
 one_answer bytes r q a b x c d y h k = same bytes r q a b x c d y (h.answer ∙ sym k.answer) h.blank k.blank

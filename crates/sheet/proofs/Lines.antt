@@ -9,6 +9,8 @@ use lib.Dec.{eqb}
 use lib.ListN.{length, take, drop, get_or, replicate, length-drop, length-take, length-replicate, drop_of_length-le}
 use lib.Seq.{drop-drop, take-take, take_all}
 use lib.Ieee.{Float}
+use Rattle.std.specs.Prelude.{Result, Ok, Err}
+use Rattle.std.specs.Result.{is_ok}
 use Rattle.numbers.specs.Numbers.{+0}
 use Rattle.endian.specs.Little.{placed}
 use Rattle.ascii.specs.inner.Work.{Wrote}
@@ -19,15 +21,15 @@ use Rattle.sheet_words.specs.declared.Expected.{Expected}
 use Rattle.sheet_words.specs.declared.Expected.TheVariants.{Kind, SmallKind, TitleLine, MeterLine, BalanceLine, ToleranceLine}
 use Rattle.sheet_words.specs.Lines.{after_mark, unremarked, between, Lies}
 use Rattle.sheet_parts.proofs.Laws.{drop_of_take}
-use Rattle.sheet_lines.specs.declared.Step.{Step}
-use Rattle.sheet_lines.specs.declared.Step.TheVariants.{Next, Wrong}
-use Rattle.sheet.specs.declared.Sheet.{Sheet}
-use Rattle.sheet.specs.declared.Sheet.TheVariants.{Whole, Fault, Long}
+use Rattle.sheet.specs.declared.Sizes.{Sizes}
+use Rattle.sheet.specs.declared.Unread.{Unread}
+use Rattle.sheet.specs.declared.Unread.TheVariants.{Fault, Long}
+use Rattle.sheet_words.specs.declared.Wrong.{Wrong}
+use Rattle.sheet_lines.specs.declared.Counts.{Counts}
 use Rattle.sheet_lines.specs.Lines.{State, taken, wrong, title_line, doubt_line, item_line, balance_line, limit_line, tolerance_line}
-use Rattle.sheet.specs.Sheet.{is_passed, kinds, kind_of, is_alike, plain_line, line_read, whole, fault, long, sheet_end, onward, lines_read, blank_texts, blank_wholes, blank_numbers, at_start, sheet_of}
-use Rattle.sheet.specs.Promise.{told, BlankUnlessWhole}
+use Rattle.sheet.specs.Sheet.{Outcome, is_passed, kinds, kind_of, is_alike, plain_line, line_read, whole, fault, long, sheet_end, onward, lines_read, blank_texts, blank_wholes, blank_numbers, at_start, sheet_of}
+use Rattle.sheet.specs.Promise.{told, BlankUnlessWhole, Fits}
 use Rattle.sheet_lines.specs.inner.Work.{line_told, Sound}
-use Rattle.sheet.specs.inner.Work.{is_whole}
 
 -- ---- blank tables
 
@@ -140,13 +142,13 @@ plain-cut line at from n k s e =
     ∙ ap (λ (t : List ℕ). plain_line k (between at from line) t s) (cut-rest line from n e)
 
 -- what a line tells is told of the text of which it is the front
-pub cut-told : (n : ℕ) (l : List ℕ) (r : Step) (texts wholes : List ℕ) (numbers : List Float) → Sound (take n l) r → line_told l r texts wholes numbers ≡ line_told (take n l) r texts wholes numbers
-cut-told n l (Next s) texts wholes numbers h = refl
-cut-told n l (Wrong e a b) texts wholes numbers h = ap (wrong e) (sym (cut-between n a b l (let z = length-take n l in omega (arith, z, h.1))))
+pub cut-told : (n : ℕ) (l : List ℕ) (r : Result Counts Wrong) (texts wholes : List ℕ) (numbers : List Float) → Sound (take n l) r → line_told l r texts wholes numbers ≡ line_told (take n l) r texts wholes numbers
+cut-told n l (Ok s) texts wholes numbers h = refl
+cut-told n l (Err w) texts wholes numbers h = ap (wrong w.expected) (sym (cut-between n w.word.start w.word.end l (let z = length-take n l in omega (arith, z, h.1))))
 
-pub cut-sound : (n : ℕ) (l : List ℕ) (r : Step) → Sound (take n l) r → Sound l r
-cut-sound n l (Next s) h = h
-cut-sound n l (Wrong e a b) h = (h.0, let z = length-take n l in omega (arith, z, h.1))
+pub cut-sound : (n : ℕ) (l : List ℕ) (r : Result Counts Wrong) → Sound (take n l) r → Sound l r
+cut-sound n l (Ok s) h = h
+cut-sound n l (Err w) h = (h.0, let z = length-take n l in omega (arith, z, h.1))
 
 -- the word of a fault in the line from `at` to `end` of the bytes, cut to n
 module _ (bytes : List ℕ) (at end n a b : ℕ) (h : Lies at end bytes) (g : Lies a b (take n (between at end bytes))) where
@@ -234,18 +236,24 @@ sheet-start bs l texts wholes numbers h m a b c = rw (m, a, b, c) (sheet-read bs
 
 -- ---- what is left in the tables
 
-pub whole-free : (r : Sheet) (texts wholes : List ℕ) (numbers : List Float) → is_whole r ≡ true → BlankUnlessWhole r texts wholes numbers
-whole-free (Whole i b l d) texts wholes numbers h = tt
-whole-free (Fault line e start end) texts wholes numbers h = absurd (let z : ◌≡◌ {A = ℕ} 0 1 = cc in omega arith)
-whole-free Long texts wholes numbers h = absurd (let z : ◌≡◌ {A = ℕ} 0 1 = cc in omega arith)
+pub whole-free : (r : Result Sizes Unread) (texts wholes : List ℕ) (numbers : List Float) → is_ok r ≡ true → BlankUnlessWhole r texts wholes numbers
+whole-free (Ok n) texts wholes numbers h = tt
+whole-free (Err u) texts wholes numbers h = absurd (let z : ◌≡◌ {A = ℕ} 0 1 = cc in omega arith)
 
-pub left-blank : (r : Sheet) (texts wholes : List ℕ) (numbers : List Float) → (texts ≡ blank_texts) × (wholes ≡ blank_wholes) × (numbers ≡ blank_numbers) → BlankUnlessWhole r texts wholes numbers
-left-blank (Whole i b l d) texts wholes numbers h = tt
-left-blank (Fault line e start end) texts wholes numbers h = h
-left-blank Long texts wholes numbers h = h
+pub left-blank : (r : Result Sizes Unread) (texts wholes : List ℕ) (numbers : List Float) → (texts ≡ blank_texts) × (wholes ≡ blank_wholes) × (numbers ≡ blank_numbers) → BlankUnlessWhole r texts wholes numbers
+left-blank (Ok n) texts wholes numbers h = tt
+left-blank (Err u) texts wholes numbers h = h
 
 -- a fault is told whatever the tables hold
-pub told-alike : (bytes : List ℕ) (r : Sheet) (a b : List ℕ) (x : List Float) (c d : List ℕ) (y : List Float) → is_whole r ≡ false → told bytes r a b x ≡ told bytes r c d y
-told-alike bytes (Whole i j l m) a b x c d y h = absurd (let z : ◌≡◌ {A = ℕ} 0 1 = cc in omega arith)
-told-alike bytes (Fault line e start end) a b x c d y h = refl
-told-alike bytes Long a b x c d y h = refl
+pub told-alike : (bytes : List ℕ) (r : Result Sizes Unread) (a b : List ℕ) (x : List Float) (c d : List ℕ) (y : List Float) → is_ok r ≡ false → told bytes r a b x ≡ told bytes r c d y
+told-alike bytes (Ok n) a b x c d y h = absurd (let z : ◌≡◌ {A = ℕ} 0 1 = cc in omega arith)
+told-alike bytes (Err (Fault line w)) a b x c d y h = refl
+told-alike bytes (Err Long) a b x c d y h = refl
+
+-- what is missing is told with no word
+module _ (line : ℕ) (e : Expected) (u : Unread) (M : u ≡ Fault line (record { expected = e; word = record { start = 0; end = 0 } })) (bytes : List ℕ) where
+  pub missing-told : (texts wholes : List ℕ) (numbers : List Float) (o : Outcome) → fault line e [] ≡ o → told bytes (Err u) texts wholes numbers ≡ o
+  missing-told texts wholes numbers o h = rw M h
+
+  pub missing-fits : Fits bytes (Err u)
+  missing-fits = rw M (omega arith, omega arith)

@@ -7,14 +7,13 @@ use Prim.Native.Nat.{ℕ, zero, suc, ◌+◌, ◌*◌, ◌≤◌, ◌<◌}
 use native.Mathlib.Omega.{arith}
 use lib.Dec.{ltb}
 use lib.ListN.{length, take, drop}
+use Rattle.std.specs.Prelude.{Result, Ok, Err}
 use Rattle.numbers.proofs.Cases.{lt-or-ge}
 use Rattle.endian.specs.Little.{placed}
 use Rattle.day_words.specs.Words.{word}
 use Rattle.day_words.specs.Items.{filled}
 use Rattle.sheet_words.specs.declared.Expected.TheVariants.{Name, ShortName, PlainName, NewName}
 use Rattle.sheet_words.specs.declared.Expected.{Expected}
-use Rattle.sheet_words.specs.declared.Judged.{Judged}
-use Rattle.sheet_words.specs.declared.Judged.TheVariants.{Fine, Not}
 use Rattle.sheet_words.specs.Names.{same_small, begins_letter, are_name_bytes, is_taken, name_judged}
 use Rattle.sheet_parts.specs.Parts.{named, named_by, name_at}
 use Rattle.sheet.specs.Claims.{NamesOnce}
@@ -34,23 +33,23 @@ not-among (suc left) k name texts h j a b = ⊎_elim
     p : (same_small (take 16 (drop (16 * k) texts)) name ≡ false) × (is_taken left (suc k) name texts ≡ false)
     p = or-both (same_small (take 16 (drop (16 * k) texts)) name) (is_taken left (suc k) name texts) h
 
-unlike : {A : Type 0} {e : Expected} → Not e ≡ Fine → A
+unlike : {A : Type 0} {e : Expected} → ◌≡◌ {A = Result Unit Expected} (Err e) (Ok tt) → A
 unlike h = absurd (let z : ◌≡◌ {A = ℕ} 0 1 = cc in omega arith)
 
-fine-new : (a b c d : Bool) → cond a (Not Name) (cond b (Not ShortName) (cond c (Not PlainName) (cond d (Not NewName) Fine))) ≡ Fine → d ≡ false
+fine-new : (a b c d : Bool) → ◌≡◌ {A = Result Unit Expected} (cond a (Err Name) (cond b (Err ShortName) (cond c (Err PlainName) (cond d (Err NewName) (Ok tt))))) (Ok tt) → d ≡ false
 fine-new true b c d h = unlike h
 fine-new false true c d h = unlike h
 fine-new false false true d h = unlike h
 fine-new false false false true h = unlike h
 fine-new false false false false h = refl
 
-judged-new : (w texts : List ℕ) → name_judged w texts ≡ Fine → is_taken 48 0 (filled w) texts ≡ false
+judged-new : (w texts : List ℕ) → name_judged w texts ≡ Ok tt → is_taken 48 0 (filled w) texts ≡ false
 unfolding name_judged
 judged-new w texts h = fine-new (not (begins_letter w)) (ltb 16 (length w)) (not (are_name_bytes w)) (is_taken 48 0 (filled w) texts) h
 
-named-by : (r : Judged) (k : ℕ) (text texts t texts' : List ℕ) → named_by r k text texts ≡ named t texts' → (r ≡ Fine) × (texts' ≡ placed (16 * k) (filled (word text)) texts)
-named-by Fine k text texts t texts' h = (refl, cc)
-named-by (Not e) k text texts t texts' h = absurd (let z : ◌≡◌ {A = ℕ} 0 1 = cc in omega arith)
+named-by : (r : Result Unit Expected) (k : ℕ) (text texts t texts' : List ℕ) → named_by r k text texts ≡ named t texts' → (r ≡ Ok tt) × (texts' ≡ placed (16 * k) (filled (word text)) texts)
+named-by (Ok u) k text texts t texts' h = (refl, cc)
+named-by (Err e) k text texts t texts' h = absurd (let z : ◌≡◌ {A = ℕ} 0 1 = cc in omega arith)
 
 pub names-once : NamesOnce
 unfolding name_at

@@ -1,14 +1,15 @@
 -- What is shown of a sheet's reading: the fault told is the first, one answer only, 65,537 bytes decide, names are given once. Definitions only.
-use Rattle.std.specs.Prelude.{◌≡◌, List, false, ℕ, ◌*◌, ◌≤◌, ◌<◌, length, take, drop, Float}
+use Rattle.std.specs.Prelude.{Result, Ok, Err, ◌≡◌, List, false, ℕ, ◌*◌, ◌≤◌, ◌<◌, length, take, drop, Float}
 use Rattle.endian.specs.Little.{placed}
 use Rattle.day_words.specs.Words.{lines_of, word}
 use Rattle.day_words.specs.Items.{filled}
 use Rattle.sheet_words.specs.declared.Expected.{Expected}
 use Rattle.sheet_words.specs.Names.{same_small}
-use Rattle.sheet_words.specs.Lines.{after_mark, between}
+use Rattle.sheet_words.specs.Lines.{after_mark, found}
 use Rattle.sheet_parts.specs.Parts.{named, name_at}
-use Rattle.sheet.specs.declared.Sheet.{Sheet}
-use Rattle.sheet.specs.declared.Sheet.TheVariants.{Whole, Fault, Long}
+use Rattle.sheet.specs.declared.Sizes.{Sizes}
+use Rattle.sheet.specs.declared.Unread.{Unread}
+use Rattle.sheet.specs.declared.Unread.TheVariants.{Fault, Long}
 use Rattle.sheet.specs.Sheet.{Outcome, whole, fault, long, lines_read, at_start, sheet_of}
 use Rattle.sheet.specs.Promise.{Reads}
 
@@ -32,25 +33,23 @@ FirstFault = (bytes : List ℕ) (line : ℕ) (e : Expected) (w : List ℕ) → s
 -- ---- one answer only
 
 -- the same counts, or the same line, expectation and word
-abbrev pub SameAnswer : (bytes : List ℕ) → (r q : Sheet) → Type 0
-SameAnswer bytes (Whole i b l d) (Whole i' b' l' d') = (i ≡ i') × (b ≡ b') × (l ≡ l') × (d ≡ d')
-SameAnswer bytes (Fault line e start end) (Fault line' e' start' end') = (line ≡ line') × (e ≡ e') × (between start end bytes ≡ between start' end' bytes)
-SameAnswer bytes Long Long = Unit
-SameAnswer bytes (Whole i b l d) (Fault line e start end) = ⊥
-SameAnswer bytes (Whole i b l d) Long = ⊥
-SameAnswer bytes (Fault line e start end) (Whole i b l d) = ⊥
-SameAnswer bytes (Fault line e start end) Long = ⊥
-SameAnswer bytes Long (Whole i b l d) = ⊥
-SameAnswer bytes Long (Fault line e start end) = ⊥
+abbrev pub SameAnswer : (bytes : List ℕ) → (r q : Result Sizes Unread) → Type 0
+SameAnswer bytes (Ok n) (Ok m) = (n.items ≡ m.items) × (n.balances ≡ m.balances) × (n.limits ≡ m.limits) × (n.doubts ≡ m.doubts)
+SameAnswer bytes (Err (Fault line w)) (Err (Fault line' w')) = (line ≡ line') × (w.expected ≡ w'.expected) × (found bytes w ≡ found bytes w')
+SameAnswer bytes (Err Long) (Err Long) = Unit
+SameAnswer bytes (Ok n) (Err u) = ⊥
+SameAnswer bytes (Err u) (Ok n) = ⊥
+SameAnswer bytes (Err (Fault line w)) (Err Long) = ⊥
+SameAnswer bytes (Err Long) (Err (Fault line w)) = ⊥
 
-pub record Same (bytes : List ℕ) (r q : Sheet) (texts wholes : List ℕ) (numbers : List Float) (texts' wholes' : List ℕ) (numbers' : List Float) : Type 0 where
+pub record Same (bytes : List ℕ) (r q : Result Sizes Unread) (texts wholes : List ℕ) (numbers : List Float) (texts' wholes' : List ℕ) (numbers' : List Float) : Type 0 where
   pub answer : SameAnswer bytes r q
   pub same_texts : texts ≡ texts'
   pub same_wholes : wholes ≡ wholes'
   pub same_numbers : numbers ≡ numbers'
 
 abbrev pub OneAnswer : Type 0
-OneAnswer = (bytes : List ℕ) (r q : Sheet) (texts wholes : List ℕ) (numbers : List Float) (texts' wholes' : List ℕ) (numbers' : List Float)
+OneAnswer = (bytes : List ℕ) (r q : Result Sizes Unread) (texts wholes : List ℕ) (numbers : List Float) (texts' wholes' : List ℕ) (numbers' : List Float)
     → Reads bytes r texts wholes numbers → Reads bytes q texts' wholes' numbers'
     → Same bytes r q texts wholes numbers texts' wholes' numbers'
 

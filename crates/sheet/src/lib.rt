@@ -7,16 +7,25 @@ ghost use Rattle.sheet_words.specs.Lines.{between, Lies};
 ghost use Rattle.sheet.specs.Sheet.{blank_texts, blank_wholes, blank_numbers, is_passed, kinds as sheet_kinds, kind_of, is_alike, plain_line, line_read, lines_read};
 ghost use Rattle.sheet.specs.Promise.{told, Fits, Reads};
 ghost use Rattle.sheet_lines.specs.inner.Work.{state, line_told, Few, Sound};
-ghost use Rattle.sheet.specs.inner.Work.{no_counts, is_whole, IsEnd, FitsAnywhere};
+ghost use Rattle.sheet.specs.inner.Work.{no_counts, IsEnd, FitsAnywhere};
 
-use sheet_lines::{Counts, Step};
-use sheet_words::Expected;
+use day_words::Word;
+use sheet_lines::Counts;
+use sheet_words::{Expected, Wrong};
 
-// A whole sheet with its numbers of items, balances, limits and doubts, or its first fault: the line, what was expected there, and the places of the word found.
+// How many items, balances, limits and doubts a whole sheet has.
 #[derive(Clone, Copy)]
-pub enum Sheet {
-    Whole(usize, usize, usize, usize),
-    Fault(usize, Expected, usize, usize),
+pub struct Sizes {
+    pub items: usize,
+    pub balances: usize,
+    pub limits: usize,
+    pub doubts: usize,
+}
+
+// Why a sheet is not whole: its first fault, by the line and by the word's places in all its bytes; or it is too long.
+#[derive(Clone, Copy)]
+pub enum Unread {
+    Fault(usize, Wrong),
     Long,
 }
 
@@ -30,7 +39,7 @@ fn is_passed(word: &[u8]) -> bool
     word[0] == b'#'
 }
 
-// The kind of line that a word begins; 9 where it is none.
+// The kind of line that a word begins, by its place among the kinds; 9 where it is none. A number, since an item's kind goes into the table as it is.
 fn kind_of(word: &[u8]) -> u32
     ensures { result ≡ kind_of word.now }
 {
@@ -99,34 +108,33 @@ fn is_kind(word: &[u8]) -> bool
 fn take_plain(
     k: u32,
     line: &[u8],
-    at: usize,
-    from: usize,
+    kind: Word,
     s: Counts,
     texts: &mut [u8],
     wholes: &mut [u32],
     numbers: &mut [f64],
-) -> Step
-    requires { Lies at from line.now × Few s × (length texts.old ≡ 1992) × (length wholes.old ≡ 64) × (length numbers.old ≡ 577) }
+) -> Result<Counts, Wrong>
+    requires { Lies kind.start kind.end line.now × Few s × (length texts.old ≡ 1992) × (length wholes.old ≡ 64) × (length numbers.old ≡ 577) }
     ensures numbers_after { line_told line.now result texts.new wholes.new numbers.new
-        ≡ plain_line k (between at from line.now) (drop from line.now) (state s texts.old wholes.old numbers.old) }
+        ≡ plain_line k (between kind.start kind.end line.now) (drop kind.end line.now) (state s texts.old wholes.old numbers.old) }
     ensures sound { Sound line.now result }
 {
     if k < 3 {
-        return sheet_lines::item_line(k, line, at, from, s, texts, wholes, numbers);
+        return sheet_lines::item_line(k, line, kind, s, texts, wholes, numbers);
     }
     if k == 3 {
-        return sheet_lines::balance_line(line, at, from, s, texts, numbers);
+        return sheet_lines::balance_line(line, kind, s, texts, numbers);
     }
     if k < 6 {
-        return sheet_lines::limit_line(k - 4, line, at, from, s, texts, wholes, numbers);
+        return sheet_lines::limit_line(k - 4, line, kind, s, texts, wholes, numbers);
     }
     if k == 6 {
-        return sheet_lines::tolerance_line(line, at, from, s, numbers);
+        return sheet_lines::tolerance_line(line, kind, s, numbers);
     }
-    if is_kind(&line[at..from]) {
-        return Step::Wrong(Expected::SmallKind, at, from);
+    if is_kind(&line[kind.start..kind.end]) {
+        return Err(Wrong::new(Expected::SmallKind, kind));
     }
-    Step::Wrong(Expected::Kind, at, from)
+    Err(Wrong::new(Expected::Kind, kind))
 }
 
 // One line, by its first word.
@@ -136,29 +144,27 @@ fn take_line(
     texts: &mut [u8],
     wholes: &mut [u32],
     numbers: &mut [f64],
-) -> Step
+) -> Result<Counts, Wrong>
     requires { Few s × (length texts.old ≡ 1992) × (length wholes.old ≡ 64) × (length numbers.old ≡ 577) }
     ensures numbers_after { line_told line.now result texts.new wholes.new numbers.new
         ≡ line_read line.now (state s texts.old wholes.old numbers.old) }
     ensures sound { Sound line.now result }
 {
     let w = day_words::find_word(line, 0);
-    let at = w.start;
-    let from = w.end;
-    let word = &line[at..from];
+    let word = &line[w.start..w.end];
     if is_passed(word) {
-        return Step::Next(s);
+        return Ok(s);
     }
     let k = kind_of(word);
     if k == 7 {
-        return sheet_lines::title_line(line, at, from, s, texts);
+        return sheet_lines::title_line(line, w, s, texts);
     }
     if k == 8 {
-        return sheet_lines::doubt_line(line, at, from, s, texts);
+        return sheet_lines::doubt_line(line, w, s, texts);
     }
-    let n = sheet_words::before_remark(&line[from..]);
-    let end = from + n;
-    take_plain(k, &line[..end], at, from, s, texts, wholes, numbers)
+    let n = sheet_words::before_remark(&line[w.end..]);
+    let end = w.end + n;
+    take_plain(k, &line[..end], w, s, texts, wholes, numbers)
 }
 
 // The line at a place, which ends before `end`.
@@ -170,7 +176,7 @@ fn next_line(
     texts: &mut [u8],
     wholes: &mut [u32],
     numbers: &mut [f64],
-) -> Step
+) -> Result<Counts, Wrong>
     requires { Lies at end bytes.now × Few s × (length texts.old ≡ 1992) × (length wholes.old ≡ 64) × (length numbers.old ≡ 577) }
     ensures numbers_after { line_told bytes.now result texts.new wholes.new numbers.new
         ≡ line_read (without_return (between at end bytes.now)) (state s texts.old wholes.old numbers.old) }
@@ -179,30 +185,48 @@ fn next_line(
     let line = &bytes[at..end];
     let n = day_words::trimmed(line);
     match take_line(&line[..n], s, texts, wholes, numbers) {
-        Step::Wrong(e, a, b) => Step::Wrong(e, at + a, at + b),
-        Step::Next(t) => Step::Next(t),
+        Err(wrong) => {
+            let start = at + wrong.word.start;
+            let end = at + wrong.word.end;
+            let word = Word { start, end };
+            Err(Wrong { word, ..wrong })
+        }
+        Ok(t) => Ok(t),
     }
 }
 
+// A line that is missing, told where it might stand.
+fn missing(line: usize, expected: Expected) -> Unread
+    ensures { result ≡ Unread.Fault line (record { expected = expected; word = record { start = 0; end = 0 } }) }
+{
+    let word = Word { start: 0, end: 0 };
+    Unread::Fault(line, Wrong { expected, word })
+}
+
 // The end of a sheet, told as a line of its own where something is missing.
-fn finish(line: usize, s: Counts) -> Sheet
+fn finish(line: usize, s: Counts) -> Result<Sizes, Unread>
     requires { Few s }
     ensures end { IsEnd line s result }
     ensures fits_anywhere { FitsAnywhere result }
 {
     if !s.titled {
-        return Sheet::Fault(line, Expected::TitleLine, 0, 0);
+        return Err(missing(line, Expected::TitleLine));
     }
     if !s.metered {
-        return Sheet::Fault(line, Expected::MeterLine, 0, 0);
+        return Err(missing(line, Expected::MeterLine));
     }
     if s.balances == 0 {
-        return Sheet::Fault(line, Expected::BalanceLine, 0, 0);
+        return Err(missing(line, Expected::BalanceLine));
     }
     if s.toleranced {
-        return Sheet::Whole(s.items, s.balances, s.limits, s.doubts);
+        return Ok(Sizes {
+            items: s.items,
+            balances: s.balances,
+            limits: s.limits,
+            doubts: s.doubts,
+        });
     }
-    Sheet::Fault(line, Expected::ToleranceLine, 0, 0)
+    Err(missing(line, Expected::ToleranceLine))
 }
 
 // Every line from a place on, from tables on that are blank.
@@ -212,7 +236,7 @@ fn walk(
     texts: &mut [u8],
     wholes: &mut [u32],
     numbers: &mut [f64],
-) -> Sheet
+) -> Result<Sizes, Unread>
     requires { (from ≤ length bytes.now) × (length bytes.now ≤ 65536) × (length texts.old ≡ 1992) × (length wholes.old ≡ 64) × (length numbers.old ≡ 577) }
     ensures numbers_after { told bytes.now result texts.new wholes.new numbers.new
         ≡ lines_read (lines_of (drop from bytes.now)) 0 (state no_counts texts.old wholes.old numbers.old) }
@@ -227,14 +251,15 @@ fn walk(
         metered: false,
         toleranced: false,
     };
+    // Each line begins behind the last, so `at` goes on by lines and not by one.
     let mut at = from;
     let mut k = 0;
     while at < bytes.len() {
         let end = day_words::line_end(bytes, at);
         k += 1;
         match next_line(bytes, at, end, s, texts, wholes, numbers) {
-            Step::Wrong(e, a, b) => return Sheet::Fault(k, e, a, b),
-            Step::Next(t) => s = t,
+            Err(wrong) => return Err(Unread::Fault(k, wrong)),
+            Ok(t) => s = t,
         }
         at = end + 1;
     }
@@ -251,33 +276,22 @@ fn clear(texts: &mut [u8], wholes: &mut [u32], numbers: &mut [f64])
     workspace::wipe(numbers, 577);
 }
 
-// Whether a sheet is whole.
-fn is_whole(r: Sheet) -> bool
-    ensures { result ≡ is_whole r }
-{
-    match r {
-        Sheet::Whole(_, _, _, _) => true,
-        Sheet::Fault(_, _, _, _) => false,
-        Sheet::Long => false,
-    }
-}
-
 // Reads a sheet into the tables. Where it is not whole, they are left blank, so that nobody takes half of one.
 pub fn read(
     bytes: &[u8],
     texts: &mut [u8; 1992],
     wholes: &mut [u32; 64],
     numbers: &mut [f64; 577],
-) -> Sheet
+) -> Result<Sizes, Unread>
     ensures { Reads bytes.now result texts.new wholes.new numbers.new }
 {
     clear(texts, wholes, numbers);
     if 65536 < bytes.len() {
-        return Sheet::Long;
+        return Err(Unread::Long);
     }
     let from = sheet_words::mark_size(bytes);
     let r = walk(bytes, from, texts, wholes, numbers);
-    if is_whole(r) {
+    if r.is_ok() {
         return r;
     }
     clear(texts, wholes, numbers);

@@ -8,18 +8,26 @@ use borrow.Author.Tests.{lt-ltb, le-ltb, le-leb, lt-leb}
 use lib.Dec.{eqb}
 use lib.ListN.{length, set}
 use lib.Ieee.{Float}
-use Rattle.day_words.specs.declared.Number.{Number}
-use Rattle.day_words.specs.declared.Number.TheVariants.{Is, Missing}
+use Rattle.std.specs.Prelude.{Option, Some, None, Err}
+use Rattle.day_words.specs.declared.Word.{Word}
 use Rattle.day_words.specs.Words.{word, rest}
 use Rattle.day_words.specs.Items.{decimal_of}
 use Rattle.sheet_words.specs.declared.Expected.{Expected}
 use Rattle.sheet_words.specs.declared.Expected.TheVariants.{OneTitle, OneTolerance, Late, FewItems, MeterBefore, FewBalances, FewLimits, FewDoubts, OneName, Decimal, NotBelow, End}
+use Rattle.sheet_words.specs.declared.Wrong.{Wrong}
 use Rattle.sheet_words.specs.Names.{begins_letter, not_below_zero}
-use Rattle.sheet_words.specs.Lines.{words_of}
+use Rattle.sheet_words.specs.Lines.{between, words_of}
 use Rattle.sheet_terms.specs.Terms.{Listed, listed, unlisted, terms}
 use Rattle.sheet_parts.specs.Texts.{text_in}
 use Rattle.sheet_parts.specs.Parts.{Named, named, unnamed, name_at, texted, untexted, text_at, itemed, unitemed, item_of}
+use Rattle.sheet_lines.specs.inner.Work.{line_told}
 use Rattle.sheet_lines.specs.Lines.{State, Line, taken, wrong, ended, with_title, with_doubt, title_line, doubt_line, with_item, item_read, item_named, item_line, with_balance, balance_named, balance_line, with_limit, limit_named, limit_line, tolerance_line}
+
+-- ---- a fault, by what was expected and its word
+
+pub line-wrong : (line : List ℕ) (r : Wrong) (e : Expected) (w : Word) → r ≡ record { expected = e; word = w }
+    → (texts wholes : List ℕ) (numbers : List Float) (l : Line) → wrong e (between w.start w.end line) ≡ l → line_told line (Err r) texts wholes numbers ≡ l
+line-wrong line r e w R texts wholes numbers l h = rw R h
 
 -- ---- titles and doubts
 
@@ -124,12 +132,12 @@ module _ (c : ℕ) (t texts : List ℕ) (s : State) (w : List ℕ) (W : w ≡ wo
   unfolding limit_named
   limit-letter h = rw (← W, ← B, h)
 
-  module _ (h : b ≡ false) (n : Number) (N : n ≡ decimal_of w) where
-    pub limit-amount : n ≡ Missing → wrong Decimal w ≡ limit_named c (named t texts) s
+  module _ (h : b ≡ false) (n : Option Float) (N : n ≡ decimal_of w) where
+    pub limit-amount : n ≡ None → wrong Decimal w ≡ limit_named c (named t texts) s
     unfolding limit_named
     limit-amount e = rw (← W, ← B, h, ← N, e)
 
-    module _ (x : Float) (e : n ≡ Is x) (u : List ℕ) (U : u ≡ rest t) (l : Listed) (L : l ≡ terms false (320 + 16 * s.limits) texts (words_of u) (set s.numbers (304 + s.limits) x)) where
+    module _ (x : Float) (e : n ≡ Some x) (u : List ℕ) (U : u ≡ rest t) (l : Listed) (L : l ≡ terms false (320 + 16 * s.limits) texts (words_of u) (set s.numbers (304 + s.limits) x)) where
       limit-all : with_limit c texts l s ≡ limit_named c (named t texts) s
       unfolding limit_named
       limit-all = rw (← W, ← B, h, ← N, e, ← U, ← L)
@@ -186,12 +194,12 @@ module _ (k t : List ℕ) (s : State) where
   unfolding tolerance_line
   second-tolerance h = rw h
 
-  module _ (h : s.toleranced ≡ false) (w u : List ℕ) (W : w ≡ word t) (U : u ≡ rest t) (n : Number) (N : n ≡ not_below_zero w) where
-    pub tolerance-not : n ≡ Missing → wrong NotBelow w ≡ tolerance_line k t s
+  module _ (h : s.toleranced ≡ false) (w u : List ℕ) (W : w ≡ word t) (U : u ≡ rest t) (n : Option Float) (N : n ≡ not_below_zero w) where
+    pub tolerance-not : n ≡ None → wrong NotBelow w ≡ tolerance_line k t s
     unfolding tolerance_line
     tolerance-not e = rw (h, ← W, ← N, e)
 
-    module _ (x : Float) (e : n ≡ Is x) (v : List ℕ) (Y : v ≡ word u) where
+    module _ (x : Float) (e : n ≡ Some x) (v : List ℕ) (Y : v ≡ word u) where
       tolerance-all : ended v (with_tolerance x s) ≡ tolerance_line k t s
       unfolding tolerance_line with_tolerance
       tolerance-all = rw (h, ← W, ← N, e, ← U, ← Y)

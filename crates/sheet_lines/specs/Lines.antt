@@ -1,7 +1,5 @@
 -- What a line of each kind gives, or what was expected in it. Definitions only.
-use Rattle.std.specs.Prelude.{Bool, true, false, cond, not, ◌||◌, List, [], ◌∷◌, ℕ, ◌+◌, ◌*◌, leb, ltb, eqb, set, Float}
-use Rattle.day_words.specs.declared.Number.{Number}
-use Rattle.day_words.specs.declared.Number.TheVariants.{Is, Missing}
+use Rattle.std.specs.Prelude.{Option, Some, None, Bool, true, false, cond, not, ◌||◌, List, [], ◌∷◌, ℕ, ◌+◌, ◌*◌, leb, ltb, eqb, set, Float}
 use Rattle.day_words.specs.Words.{word, rest}
 use Rattle.day_words.specs.Items.{decimal_of}
 use Rattle.sheet_words.specs.declared.Expected.{Expected}
@@ -157,9 +155,9 @@ with_limit ceiling texts (listed numbers) s = taken (record {
   numbers = numbers;
 })
 
-abbrev pub limit_read : (ceiling : ℕ) (amount : Number) → (a t texts : List ℕ) → State → Line
-limit_read ceiling Missing a t texts s = wrong Decimal a
-limit_read ceiling (Is x) a t texts s = with_limit ceiling texts (terms false (320 + 16 * s.limits) texts (words_of t) (set s.numbers (304 + s.limits) x)) s
+abbrev pub limit_read : (ceiling : ℕ) (amount : Option Float) → (a t texts : List ℕ) → State → Line
+limit_read ceiling None a t texts s = wrong Decimal a
+limit_read ceiling (Some x) a t texts s = with_limit ceiling texts (terms false (320 + 16 * s.limits) texts (words_of t) (set s.numbers (304 + s.limits) x)) s
 
 unfoldable pub limit_named : (ceiling : ℕ) → Named → State → Line
 limit_named ceiling (unnamed e w) s = wrong e w
@@ -173,9 +171,9 @@ limit_line ceiling kind text s =
 
 -- ---- tolerance T
 
-abbrev pub tolerance_read : Number → (a after : List ℕ) → State → Line
-tolerance_read Missing a after s = wrong NotBelow a
-tolerance_read (Is x) a after s = ended after (record {
+abbrev pub tolerance_read : Option Float → (a after : List ℕ) → State → Line
+tolerance_read None a after s = wrong NotBelow a
+tolerance_read (Some x) a after s = ended after (record {
   items = s.items;
   balances = s.balances;
   limits = s.limits;

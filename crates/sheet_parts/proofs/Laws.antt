@@ -1,44 +1,51 @@
 -- The parts of a line: each way out of the code is one law.
 use mathlib.Core.Path.{◌≡◌, refl, sym, ap, ◌∙◌}
-use mathlib.Core.Bool.{Bool, true, false, cond}
+use mathlib.Core.Bool.{Bool, true, false}
 use mathlib.Core.List.{List, [], ◌∷◌}
 use Prim.Native.Nat.{ℕ, zero, suc, ◌+◌, ◌-◌, ◌*◌, ◌≤◌, ◌<◌}
 use native.Mathlib.Omega.{arith}
 use borrow.Author.Tests.{lt-ltb, le-ltb, eq-eqb, ne_eqb}
-use lib.Dec.{ltb, eqb}
 use lib.ListN.{length, take, drop, length-drop}
 use lib.Seq.{length-take-le, drop-drop}
 use lib.Ieee.{Float}
+use Rattle.std.specs.Prelude.{Option, Some, None, Result, Ok, Err}
 use Rattle.numbers.specs.Numbers.{+0}
 use Rattle.endian.specs.Little.{placed}
-use Rattle.day_words.specs.declared.Number.{Number}
-use Rattle.day_words.specs.declared.Number.TheVariants.{Is, Missing}
-use Rattle.day_words.specs.declared.Count.{Count}
-use Rattle.day_words.specs.declared.Count.TheVariants.{Shows, Unread}
+use Rattle.day_words.specs.declared.Word.{Word}
 use Rattle.day_words.specs.Words.{word, rest}
 use Rattle.day_words.specs.Items.{filled, reading_of, decimal_of}
 use Rattle.sheet_words.specs.declared.Expected.{Expected}
 use Rattle.sheet_words.specs.declared.Expected.TheVariants.{Text, OneName, Reading, Decimal, Above, End}
-use Rattle.sheet_words.specs.declared.Judged.{Judged}
-use Rattle.sheet_words.specs.declared.Judged.TheVariants.{Fine, Not}
+use Rattle.sheet_words.specs.declared.Wrong.{Wrong}
+use Rattle.sheet_words.specs.Lines.{between}
 use Rattle.sheet_words.specs.Names.{begins_letter, name_judged, above_zero, ShortIf}
+use Rattle.sheet_parts.specs.inner.Work.{item_told, text_told}
 use Rattle.sheet_parts.specs.Texts.{sound_part}
-use Rattle.sheet_parts.specs.Parts.{Named, named, unnamed, named_by, name_at, Texted, texted, untexted, text_at, Itemed, itemed, unitemed, only_item, meter_read, line_read, stock_read, meter_of, line_of, stock_of, item_of}
+use Rattle.sheet_parts.specs.Parts.{named, unnamed, name_at, Texted, texted, untexted, text_at, Itemed, itemed, unitemed, only_item, meter_read, line_read, stock_read, meter_of, line_of, stock_of, item_of}
+
+-- ---- a fault, by what was expected and its word
+
+module _ (line : List ℕ) (r : Wrong) (e : Expected) (w : Word) (R : r ≡ record { expected = e; word = w }) where
+  pub item-wrong : (i : Itemed) → unitemed e (between w.start w.end line) ≡ i → item_told line (Err r) ≡ i
+  item-wrong i h = rw R h
+
+  pub text-wrong : (texts : List ℕ) (t : Texted) → untexted e (between w.start w.end line) ≡ t → text_told line (Err r) texts ≡ t
+  text-wrong texts t h = rw R h
 
 -- ---- names
 
-module _ (k : ℕ) (t texts w : List ℕ) (W : w ≡ word t) (j : Judged) (J : j ≡ name_judged w texts) where
-  pub name-not : (e : Expected) → j ≡ Not e → unnamed e w ≡ name_at k t texts
+module _ (k : ℕ) (t texts w : List ℕ) (W : w ≡ word t) (j : Result Unit Expected) (J : j ≡ name_judged w texts) where
+  pub name-not : (e : Expected) → j ≡ Err e → unnamed e w ≡ name_at k t texts
   unfolding name_at
   name-not e h = rw (← W, ← J, h) (ap (unnamed e) W)
 
-  pub name-fine : j ≡ Fine → (n : List ℕ) → n ≡ filled w → (u : List ℕ) → u ≡ rest t → (texts' : List ℕ) → texts' ≡ placed (16 * k) n texts → named u texts' ≡ name_at k t texts
+  pub name-fine : j ≡ Ok tt → (n : List ℕ) → n ≡ filled w → (u : List ℕ) → u ≡ rest t → (texts' : List ℕ) → texts' ≡ placed (16 * k) n texts → named u texts' ≡ name_at k t texts
   unfolding name_at
   name-fine h n N u U texts' T = rw (← W, ← J, h) (rw (U, T, N, W))
 
-pub short-fine : (j : Judged) (w : List ℕ) → ShortIf j w → j ≡ Fine → length w ≤ 16
-short-fine Fine w h e = h
-short-fine (Not x) w h e = absurd (let z : ◌≡◌ {A = ℕ} 0 1 = cc in omega arith)
+pub short-fine : (j : Result Unit Expected) (w : List ℕ) → ShortIf j w → j ≡ Ok tt → length w ≤ 16
+short-fine (Ok u) w h e = h
+short-fine (Err x) w h e = absurd (let z : ◌≡◌ {A = ℕ} 0 1 = cc in omega arith)
 
 -- ---- texts
 
@@ -85,22 +92,22 @@ only-more (c ∷ w) i h = refl
 
 -- ---- OLD NEW SPREAD
 
-module _ (t w u : List ℕ) (W : w ≡ word t) (U : u ≡ rest t) (o : Count) (O : o ≡ reading_of w) where
-  pub meter-old : o ≡ Unread → unitemed Reading w ≡ meter_of t
+module _ (t w u : List ℕ) (W : w ≡ word t) (U : u ≡ rest t) (o : Option ℕ) (O : o ≡ reading_of w) where
+  pub meter-old : o ≡ None → unitemed Reading w ≡ meter_of t
   unfolding meter_of meter_read
   meter-old e = rw (← W, ← O, e)
 
-  module _ (old : ℕ) (E : o ≡ Shows old) (w2 u2 : List ℕ) (W2 : w2 ≡ word u) (U2 : u2 ≡ rest u) (n : Count) (N : n ≡ reading_of w2) where
-    pub meter-new : n ≡ Unread → unitemed Reading w2 ≡ meter_of t
+  module _ (old : ℕ) (E : o ≡ Some old) (w2 u2 : List ℕ) (W2 : w2 ≡ word u) (U2 : u2 ≡ rest u) (n : Option ℕ) (N : n ≡ reading_of w2) where
+    pub meter-new : n ≡ None → unitemed Reading w2 ≡ meter_of t
     unfolding meter_of meter_read
     meter-new e = rw (← W, ← O, E, ← U, ← W2, ← N, e)
 
-    module _ (new : ℕ) (F : n ≡ Shows new) (w3 u3 : List ℕ) (W3 : w3 ≡ word u2) (U3 : u3 ≡ rest u2) (x : Number) (X : x ≡ above_zero w3) where
-      pub meter-spread : x ≡ Missing → unitemed Above w3 ≡ meter_of t
+    module _ (new : ℕ) (F : n ≡ Some new) (w3 u3 : List ℕ) (W3 : w3 ≡ word u2) (U3 : u3 ≡ rest u2) (x : Option Float) (X : x ≡ above_zero w3) where
+      pub meter-spread : x ≡ None → unitemed Above w3 ≡ meter_of t
       unfolding meter_of meter_read
       meter-spread e = rw (← W, ← O, E, ← U, ← W2, ← N, F, ← U2, ← W3, ← X, e)
 
-      module _ (y : Float) (G : x ≡ Is y) (w4 : List ℕ) (W4 : w4 ≡ word u3) where
+      module _ (y : Float) (G : x ≡ Some y) (w4 : List ℕ) (W4 : w4 ≡ word u3) where
         meter-all : only_item w4 (itemed old new y +0 +0) ≡ meter_of t
         unfolding meter_of meter_read
         meter-all = rw (← W, ← O, E, ← U, ← W2, ← N, F, ← U2, ← W3, ← X, G, ← U3, ← W4)
@@ -113,12 +120,12 @@ module _ (t w u : List ℕ) (W : w ≡ word t) (U : u ≡ rest t) (o : Count) (O
 
 -- ---- CAPACITY
 
-module _ (t w u : List ℕ) (W : w ≡ word t) (U : u ≡ rest t) (x : Number) (X : x ≡ above_zero w) where
-  pub line-capacity : x ≡ Missing → unitemed Above w ≡ line_of t
+module _ (t w u : List ℕ) (W : w ≡ word t) (U : u ≡ rest t) (x : Option Float) (X : x ≡ above_zero w) where
+  pub line-capacity : x ≡ None → unitemed Above w ≡ line_of t
   unfolding line_of line_read
   line-capacity e = rw (← W, ← X, e)
 
-  module _ (y : Float) (G : x ≡ Is y) (w4 : List ℕ) (W4 : w4 ≡ word u) where
+  module _ (y : Float) (G : x ≡ Some y) (w4 : List ℕ) (W4 : w4 ≡ word u) where
     line-all : only_item w4 (itemed 0 0 y +0 +0) ≡ line_of t
     unfolding line_of line_read
     line-all = rw (← W, ← X, G, ← U, ← W4)
@@ -131,22 +138,22 @@ module _ (t w u : List ℕ) (W : w ≡ word t) (U : u ≡ rest t) (x : Number) (
 
 -- ---- BEFORE AFTER SPREAD
 
-module _ (t w u : List ℕ) (W : w ≡ word t) (U : u ≡ rest t) (o : Number) (O : o ≡ decimal_of w) where
-  pub stock-before : o ≡ Missing → unitemed Decimal w ≡ stock_of t
+module _ (t w u : List ℕ) (W : w ≡ word t) (U : u ≡ rest t) (o : Option Float) (O : o ≡ decimal_of w) where
+  pub stock-before : o ≡ None → unitemed Decimal w ≡ stock_of t
   unfolding stock_of stock_read
   stock-before e = rw (← W, ← O, e)
 
-  module _ (a : Float) (E : o ≡ Is a) (w2 u2 : List ℕ) (W2 : w2 ≡ word u) (U2 : u2 ≡ rest u) (n : Number) (N : n ≡ decimal_of w2) where
-    pub stock-after : n ≡ Missing → unitemed Decimal w2 ≡ stock_of t
+  module _ (a : Float) (E : o ≡ Some a) (w2 u2 : List ℕ) (W2 : w2 ≡ word u) (U2 : u2 ≡ rest u) (n : Option Float) (N : n ≡ decimal_of w2) where
+    pub stock-after : n ≡ None → unitemed Decimal w2 ≡ stock_of t
     unfolding stock_of stock_read
     stock-after e = rw (← W, ← O, E, ← U, ← W2, ← N, e)
 
-    module _ (b : Float) (F : n ≡ Is b) (w3 u3 : List ℕ) (W3 : w3 ≡ word u2) (U3 : u3 ≡ rest u2) (x : Number) (X : x ≡ above_zero w3) where
-      pub stock-spread : x ≡ Missing → unitemed Above w3 ≡ stock_of t
+    module _ (b : Float) (F : n ≡ Some b) (w3 u3 : List ℕ) (W3 : w3 ≡ word u2) (U3 : u3 ≡ rest u2) (x : Option Float) (X : x ≡ above_zero w3) where
+      pub stock-spread : x ≡ None → unitemed Above w3 ≡ stock_of t
       unfolding stock_of stock_read
       stock-spread e = rw (← W, ← O, E, ← U, ← W2, ← N, F, ← U2, ← W3, ← X, e)
 
-      module _ (y : Float) (G : x ≡ Is y) (w4 : List ℕ) (W4 : w4 ≡ word u3) where
+      module _ (y : Float) (G : x ≡ Some y) (w4 : List ℕ) (W4 : w4 ≡ word u3) where
         stock-all : only_item w4 (itemed 0 0 y a b) ≡ stock_of t
         unfolding stock_of stock_read
         stock-all = rw (← W, ← O, E, ← U, ← W2, ← N, F, ← U2, ← W3, ← X, G, ← U3, ← W4)

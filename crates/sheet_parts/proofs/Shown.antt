@@ -1,17 +1,16 @@
 -- A found word as a fault shows it: each way out of the code is one law.
-use mathlib.Core.Path.{◌≡◌, refl, sym, ap, ◌∙◌}
-use mathlib.Core.Bool.{Bool, true, false, cond, ◌&&◌}
+use mathlib.Core.Path.{◌≡◌}
+use mathlib.Core.Bool.{Bool, true, false}
 use mathlib.Core.List.{List, [], ◌∷◌, ◌++◌, append-nil}
-use Prim.Native.Nat.{ℕ, zero, suc, ◌+◌, ◌-◌, ◌*◌, ◌/◌, ◌%◌, ◌≤◌, ◌<◌}
-use native.Mathlib.Omega.{arith}
+use Prim.Native.Nat.{ℕ, ◌+◌, ◌/◌, ◌%◌, ◌≤◌, ◌<◌}
 use borrow.Author.Tests.{lt-ltb, le-ltb, le-leb, lt-leb}
-use lib.Dec.{leb, ltb}
+use lib.Dec.{leb}
 use lib.ListN.{length, take, drop, get_or, drop_of_length-le}
 use lib.Seq.{take_all}
 use Rattle.numbers.specs.Numbers.{tab}
 use Rattle.ascii.specs.Text.{ascii}
 use Rattle.ascii.specs.inner.Work.{Wrote}
-use Rattle.ascii.proofs.Writing.{Writing, writing-none, writing_more, writing-end, wrote_then, as-text}
+use Rattle.ascii.proofs.Writing.{Writing, writing_more, writing-end, wrote_then, as-text}
 use Rattle.ascii.proofs.Same.{next-byte}
 use Rattle.sheet_parts.specs.Texts.{is_plain}
 use Rattle.sheet_parts.specs.Shown.{hex_digit, escape, escaped, shown_word}

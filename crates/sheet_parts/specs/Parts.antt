@@ -1,17 +1,11 @@
 -- The parts of a line: a name, a text, what stands after an item's name. Definitions only.
-use Rattle.std.specs.Prelude.{cond, List, [], ◌∷◌, ℕ, ◌*◌, ltb, eqb, length, drop, Float}
+use Rattle.std.specs.Prelude.{Option, Some, None, Result, Ok, Err, cond, List, [], ◌∷◌, ℕ, ◌*◌, ltb, eqb, length, drop, Float}
 use Rattle.numbers.specs.Numbers.{+0}
 use Rattle.endian.specs.Little.{placed}
-use Rattle.day_words.specs.declared.Number.{Number}
-use Rattle.day_words.specs.declared.Number.TheVariants.{Is, Missing}
-use Rattle.day_words.specs.declared.Count.{Count}
-use Rattle.day_words.specs.declared.Count.TheVariants.{Shows, Unread}
 use Rattle.day_words.specs.Words.{word, rest}
 use Rattle.day_words.specs.Items.{filled, reading_of, decimal_of}
 use Rattle.sheet_words.specs.declared.Expected.{Expected}
 use Rattle.sheet_words.specs.declared.Expected.TheVariants.{Text, OneName, Reading, Decimal, Above, End}
-use Rattle.sheet_words.specs.declared.Judged.{Judged}
-use Rattle.sheet_words.specs.declared.Judged.TheVariants.{Fine, Not}
 use Rattle.sheet_words.specs.Names.{begins_letter, name_judged, above_zero}
 use Rattle.sheet_parts.specs.Texts.{sound_part}
 
@@ -21,9 +15,9 @@ pub data Named : Type 0 where
   named : (text texts : List ℕ) → Named
   unnamed : Expected → (word : List ℕ) → Named
 
-abbrev pub named_by : Judged → (k : ℕ) (text texts : List ℕ) → Named
-named_by Fine k text texts = named (rest text) (placed (16 * k) (filled (word text)) texts)
-named_by (Not e) k text texts = unnamed e (word text)
+abbrev pub named_by : Result Unit Expected → (k : ℕ) (text texts : List ℕ) → Named
+named_by (Ok u) k text texts = named (rest text) (placed (16 * k) (filled (word text)) texts)
+named_by (Err e) k text texts = unnamed e (word text)
 
 unfoldable pub name_at : (k : ℕ) (text texts : List ℕ) → Named
 name_at k text texts = named_by (name_judged (word text) texts) k text texts
@@ -53,23 +47,23 @@ only_item [] i = i
 only_item (c ∷ cs) i = unitemed End (c ∷ cs)
 
 -- meter NAME OLD NEW SPREAD
-unfoldable pub meter_read : (old new : Count) (spread : Number) → (a b c after : List ℕ) → Itemed
-meter_read Unread new spread a b c after = unitemed Reading a
-meter_read (Shows old) Unread spread a b c after = unitemed Reading b
-meter_read (Shows old) (Shows new) Missing a b c after = unitemed Above c
-meter_read (Shows old) (Shows new) (Is x) a b c after = only_item after (itemed old new x +0 +0)
+unfoldable pub meter_read : (old new : Option ℕ) (spread : Option Float) → (a b c after : List ℕ) → Itemed
+meter_read None new spread a b c after = unitemed Reading a
+meter_read (Some old) None spread a b c after = unitemed Reading b
+meter_read (Some old) (Some new) None a b c after = unitemed Above c
+meter_read (Some old) (Some new) (Some x) a b c after = only_item after (itemed old new x +0 +0)
 
 -- line NAME CAPACITY
-unfoldable pub line_read : (capacity : Number) → (a after : List ℕ) → Itemed
-line_read Missing a after = unitemed Above a
-line_read (Is x) a after = only_item after (itemed 0 0 x +0 +0)
+unfoldable pub line_read : (capacity : Option Float) → (a after : List ℕ) → Itemed
+line_read None a after = unitemed Above a
+line_read (Some x) a after = only_item after (itemed 0 0 x +0 +0)
 
 -- stock NAME BEFORE AFTER SPREAD
-unfoldable pub stock_read : (before next spread : Number) → (a b c after : List ℕ) → Itemed
-stock_read Missing next spread a b c after = unitemed Decimal a
-stock_read (Is x) Missing spread a b c after = unitemed Decimal b
-stock_read (Is x) (Is y) Missing a b c after = unitemed Above c
-stock_read (Is x) (Is y) (Is z) a b c after = only_item after (itemed 0 0 z x y)
+unfoldable pub stock_read : (before next spread : Option Float) → (a b c after : List ℕ) → Itemed
+stock_read None next spread a b c after = unitemed Decimal a
+stock_read (Some x) None spread a b c after = unitemed Decimal b
+stock_read (Some x) (Some y) None a b c after = unitemed Above c
+stock_read (Some x) (Some y) (Some z) a b c after = only_item after (itemed 0 0 z x y)
 
 -- the same, of a text: k is 0 for a meter, 1 for a line, 2 for a stock
 unfoldable pub meter_of : List ℕ → Itemed

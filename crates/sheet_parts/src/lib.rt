@@ -9,35 +9,29 @@ ghost use Rattle.sheet_parts.specs.Parts.{name_at, text_at, meter_of, line_of, s
 ghost use Rattle.sheet_parts.specs.Shown.{hex_digit, escape, escaped, shown_word};
 ghost use Rattle.sheet_parts.specs.inner.Work.{IsText, name_told, text_told, item_told, Inside, ItemInside};
 
-use day_words::{Count, Number, Word};
-use sheet_words::{Expected, Judged};
+use day_words::Word;
+use sheet_words::{Expected, Wrong};
 
-// The place after a part of a line, or what was expected, and the places of the word there.
+// What stands after an item's name. A line has a capacity in place of a spread; what is not given is zero.
 #[derive(Clone, Copy)]
-pub enum Part {
-    At(usize),
-    Not(Expected, usize, usize),
-}
-
-// What stands after an item's name: readings, spread or capacity, content before and after; or what was expected.
-#[derive(Clone, Copy)]
-pub enum Item {
-    Is(u32, u32, f64, f64, f64),
-    Not(Expected, usize, usize),
+pub struct Item {
+    pub old: u32,
+    pub new: u32,
+    pub spread: f64,
+    pub before: f64,
+    pub after: f64,
 }
 
 // The length of a text without the blanks at its end.
 pub fn trim(text: &[u8]) -> usize
     ensures { (take result text.now ≡ without_blanks text.now) × (result ≤ length text.now) }
 {
-    let mut n = text.len();
-    while 0 < n {
-        if !day_words::is_blank(text[n - 1]) {
-            return n;
+    for i in (0..text.len()).rev() {
+        if !day_words::is_blank(text[i]) {
+            return i + 1;
         }
-        n -= 1;
     }
-    n
+    0
 }
 
 // The text from a place on.
@@ -48,7 +42,7 @@ fn find_text(line: &[u8], from: usize) -> Word
     let start = day_words::skip(line, from);
     let size = trim(&line[start..]);
     Word {
-        start: start,
+        start,
         end: start + size,
     }
 }
@@ -70,41 +64,37 @@ fn is_foreign(c: u8) -> bool
 fn sound_size(text: &[u8]) -> usize
     ensures { (result ≡ length (sound_part text.now)) × (result ≤ length text.now) × (result ≤ 72) }
 {
-    let mut i = 0;
-    while i < text.len() {
+    for (i, c) in text.iter().enumerate() {
         if i == 72 {
             return 72;
         }
-        if is_foreign(text[i]) {
+        if is_foreign(*c) {
             return i;
         }
-        i += 1;
     }
-    i
+    text.len()
 }
 
-// A name that is new, into place k of the table.
-pub fn take_name(line: &[u8], from: usize, k: usize, texts: &mut [u8]) -> Part
+// A name that is new, into place k of the table; answers the place after it.
+pub fn take_name(line: &[u8], from: usize, k: usize, texts: &mut [u8]) -> Result<usize, Wrong>
     requires { (from ≤ length line.now) × (k < 48) × (length texts.old ≡ 1992) }
     ensures texts_after { name_told line.now result texts.new ≡ name_at k (drop from line.now) texts.old }
     ensures inside { Inside line.now result }
 {
-    let w = day_words::find_word(line, from);
-    let start = w.start;
-    let end = w.end;
-    let word = &line[start..end];
-    match sheet_words::judge_name(word, texts) {
-        Judged::Not(e) => Part::Not(e, start, end),
-        Judged::Fine => {
-            let name = day_words::fill(word);
+    let word = day_words::find_word(line, from);
+    let text = &line[word.start..word.end];
+    match sheet_words::judge_name(text, texts) {
+        Err(expected) => Err(Wrong { expected, word }),
+        Ok(()) => {
+            let name = day_words::fill(text);
             ascii::put_text(texts, 16 * k, &name);
-            Part::At(end)
+            Ok(word.end)
         }
     }
 }
 
-// A text, into its place of the table.
-pub fn take_text(line: &[u8], from: usize, p: usize, texts: &mut [u8]) -> Part
+// A text, into its place of the table; answers the place after it.
+pub fn take_text(line: &[u8], from: usize, p: usize, texts: &mut [u8]) -> Result<usize, Wrong>
     requires { (from ≤ length line.now) × (p + 72 ≤ 1992) × (length texts.old ≡ 1992) }
     ensures texts_after { text_told line.now result texts.new ≡ text_at p (text_in (drop from line.now)) texts.old }
     ensures inside { Inside line.now result }
@@ -113,115 +103,112 @@ pub fn take_text(line: &[u8], from: usize, p: usize, texts: &mut [u8]) -> Part
     let start = w.start;
     let end = w.end;
     if start == end {
-        return Part::Not(Expected::Text, end, end);
+        return Err(Wrong::new(Expected::Text, w));
     }
     let text = &line[start..end];
     let n = sound_size(text);
     if n < text.len() {
-        return Part::Not(Expected::Text, start + n, end);
+        let start = start + n;
+        return Err(Wrong::new(Expected::Text, Word { start, end }));
     }
     ascii::put_text(texts, p, text);
-    Part::At(end)
+    Ok(end)
 }
 
 // OLD NEW SPREAD
-fn read_meter(line: &[u8], from: usize) -> Item
+fn read_meter(line: &[u8], from: usize) -> Result<Item, Wrong>
     requires { from ≤ length line.now }
     ensures result_value { item_told line.now result ≡ meter_of (drop from line.now) }
     ensures item_inside { ItemInside line.now result }
 {
     let u = day_words::find_word(line, from);
-    let a = u.start;
-    let b = u.end;
-    let Count::Shows(old) = day_words::reading_of(&line[a..b]) else {
-        return Item::Not(Expected::Reading, a, b);
+    let Some(old) = day_words::reading_of(&line[u.start..u.end]) else {
+        return Err(Wrong::new(Expected::Reading, u));
     };
-    let v = day_words::find_word(line, b);
-    let c = v.start;
-    let d = v.end;
-    let Count::Shows(new) = day_words::reading_of(&line[c..d]) else {
-        return Item::Not(Expected::Reading, c, d);
+    let v = day_words::find_word(line, u.end);
+    let Some(new) = day_words::reading_of(&line[v.start..v.end]) else {
+        return Err(Wrong::new(Expected::Reading, v));
     };
-    let w = day_words::find_word(line, d);
-    let e = w.start;
-    let f = w.end;
-    let Number::Is(spread) = sheet_words::above_zero(&line[e..f]) else {
-        return Item::Not(Expected::Above, e, f);
+    let w = day_words::find_word(line, v.end);
+    let Some(spread) = sheet_words::above_zero(&line[w.start..w.end]) else {
+        return Err(Wrong::new(Expected::Above, w));
     };
-    let x = day_words::find_word(line, f);
-    let g = x.start;
-    let h = x.end;
-    if g != h {
-        return Item::Not(Expected::End, g, h);
+    let x = day_words::find_word(line, w.end);
+    if x.start != x.end {
+        return Err(Wrong::new(Expected::End, x));
     }
-    Item::Is(old, new, spread, 0.0, 0.0)
+    Ok(Item {
+        old,
+        new,
+        spread,
+        before: 0.0,
+        after: 0.0,
+    })
 }
 
 // CAPACITY
-fn read_line(line: &[u8], from: usize) -> Item
+fn read_line(line: &[u8], from: usize) -> Result<Item, Wrong>
     requires { from ≤ length line.now }
     ensures result_value { item_told line.now result ≡ line_of (drop from line.now) }
     ensures item_inside { ItemInside line.now result }
 {
     let u = day_words::find_word(line, from);
-    let a = u.start;
-    let b = u.end;
-    let Number::Is(capacity) = sheet_words::above_zero(&line[a..b]) else {
-        return Item::Not(Expected::Above, a, b);
+    let Some(capacity) = sheet_words::above_zero(&line[u.start..u.end]) else {
+        return Err(Wrong::new(Expected::Above, u));
     };
-    let x = day_words::find_word(line, b);
-    let g = x.start;
-    let h = x.end;
-    if g != h {
-        return Item::Not(Expected::End, g, h);
+    let x = day_words::find_word(line, u.end);
+    if x.start != x.end {
+        return Err(Wrong::new(Expected::End, x));
     }
-    Item::Is(0, 0, capacity, 0.0, 0.0)
+    Ok(Item {
+        old: 0,
+        new: 0,
+        spread: capacity,
+        before: 0.0,
+        after: 0.0,
+    })
 }
 
 // BEFORE AFTER SPREAD
-fn read_stock(line: &[u8], from: usize) -> Item
+fn read_stock(line: &[u8], from: usize) -> Result<Item, Wrong>
     requires { from ≤ length line.now }
     ensures result_value { item_told line.now result ≡ stock_of (drop from line.now) }
     ensures item_inside { ItemInside line.now result }
 {
     let u = day_words::find_word(line, from);
-    let a = u.start;
-    let b = u.end;
-    let Number::Is(before) = day_words::number_of(&line[a..b]) else {
-        return Item::Not(Expected::Decimal, a, b);
+    let Some(before) = day_words::number_of(&line[u.start..u.end]) else {
+        return Err(Wrong::new(Expected::Decimal, u));
     };
-    let v = day_words::find_word(line, b);
-    let c = v.start;
-    let d = v.end;
-    let Number::Is(after) = day_words::number_of(&line[c..d]) else {
-        return Item::Not(Expected::Decimal, c, d);
+    let v = day_words::find_word(line, u.end);
+    let Some(after) = day_words::number_of(&line[v.start..v.end]) else {
+        return Err(Wrong::new(Expected::Decimal, v));
     };
-    let w = day_words::find_word(line, d);
-    let e = w.start;
-    let f = w.end;
-    let Number::Is(spread) = sheet_words::above_zero(&line[e..f]) else {
-        return Item::Not(Expected::Above, e, f);
+    let w = day_words::find_word(line, v.end);
+    let Some(spread) = sheet_words::above_zero(&line[w.start..w.end]) else {
+        return Err(Wrong::new(Expected::Above, w));
     };
-    let x = day_words::find_word(line, f);
-    let g = x.start;
-    let h = x.end;
-    if g != h {
-        return Item::Not(Expected::End, g, h);
+    let x = day_words::find_word(line, w.end);
+    if x.start != x.end {
+        return Err(Wrong::new(Expected::End, x));
     }
-    Item::Is(0, 0, spread, before, after)
+    Ok(Item {
+        old: 0,
+        new: 0,
+        spread,
+        before,
+        after,
+    })
 }
 
 // What stands after an item's name.
-pub fn read_item(k: u32, line: &[u8], from: usize) -> Item
+pub fn read_item(k: u32, line: &[u8], from: usize) -> Result<Item, Wrong>
     requires { from ≤ length line.now }
     ensures result_value { item_told line.now result ≡ item_of k (drop from line.now) }
     ensures item_inside { ItemInside line.now result }
 {
     let w = day_words::find_word(line, from);
-    let start = w.start;
-    let end = w.end;
-    if sheet_words::begins_letter(&line[start..end]) {
-        return Item::Not(Expected::OneName, start, end);
+    if sheet_words::begins_letter(&line[w.start..w.end]) {
+        return Err(Wrong::new(Expected::OneName, w));
     }
     if k == 0 {
         return read_meter(line, from);
@@ -274,8 +261,8 @@ fn put_escaped(out: &mut [u8], at: usize, text: &[u8]) -> usize
     ensures upper_bound { result ≤ at + 4 * length text.now }
 {
     let mut p = at;
-    for i in 0..text.len() {
-        p = put_escape(out, p, text[i]);
+    for c in text {
+        p = put_escape(out, p, *c);
     }
     p
 }

@@ -1,17 +1,17 @@
 -- Terms: each way out of the code is one law.
-use mathlib.Core.Path.{◌≡◌, refl, sym, ap, ◌∙◌}
+use mathlib.Core.Path.{◌≡◌, refl, ap, ◌∙◌}
 use mathlib.Core.Bool.{Bool, true, false, cond, not, ◌&&◌, ◌||◌}
 use mathlib.Core.List.{List, [], ◌∷◌}
-use Prim.Native.Nat.{ℕ, zero, suc, ◌+◌, ◌-◌, ◌≤◌, ◌<◌}
+use Prim.Native.Nat.{ℕ, suc, ◌+◌, ◌≤◌, ◌<◌}
 use native.Mathlib.Omega.{arith}
 use borrow.Author.Tests.{lt-ltb, le-ltb}
 use lib.Dec.{ltb}
-use lib.ListN.{length, take, drop, set, length-drop}
+use lib.ListN.{length, drop, set, length-drop}
 use lib.Ieee.{Float, eq, neg}
+use Rattle.std.specs.Option.{is_some}
+use Rattle.std.specs.Prelude.{Option, Some, None, Result, Ok, Err}
 use Rattle.numbers.specs.Numbers.{tab, +0, at}
 use Rattle.ascii.specs.Text.{ascii, same_text}
-use Rattle.day_words.specs.declared.Number.{Number}
-use Rattle.day_words.specs.declared.Number.TheVariants.{Is, Missing}
 use Rattle.day_words.specs.declared.Word.{Word}
 use Rattle.day_words.specs.Words.{up_to, is_blank, skip_blanks, word, rest}
 use Rattle.day_words.specs.inner.Work.{IsWord}
@@ -19,20 +19,15 @@ use Rattle.day_words.proofs.Words.{up-short}
 use Rattle.day_words.specs.Items.{filled}
 use Rattle.sheet_words.specs.declared.Expected.{Expected}
 use Rattle.sheet_words.specs.declared.Expected.TheVariants.{Equals, OneEquals, NoEquals, ApartEquals, NoSign, Coefficient, TermName, SameCapitals, Given, Once}
-use Rattle.sheet_words.specs.declared.Place.{Place}
-use Rattle.sheet_words.specs.declared.Place.TheVariants.{At, Nowhere}
+use Rattle.sheet_words.specs.declared.Wrong.{Wrong}
 use Rattle.sheet_words.specs.Names.{begins_letter, begins_number, has_equals, is_taken, place_of, not_zero, Inside}
 use Rattle.sheet_words.specs.Lines.{words_of}
-use Rattle.sheet_words.proofs.Laws.{long-taken, long-place, words-none, words-some}
+use Rattle.sheet_words.proofs.Laws.{nothing, long-taken, long-place, words-none, words-some}
 use Rattle.sheet_terms.specs.declared.Term.{Term}
-use Rattle.sheet_terms.specs.declared.Term.TheVariants.{Sign, Times, Names, Not}
-use Rattle.sheet_terms.specs.Terms.{is_some, sign_judged, times_judged, place_judged, term_judged, Turn, Turned, next, stopped, amount, signed, turned, Listed, listed, unlisted, terms_end, terms_from, terms, at_front}
+use Rattle.sheet_terms.specs.declared.Term.TheVariants.{Sign, Times, Names}
+use Rattle.sheet_terms.specs.Terms.{sign_judged, times_judged, place_judged, term_judged, Turn, Turned, next, stopped, amount, signed, turned, Listed, listed, unlisted, terms_end, terms_from, terms, at_front}
 use Rattle.sheet_terms.specs.declared.Turn as declared
-use Rattle.sheet_terms.specs.declared.Row.{Row}
-use Rattle.sheet_terms.specs.declared.Row.TheVariants as row
-use Rattle.sheet_terms.specs.declared.Next.{Next}
-use Rattle.sheet_terms.specs.declared.Next.TheVariants.{Go, Stop}
-use Rattle.sheet_terms.specs.inner.Work.{NamesInside, turn, turn_told, RowInside, EndsAt}
+use Rattle.sheet_terms.specs.inner.Work.{NamesInside, turn, turn_told, row_told, RowInside, EndsAt}
 
 -- ---- words
 
@@ -57,46 +52,46 @@ module _ (w : List ℕ) (a : Bool) (A : a ≡ same_text w (43 ∷ [])) where
 
 -- ---- a sign, a number, a name
 
-pub sign-limit : (b e h : Bool) → b ≡ false → Not NoEquals ≡ sign_judged b e h
+pub sign-limit : (b e h : Bool) → b ≡ false → Err NoEquals ≡ sign_judged b e h
 sign-limit b e h B = rw B
 
-pub sign-second : (b e h : Bool) → b ≡ true → e ≡ true → Not OneEquals ≡ sign_judged b e h
+pub sign-second : (b e h : Bool) → b ≡ true → e ≡ true → Err OneEquals ≡ sign_judged b e h
 sign-second b e h B E = rw (B, E)
 
-pub sign-is : (b e h : Bool) → b ≡ true → e ≡ false → h ≡ true → Sign ≡ sign_judged b e h
+pub sign-is : (b e h : Bool) → b ≡ true → e ≡ false → h ≡ true → Ok Sign ≡ sign_judged b e h
 sign-is b e h B E H = rw (B, E, H)
 
-pub sign-early : (b e h : Bool) → b ≡ true → e ≡ false → h ≡ false → Not TermName ≡ sign_judged b e h
+pub sign-early : (b e h : Bool) → b ≡ true → e ≡ false → h ≡ false → Err TermName ≡ sign_judged b e h
 sign-early b e h B E H = rw (B, E, H)
 
-pub times-not : (w : List ℕ) (n : Number) → n ≡ not_zero w → n ≡ Missing → Not Coefficient ≡ times_judged (not_zero w)
+pub times-not : (w : List ℕ) (n : Option Float) → n ≡ not_zero w → n ≡ None → Err Coefficient ≡ times_judged (not_zero w)
 times-not w n N e = rw (← N, e)
 
-pub times-is : (w : List ℕ) (n : Number) → n ≡ not_zero w → (x : Float) → n ≡ Is x → Times x ≡ times_judged (not_zero w)
+pub times-is : (w : List ℕ) (n : Option Float) → n ≡ not_zero w → (x : Float) → n ≡ Some x → Ok (Times x) ≡ times_judged (not_zero w)
 times-is w n N x e = rw (← N, e)
 
-pub place-long : (w texts : List ℕ) → 16 < length w → Not Given ≡ place_judged (place_of 16 0 (filled w) texts) (is_taken 16 0 (filled w) texts)
+pub place-long : (w texts : List ℕ) → 16 < length w → Err Given ≡ place_judged (place_of 16 0 (filled w) texts) (is_taken 16 0 (filled w) texts)
 place-long w texts h = rw (long-place w texts h 16 0, long-taken w texts h 16 0)
 
-module _ (w texts n : List ℕ) (N : n ≡ filled w) (r : Place) (R : r ≡ place_of 16 0 n texts) where
-  pub place_at : (k : ℕ) → r ≡ At k → Names k ≡ place_judged (place_of 16 0 (filled w) texts) (is_taken 16 0 (filled w) texts)
+module _ (w texts n : List ℕ) (N : n ≡ filled w) (r : Option ℕ) (R : r ≡ place_of 16 0 n texts) where
+  pub place_at : (k : ℕ) → r ≡ Some k → Ok (Names k) ≡ place_judged (place_of 16 0 (filled w) texts) (is_taken 16 0 (filled w) texts)
   place_at k e = rw (← N, ← R, e)
 
-  pub place-alike : r ≡ Nowhere → (t : Bool) → t ≡ is_taken 16 0 n texts → t ≡ true → Not SameCapitals ≡ place_judged (place_of 16 0 (filled w) texts) (is_taken 16 0 (filled w) texts)
+  pub place-alike : r ≡ None → (t : Bool) → t ≡ is_taken 16 0 n texts → t ≡ true → Err SameCapitals ≡ place_judged (place_of 16 0 (filled w) texts) (is_taken 16 0 (filled w) texts)
   place-alike e t T h = rw (← N, ← R, e, ← T, h)
 
-  pub place-unknown : r ≡ Nowhere → (t : Bool) → t ≡ is_taken 16 0 n texts → t ≡ false → Not Given ≡ place_judged (place_of 16 0 (filled w) texts) (is_taken 16 0 (filled w) texts)
+  pub place-unknown : r ≡ None → (t : Bool) → t ≡ is_taken 16 0 n texts → t ≡ false → Err Given ≡ place_judged (place_of 16 0 (filled w) texts) (is_taken 16 0 (filled w) texts)
   place-unknown e t T h = rw (← N, ← R, e, ← T, h)
 
-pub inside-at : (r : Place) (k : ℕ) → Inside r → r ≡ At k → k < 16
-inside-at (At j) k h e = let z : j ≡ k = cc in omega (arith, z, h)
-inside-at Nowhere k h e = absurd (let z : ◌≡◌ {A = ℕ} 0 1 = cc in omega arith)
+pub inside-at : (r : Option ℕ) (k : ℕ) → Inside r → r ≡ Some k → k < 16
+inside-at (Some j) k h e = let z : j ≡ k = cc in omega (arith, z, h)
+inside-at None k h e = absurd (let z : ◌≡◌ {A = ℕ} 0 1 = cc in omega arith)
 
-pub named-inside : (r : Term) (k : ℕ) → NamesInside r → r ≡ Names k → k < 16
-named-inside (Names j) k h e = let z : j ≡ k = cc in omega (arith, z, h)
-named-inside Sign k h e = absurd (let z : ◌≡◌ {A = ℕ} 0 1 = cc in omega arith)
-named-inside (Times x) k h e = absurd (let z : ◌≡◌ {A = ℕ} 0 1 = cc in omega arith)
-named-inside (Not x) k h e = absurd (let z : ◌≡◌ {A = ℕ} 0 1 = cc in omega arith)
+pub named-inside : (r : Result Term Expected) (k : ℕ) → NamesInside r → r ≡ Ok (Names k) → k < 16
+named-inside (Ok (Names j)) k h e = let z : j ≡ k = cc in omega (arith, z, h)
+named-inside (Ok Sign) k h e = absurd (let z : ◌≡◌ {A = ℕ} 0 1 = cc in omega arith)
+named-inside (Ok (Times x)) k h e = absurd (let z : ◌≡◌ {A = ℕ} 0 1 = cc in omega arith)
+named-inside (Err x) k h e = absurd (let z : ◌≡◌ {A = ℕ} 0 1 = cc in omega arith)
 
 -- a sign and a number name nobody
 pub sign-inside : (b e h : Bool) → NamesInside (sign_judged b e h)
@@ -105,9 +100,9 @@ sign-inside true true h = tt
 sign-inside true false true = tt
 sign-inside true false false = tt
 
-pub times-inside : (n : Number) → NamesInside (times_judged n)
-times-inside (Is x) = tt
-times-inside Missing = tt
+pub times-inside : (n : Option Float) → NamesInside (times_judged n)
+times-inside (Some x) = tt
+times-inside None = tt
 
 -- ---- what a word is
 
@@ -117,12 +112,12 @@ module _ (b e h p : Bool) (w texts : List ℕ) (l : Bool) (L : l ≡ (not p && s
   term-sign q = rw (← L, q)
 
   module _ (q : l ≡ false) (j : Bool) (J : j ≡ (ltb 1 (length w) && has_equals w)) where
-    pub term-joined : j ≡ true → Not ApartEquals ≡ term_judged b e h p w texts
+    pub term-joined : j ≡ true → Err ApartEquals ≡ term_judged b e h p w texts
     unfolding term_judged
     term-joined z = rw (← L, q, ← J, z)
 
     module _ (z : j ≡ false) (s : Bool) (S : s ≡ (same_text w (ascii "+") || same_text w (ascii "-"))) where
-      pub term-plus : s ≡ true → Not NoSign ≡ term_judged b e h p w texts
+      pub term-plus : s ≡ true → Err NoSign ≡ term_judged b e h p w texts
       unfolding term_judged
       term-plus y = rw (← L, q, ← J, z, ← S, y)
 
@@ -136,39 +131,39 @@ module _ (b e h p : Bool) (w texts : List ℕ) (l : Bool) (L : l ≡ (not p && s
           unfolding term_judged
           term-name v = rw (← L, q, ← J, z, ← S, y, ← N, x, ← A, v)
 
-          pub term-none : a ≡ false → Not TermName ≡ term_judged b e h p w texts
+          pub term-none : a ≡ false → Err TermName ≡ term_judged b e h p w texts
           unfolding term_judged
           term-none v = rw (← L, q, ← J, z, ← S, y, ← N, x, ← A, v)
 
 -- ---- a turn
 
-module _ (e : Bool) (n : Number) (x : Float) (X : x ≡ amount n) where
+module _ (e : Bool) (n : Option Float) (x : Float) (X : x ≡ amount n) where
   pub signed-after : e ≡ true → neg x ≡ signed e (amount n)
   signed-after h = rw (h, X)
 
   pub signed-before : e ≡ false → x ≡ signed e (amount n)
   signed-before h = rw (h, X)
 
-module _ (p : ℕ) (b : Bool) (w texts : List ℕ) (t : Turn) (z : Bool) (Z : z ≡ is_some t.pending) (r : Term) (R : r ≡ term_judged b t.equals t.here z w texts) where
-  pub turned-not : (x : Expected) → r ≡ Not x → stopped x ≡ turned p (term_judged b t.equals t.here (is_some t.pending) w texts) t
+module _ (p : ℕ) (b : Bool) (w texts : List ℕ) (t : Turn) (z : Bool) (Z : z ≡ is_some t.pending) (r : Result Term Expected) (R : r ≡ term_judged b t.equals t.here z w texts) where
+  pub turned-not : (x : Expected) → r ≡ Err x → stopped x ≡ turned p (term_judged b t.equals t.here (is_some t.pending) w texts) t
   unfolding turned
   turned-not x e = rw (← Z, ← R, e)
 
-  pub turned-sign : r ≡ Sign → next (record { equals = true; here = false; pending = Missing; numbers = t.numbers }) ≡ turned p (term_judged b t.equals t.here (is_some t.pending) w texts) t
+  pub turned-sign : r ≡ Ok Sign → next (record { equals = true; here = false; pending = None; numbers = t.numbers }) ≡ turned p (term_judged b t.equals t.here (is_some t.pending) w texts) t
   unfolding turned
   turned-sign e = rw (← Z, ← R, e)
 
-  pub turned-times : (x : Float) → r ≡ Times x → next (record { equals = t.equals; here = t.here; pending = Is x; numbers = t.numbers }) ≡ turned p (term_judged b t.equals t.here (is_some t.pending) w texts) t
+  pub turned-times : (x : Float) → r ≡ Ok (Times x) → next (record { equals = t.equals; here = t.here; pending = Some x; numbers = t.numbers }) ≡ turned p (term_judged b t.equals t.here (is_some t.pending) w texts) t
   unfolding turned
   turned-times x e = rw (← Z, ← R, e)
 
-  module _ (k : ℕ) (e : r ≡ Names k) where
+  module _ (k : ℕ) (e : r ≡ Ok (Names k)) where
     pub turned-once : eq (at t.numbers (p + k)) +0 ≡ false → stopped Once ≡ turned p (term_judged b t.equals t.here (is_some t.pending) w texts) t
     unfolding turned
     turned-once h = rw (← Z, ← R, e, h)
 
     pub turned-name : eq (at t.numbers (p + k)) +0 ≡ true → (x : Float) → x ≡ signed t.equals (amount t.pending)
-        → next (record { equals = t.equals; here = true; pending = Missing; numbers = set t.numbers (p + k) x }) ≡ turned p (term_judged b t.equals t.here (is_some t.pending) w texts) t
+        → next (record { equals = t.equals; here = true; pending = None; numbers = set t.numbers (p + k) x }) ≡ turned p (term_judged b t.equals t.here (is_some t.pending) w texts) t
     unfolding turned
     turned-name h x X = rw (← Z, ← R, e, h, X)
 
@@ -247,14 +242,21 @@ terms-begin b p texts ws numbers = refl
 
 -- ---- what the last word told
 
-pub told-stop : (r : Next) (numbers : List Float) (e : Expected) → r ≡ Stop e → turn_told r numbers ≡ stopped e
+pub told-stop : (r : Result declared.Turn Expected) (numbers : List Float) (e : Expected) → r ≡ Err e → turn_told r numbers ≡ stopped e
 told-stop r numbers e h = rw h
 
-pub told-go : (r : Next) (numbers : List Float) (t : declared.Turn) → r ≡ Go t → turn_told r numbers ≡ next (turn t numbers)
+pub told-go : (r : Result declared.Turn Expected) (numbers : List Float) (t : declared.Turn) → r ≡ Ok t → turn_told r numbers ≡ next (turn t numbers)
 told-go r numbers t h = rw h
 
 -- ---- where the fault of a row stands
 
-pub ends-inside : (line : List ℕ) (at : ℕ) (r : Row) → EndsAt at r → at ≤ length line → RowInside line r
-ends-inside line at row.Full e h = tt
-ends-inside line at (row.Not x a b) e h = let p = e.0 in let q = e.1 in (omega arith, omega arith)
+module _ (at : ℕ) (r : Wrong) (e : Expected) (R : r ≡ record { expected = e; word = record { start = at; end = at } }) where
+  pub row-wrong : (line : List ℕ) (numbers : List Float) (l : Listed) → unlisted e [] ≡ l → row_told line (Err r) numbers ≡ l
+  row-wrong line numbers l h = rw R (ap (unlisted e) (nothing at (drop at line)) ∙ h)
+
+  pub ends-wrong : EndsAt at (Err r)
+  ends-wrong = rw R (refl, refl)
+
+pub ends-inside : (line : List ℕ) (at : ℕ) (r : Result Unit Wrong) → EndsAt at r → at ≤ length line → RowInside line r
+ends-inside line at (Ok u) e h = tt
+ends-inside line at (Err w) e h = let p = e.0 in let q = e.1 in (omega arith, omega arith)

@@ -1,5 +1,5 @@
 -- A row holds the numbers of its terms.
-use mathlib.Core.Path.{◌≡◌, refl, sym}
+use mathlib.Core.Path.{◌≡◌}
 use mathlib.Core.Bool.{Bool, true, false, cond, not, ◌&&◌, ◌||◌}
 use mathlib.Core.List.{List, [], ◌∷◌}
 use Prim.Native.Nat.{ℕ, ◌+◌}
@@ -7,20 +7,16 @@ use native.Mathlib.Omega.{arith}
 use lib.Dec.{ltb}
 use lib.ListN.{length, set}
 use lib.Ieee.{Float, eq}
+use Rattle.std.specs.Option.{is_some}
+use Rattle.std.specs.Prelude.{Option, Some, None, Err}
 use Rattle.numbers.specs.Numbers.{+0, at}
 use Rattle.ascii.specs.Text.{ascii, same_text}
-use Rattle.day_words.specs.declared.Number.{Number}
-use Rattle.day_words.specs.declared.Number.TheVariants.{Is, Missing}
 use Rattle.day_words.specs.Items.{filled}
 use Rattle.sheet_words.specs.declared.Expected.{Expected}
 use Rattle.sheet_words.specs.declared.Expected.TheVariants.{Equals, ApartEquals, NoSign, TermName, Once}
-use Rattle.sheet_words.specs.declared.Place.{Place}
-use Rattle.sheet_words.specs.declared.Place.TheVariants.{At, Nowhere}
 use Rattle.sheet_words.specs.Names.{begins_letter, begins_number, has_equals, is_taken, place_of, not_zero}
-use Rattle.sheet_terms.specs.declared.Term.{Term}
-use Rattle.sheet_terms.specs.declared.Term.TheVariants.{Not}
-use Rattle.sheet_terms.specs.Terms.{is_some, sign_judged, times_judged, place_judged, term_judged, Turn, Turned, next, stopped, amount, signed, turned, Listed, listed, unlisted, terms_end, onward_term, terms_from, terms, at_front}
-use Rattle.sheet_terms.specs.Claims.{Share, share_at, shares, with_shares, RowsFromTerms}
+use Rattle.sheet_terms.specs.Terms.{sign_judged, times_judged, place_judged, term_judged, Turn, next, stopped, amount, signed, turned, listed, unlisted, terms_end, onward_term, terms_from, terms, at_front}
+use Rattle.sheet_terms.specs.Claims.{share_at, shares, with_shares, RowsFromTerms}
 
 bad : {A : Type 0} {e : Expected} {w : List ℕ} {row : List Float} → unlisted e w ≡ listed row → A
 bad h = absurd (let z : ◌≡◌ {A = ℕ} 0 1 = cc in omega arith)
@@ -36,31 +32,31 @@ module _ (b : Bool) (p : ℕ) (texts : List ℕ) (ws : List (List ℕ)) (row : L
   Gives = (u : Turn) → terms_from b p texts ws u ≡ listed row → row ≡ with_shares p (shares texts u.equals u.pending ws) u.numbers
 
   sign-gives : (w : List ℕ) (t : Turn) (balance equals here : Bool) → onward_term w (turned p (sign_judged balance equals here) t) (terms_from b p texts ws) ≡ listed row → Gives
-      → row ≡ with_shares p (shares texts true Missing ws) t.numbers
+      → row ≡ with_shares p (shares texts true None ws) t.numbers
   unfolding turned
   sign-gives w t false equals here h g = bad h
   sign-gives w t true true here h g = bad h
-  sign-gives w t true false true h g = g (record { equals = true; here = false; pending = Missing; numbers = t.numbers }) h
+  sign-gives w t true false true h g = g (record { equals = true; here = false; pending = None; numbers = t.numbers }) h
   sign-gives w t true false false h g = bad h
 
   name-gives : (w : List ℕ) (t : Turn) (k : ℕ) (free : Bool)
-      → onward_term w (cond free (next (record { equals = t.equals; here = true; pending = Missing; numbers = set t.numbers (p + k) (signed t.equals (amount t.pending)) })) (stopped Once)) (terms_from b p texts ws) ≡ listed row → Gives
-      → row ≡ with_shares p (shares texts t.equals Missing ws) (set t.numbers (p + k) (signed t.equals (amount t.pending)))
-  name-gives w t k true h g = g (record { equals = t.equals; here = true; pending = Missing; numbers = set t.numbers (p + k) (signed t.equals (amount t.pending)) }) h
+      → onward_term w (cond free (next (record { equals = t.equals; here = true; pending = None; numbers = set t.numbers (p + k) (signed t.equals (amount t.pending)) })) (stopped Once)) (terms_from b p texts ws) ≡ listed row → Gives
+      → row ≡ with_shares p (shares texts t.equals None ws) (set t.numbers (p + k) (signed t.equals (amount t.pending)))
+  name-gives w t k true h g = g (record { equals = t.equals; here = true; pending = None; numbers = set t.numbers (p + k) (signed t.equals (amount t.pending)) }) h
   name-gives w t k false h g = bad h
 
-  word-gives : (w : List ℕ) (t : Turn) (l j s n a : Bool) (z : Number) (q : Place) (c : Bool)
-      → onward_term w (turned p (cond l (sign_judged b t.equals t.here) (cond j (Not ApartEquals) (cond s (Not NoSign) (cond n (times_judged z) (cond a (place_judged q c) (Not TermName)))))) t) (terms_from b p texts ws) ≡ listed row → Gives
-      → row ≡ with_shares p (cond l (shares texts true Missing ws) (cond n (shares texts t.equals z ws) (share_at q (signed t.equals (amount t.pending)) (shares texts t.equals Missing ws)))) t.numbers
+  word-gives : (w : List ℕ) (t : Turn) (l j s n a : Bool) (z : Option Float) (q : Option ℕ) (c : Bool)
+      → onward_term w (turned p (cond l (sign_judged b t.equals t.here) (cond j (Err ApartEquals) (cond s (Err NoSign) (cond n (times_judged z) (cond a (place_judged q c) (Err TermName)))))) t) (terms_from b p texts ws) ≡ listed row → Gives
+      → row ≡ with_shares p (cond l (shares texts true None ws) (cond n (shares texts t.equals z ws) (share_at q (signed t.equals (amount t.pending)) (shares texts t.equals None ws)))) t.numbers
   unfolding turned with_shares
   word-gives w t true j s n a z q c h g = sign-gives w t b t.equals t.here h g
   word-gives w t false true s n a z q c h g = bad h
   word-gives w t false false true n a z q c h g = bad h
-  word-gives w t false false false true a (Is x) q c h g = g (record { equals = t.equals; here = t.here; pending = Is x; numbers = t.numbers }) h
-  word-gives w t false false false true a Missing q c h g = bad h
-  word-gives w t false false false false true z (At k) c h g = name-gives w t k (eq (at t.numbers (p + k)) +0) h g
-  word-gives w t false false false false true z Nowhere true h g = bad h
-  word-gives w t false false false false true z Nowhere false h g = bad h
+  word-gives w t false false false true a (Some x) q c h g = g (record { equals = t.equals; here = t.here; pending = Some x; numbers = t.numbers }) h
+  word-gives w t false false false true a None q c h g = bad h
+  word-gives w t false false false false true z (Some k) c h g = name-gives w t k (eq (at t.numbers (p + k)) +0) h g
+  word-gives w t false false false false true z None true h g = bad h
+  word-gives w t false false false false true z None false h g = bad h
   word-gives w t false false false false false z q c h g = bad h
 
 from-terms : (b : Bool) (p : ℕ) (texts : List ℕ) (ws : List (List ℕ)) (row : List Float) (t : Turn) → terms_from b p texts ws t ≡ listed row → row ≡ with_shares p (shares texts t.equals t.pending ws) t.numbers

@@ -1,50 +1,43 @@
 -- Terms, word by word, into a row of 16 numbers. Definitions only.
-use Rattle.std.specs.Prelude.{Bool, true, false, cond, not, ◌&&◌, ◌||◌, List, [], ◌∷◌, ℕ, ◌+◌, ltb, length, set, Float}
+use Rattle.std.specs.Option.{is_some}
+use Rattle.std.specs.Prelude.{Option, Some, None, Result, Ok, Err, Bool, true, false, cond, not, ◌&&◌, ◌||◌, List, [], ◌∷◌, ℕ, ◌+◌, ltb, length, set, Float}
 use Rattle.std.specs.Float.Ieee.{neg, eq}
 use Rattle.numbers.specs.Numbers.{+0, one, at}
 use Rattle.ascii.specs.Text.{ascii, same_text}
-use Rattle.day_words.specs.declared.Number.{Number}
-use Rattle.day_words.specs.declared.Number.TheVariants.{Is, Missing}
 use Rattle.day_words.specs.Items.{filled}
 use Rattle.sheet_words.specs.declared.Expected.{Expected}
 use Rattle.sheet_words.specs.declared.Expected.TheVariants.{Equals, OneEquals, NoEquals, ApartEquals, NoSign, Coefficient, TermName, SameCapitals, Given, Once}
-use Rattle.sheet_words.specs.declared.Place.{Place}
-use Rattle.sheet_words.specs.declared.Place.TheVariants.{At, Nowhere}
 use Rattle.sheet_words.specs.Names.{begins_letter, begins_number, has_equals, is_taken, place_of, not_zero}
 use Rattle.sheet_terms.specs.declared.Term.{Term}
-use Rattle.sheet_terms.specs.declared.Term.TheVariants.{Sign, Times, Names, Not}
+use Rattle.sheet_terms.specs.declared.Term.TheVariants.{Sign, Times, Names}
 
 -- ---- what a word is among terms
 
-abbrev pub is_some : Number → Bool
-is_some (Is x) = true
-is_some Missing = false
-
 -- `=`: never in a floor or ceiling, once in a balance, and after a term
-abbrev pub sign_judged : (balance equals here : Bool) → Term
+abbrev pub sign_judged : (balance equals here : Bool) → Result Term Expected
 sign_judged balance equals here =
-    cond (not balance) (Not NoEquals)
-    (cond equals (Not OneEquals)
-    (cond here Sign
-    (Not TermName)))
+    cond (not balance) (Err NoEquals)
+    (cond equals (Err OneEquals)
+    (cond here (Ok Sign)
+    (Err TermName)))
 
-abbrev pub times_judged : Number → Term
-times_judged (Is x) = Times x
-times_judged Missing = Not Coefficient
+abbrev pub times_judged : Option Float → Result Term Expected
+times_judged (Some x) = Ok (Times x)
+times_judged None = Err Coefficient
 
-abbrev pub place_judged : Place → (alike : Bool) → Term
-place_judged (At k) alike = Names k
-place_judged Nowhere alike = cond alike (Not SameCapitals) (Not Given)
+abbrev pub place_judged : Option ℕ → (alike : Bool) → Result Term Expected
+place_judged (Some k) alike = Ok (Names k)
+place_judged None alike = cond alike (Err SameCapitals) (Err Given)
 
 -- `pending`: a number stands right before it
-unfoldable pub term_judged : (balance equals here pending : Bool) → (w texts : List ℕ) → Term
+unfoldable pub term_judged : (balance equals here pending : Bool) → (w texts : List ℕ) → Result Term Expected
 term_judged balance equals here pending w texts =
     cond (not pending && same_text w (ascii "=")) (sign_judged balance equals here)
-    (cond (ltb 1 (length w) && has_equals w) (Not ApartEquals)
-    (cond (same_text w (ascii "+") || same_text w (ascii "-")) (Not NoSign)
+    (cond (ltb 1 (length w) && has_equals w) (Err ApartEquals)
+    (cond (same_text w (ascii "+") || same_text w (ascii "-")) (Err NoSign)
     (cond (not pending && begins_number w) (times_judged (not_zero w))
     (cond (begins_letter w) (place_judged (place_of 16 0 (filled w) texts) (is_taken 16 0 (filled w) texts))
-    (Not TermName)))))
+    (Err TermName)))))
 
 -- ---- the row, so far
 
@@ -52,7 +45,7 @@ term_judged balance equals here pending w texts =
 pub record Turn : Type 0 where
   pub equals : Bool
   pub here : Bool
-  pub pending : Number
+  pub pending : Option Float
   pub numbers : List Float
 
 pub data Turned : Type 0 where
@@ -60,23 +53,23 @@ pub data Turned : Type 0 where
   stopped : Expected → Turned
 
 -- once where no number stands before the name; with the other sign after `=`
-abbrev pub amount : Number → Float
-amount (Is x) = x
-amount Missing = one
+abbrev pub amount : Option Float → Float
+amount (Some x) = x
+amount None = one
 
 abbrev pub signed : Bool → Float → Float
 signed true x = neg x
 signed false x = x
 
 -- the row starts at p and was blank: what is not +0 in it was named in this line
-unfoldable pub turned : (p : ℕ) → Term → Turn → Turned
-turned p Sign t = next (record { equals = true; here = false; pending = Missing; numbers = t.numbers })
-turned p (Times x) t = next (record { equals = t.equals; here = t.here; pending = Is x; numbers = t.numbers })
-turned p (Names k) t =
+unfoldable pub turned : (p : ℕ) → Result Term Expected → Turn → Turned
+turned p (Ok Sign) t = next (record { equals = true; here = false; pending = None; numbers = t.numbers })
+turned p (Ok (Times x)) t = next (record { equals = t.equals; here = t.here; pending = Some x; numbers = t.numbers })
+turned p (Ok (Names k)) t =
     cond (eq (at t.numbers (p + k)) +0)
-    (next (record { equals = t.equals; here = true; pending = Missing; numbers = set t.numbers (p + k) (signed t.equals (amount t.pending)) }))
+    (next (record { equals = t.equals; here = true; pending = None; numbers = set t.numbers (p + k) (signed t.equals (amount t.pending)) }))
     (stopped Once)
-turned p (Not e) t = stopped e
+turned p (Err e) t = stopped e
 
 -- ---- all words
 
@@ -99,7 +92,7 @@ terms_from balance p texts [] t = terms_end balance t
 terms_from balance p texts (w ∷ ws) t = onward_term w (turned p (term_judged balance t.equals t.here (is_some t.pending) w texts) t) (terms_from balance p texts ws)
 
 abbrev pub at_front : List Float → Turn
-at_front numbers = record { equals = false; here = false; pending = Missing; numbers = numbers }
+at_front numbers = record { equals = false; here = false; pending = None; numbers = numbers }
 
 unfoldable pub terms : (balance : Bool) (p : ℕ) (texts : List ℕ) → List (List ℕ) → (numbers : List Float) → Listed
 terms balance p texts ws numbers = terms_from balance p texts ws (at_front numbers)

@@ -2,23 +2,23 @@
 #![tactic(auto)]
 
 ghost use Rattle.std.specs.Prelude.{◌≡◌, not, ◌&&◌, ◌||◌, ◌+◌, ◌≤◌, ◌<◌, ltb, length, drop};
+ghost use Rattle.std.specs.Option.{is_some};
 ghost use Rattle.ascii.specs.Text.{ascii as text_ascii, same_text};
 ghost use Rattle.day_words.specs.Items.{filled};
 ghost use Rattle.sheet_words.specs.Names.{begins_number, has_equals, is_taken, place_of, not_zero};
 ghost use Rattle.sheet_words.specs.Lines.{words_of};
-ghost use Rattle.sheet_terms.specs.Terms.{is_some, sign_judged, times_judged, place_judged, term_judged, signed, amount, turned, terms_end, terms_from, terms};
+ghost use Rattle.sheet_terms.specs.Terms.{sign_judged, times_judged, place_judged, term_judged, signed, amount, turned, terms_end, terms_from, terms};
 ghost use Rattle.sheet_terms.specs.inner.Work.{NamesInside, turn, turn_told, row_told, IsEnd, RowInside, EndsAt};
 
-use day_words::Number;
-use sheet_words::{Expected, Place};
+use day_words::Word;
+use sheet_words::{Expected, Wrong};
 
-// What a word is among terms.
+// What a word is among terms: the sign between the sides, a number before a name, or the name of a place.
 #[derive(Clone, Copy)]
 pub enum Term {
     Sign,
     Times(f64),
     Names(usize),
-    Not(Expected),
 }
 
 // Whether `=` was passed, whether this side has a term, and the number that waits for its name.
@@ -26,76 +26,52 @@ pub enum Term {
 struct Turn {
     equals: bool,
     here: bool,
-    pending: Number,
-}
-
-// The turn after a word, or what was expected.
-#[derive(Clone, Copy)]
-enum Next {
-    Go(Turn),
-    Stop(Expected),
-}
-
-// A row is full, or what was expected, and the places of the word that stands there.
-#[derive(Clone, Copy)]
-pub enum Row {
-    Full,
-    Not(Expected, usize, usize),
-}
-
-// Whether there is a number.
-fn is_some(n: Number) -> bool
-    ensures { result ≡ is_some n }
-{
-    match n {
-        Number::Is(_) => true,
-        Number::Missing => false,
-    }
+    pending: Option<f64>,
 }
 
 // A `=` in its place or not.
-fn judge_sign(balance: bool, equals: bool, here: bool) -> Term
+fn judge_sign(balance: bool, equals: bool, here: bool) -> Result<Term, Expected>
     ensures { result ≡ sign_judged balance equals here }
 {
     if !balance {
-        return Term::Not(Expected::NoEquals);
+        return Err(Expected::NoEquals);
     }
     if equals {
-        return Term::Not(Expected::OneEquals);
+        return Err(Expected::OneEquals);
     }
     if here {
-        return Term::Sign;
+        return Ok(Term::Sign);
     }
-    Term::Not(Expected::TermName)
+    Err(Expected::TermName)
 }
 
 // A number before a name.
-fn judge_times(word: &[u8]) -> Term
+fn judge_times(word: &[u8]) -> Result<Term, Expected>
     ensures { result ≡ times_judged (not_zero word.now) }
 {
-    let Number::Is(x) = sheet_words::not_zero(word) else {
-        return Term::Not(Expected::Coefficient);
+    let Some(x) = sheet_words::not_zero(word) else {
+        return Err(Expected::Coefficient);
     };
-    Term::Times(x)
+    Ok(Term::Times(x))
 }
 
 // A name.
-fn judge_place(word: &[u8], texts: &[u8]) -> Term
+fn judge_place(word: &[u8], texts: &[u8]) -> Result<Term, Expected>
     requires { 256 ≤ length texts.now }
     ensures value { result ≡ place_judged (place_of 16 0 (filled word.now) texts.now) (is_taken 16 0 (filled word.now) texts.now) }
     ensures names_inside { NamesInside result }
 {
     if 16 < word.len() {
-        return Term::Not(Expected::Given);
+        return Err(Expected::Given);
     }
     let name = day_words::fill(word);
-    let Place::At(k) = sheet_words::find_place(&name, texts) else {
+    let Some(k) = sheet_words::find_place(&name, texts) else {
         if sheet_words::is_taken(16, &name, texts) {
-            return Term::Not(Expected::SameCapitals);
+            return Err(Expected::SameCapitals);
         }
-        return Term::Not(Expected::Given);
+        return Err(Expected::Given);
     };
-    Term::Names(k)
+    Ok(Term::Names(k))
 }
 
 // Whether a word is `=` and may be a sign.
@@ -146,7 +122,7 @@ fn judge_term(
     pending: bool,
     word: &[u8],
     texts: &[u8],
-) -> Term
+) -> Result<Term, Expected>
     requires { 256 ≤ length texts.now }
     ensures value { result ≡ term_judged balance equals here pending word.now texts.now }
     ensures names_inside { NamesInside result }
@@ -155,10 +131,10 @@ fn judge_term(
         return judge_sign(balance, equals, here);
     }
     if is_joined(word) {
-        return Term::Not(Expected::ApartEquals);
+        return Err(Expected::ApartEquals);
     }
     if is_sign(word) {
-        return Term::Not(Expected::NoSign);
+        return Err(Expected::NoSign);
     }
     if is_number(pending, word) {
         return judge_times(word);
@@ -166,24 +142,14 @@ fn judge_term(
     if sheet_words::begins_letter(word) {
         return judge_place(word, texts);
     }
-    Term::Not(Expected::TermName)
+    Err(Expected::TermName)
 }
 
-// A number, or one.
-fn amount_of(n: Number) -> f64
-    ensures { result ≡ amount n }
-{
-    match n {
-        Number::Is(x) => x,
-        Number::Missing => 1.0,
-    }
-}
-
-// The number that a name gets in the row.
-fn coefficient(equals: bool, pending: Number) -> f64
+// The number that a name gets in the row: one where none waits for it.
+fn coefficient(equals: bool, pending: Option<f64>) -> f64
     ensures { result ≡ signed equals (amount pending) }
 {
-    let x = amount_of(pending);
+    let x = pending.unwrap_or(1.0);
     if equals {
         return -x;
     }
@@ -198,63 +164,60 @@ fn take_term(
     texts: &[u8],
     t: Turn,
     numbers: &mut [f64],
-) -> Next
+) -> Result<Turn, Expected>
     requires { (256 ≤ length texts.now) × (p + 16 ≤ length numbers.old) }
     ensures numbers_after { turn_told result numbers.new ≡ turned p (term_judged balance t.equals t.here (is_some t.pending) word.now texts.now) (turn t numbers.old) }
     ensures numbers_len_unchanged { length numbers.new ≡ length numbers.old }
 {
-    let equals = t.equals;
-    let here = t.here;
     let pending = t.pending;
-    match judge_term(balance, equals, here, is_some(pending), word, texts) {
-        Term::Not(e) => Next::Stop(e),
-        Term::Sign => Next::Go(Turn {
+    match judge_term(balance, t.equals, t.here, pending.is_some(), word, texts)? {
+        Term::Sign => Ok(Turn {
             equals: true,
             here: false,
-            pending: Number::Missing,
+            pending: None,
         }),
-        Term::Times(x) => Next::Go(Turn {
-            equals: equals,
-            here: here,
-            pending: Number::Is(x),
+        Term::Times(x) => Ok(Turn {
+            pending: Some(x),
+            ..t
         }),
         Term::Names(k) => {
             let q = p + k;
             if numbers[q] == 0.0 {
-                numbers[q] = coefficient(equals, pending);
-                return Next::Go(Turn {
-                    equals: equals,
+                numbers[q] = coefficient(t.equals, pending);
+                return Ok(Turn {
                     here: true,
-                    pending: Number::Missing,
+                    pending: None,
+                    ..t
                 });
             }
-            Next::Stop(Expected::Once)
+            Err(Expected::Once)
         }
     }
 }
 
 // The end of the line, at a place.
-fn finish(balance: bool, t: Turn, at: usize) -> Row
+fn finish(balance: bool, t: Turn, at: usize) -> Result<(), Wrong>
     ensures end { IsEnd balance t at result }
     ensures ends_at { EndsAt at result }
 {
     let pending = t.pending;
+    let word = Word { start: at, end: at };
     if !t.here {
-        return Row::Not(Expected::TermName, at, at);
+        return Err(Wrong::new(Expected::TermName, word));
     }
-    if is_some(pending) {
-        return Row::Not(Expected::TermName, at, at);
+    if pending.is_some() {
+        return Err(Wrong::new(Expected::TermName, word));
     }
     if !balance {
-        return Row::Full;
+        return Ok(());
     }
     if t.equals {
-        return Row::Full;
+        return Ok(());
     }
-    Row::Not(Expected::Equals, at, at)
+    Err(Wrong::new(Expected::Equals, word))
 }
 
-// All words from a place on.
+// All words from a place on, each from the end of the last.
 pub fn take_terms(
     line: &[u8],
     from: usize,
@@ -262,7 +225,7 @@ pub fn take_terms(
     p: usize,
     texts: &[u8],
     numbers: &mut [f64],
-) -> Row
+) -> Result<(), Wrong>
     requires { (from ≤ length line.now) × (256 ≤ length texts.now) × (p + 16 ≤ length numbers.old) }
     ensures numbers_after { row_told line.now result numbers.new ≡ terms balance p texts.now (words_of (drop from line.now)) numbers.old }
     ensures numbers_len_unchanged { (length numbers.new ≡ length numbers.old) × RowInside line.now result }
@@ -270,20 +233,18 @@ pub fn take_terms(
     let mut t = Turn {
         equals: false,
         here: false,
-        pending: Number::Missing,
+        pending: None,
     };
     let mut at = from;
     loop {
-        let w = day_words::find_word(line, at);
-        let start = w.start;
-        let end = w.end;
-        if start == end {
-            return finish(balance, t, start);
+        let word = day_words::find_word(line, at);
+        if word.start == word.end {
+            return finish(balance, t, word.start);
         }
-        match take_term(&line[start..end], balance, p, texts, t, numbers) {
-            Next::Stop(e) => return Row::Not(e, start, end),
-            Next::Go(u) => t = u,
+        match take_term(&line[word.start..word.end], balance, p, texts, t, numbers) {
+            Err(expected) => return Err(Wrong { expected, word }),
+            Ok(u) => t = u,
         }
-        at = end;
+        at = word.end;
     }
 }

@@ -1,26 +1,30 @@
 -- Letters, names and remarks: each way out of the code is one law.
 use mathlib.Core.Path.{◌≡◌, refl, sym, ap, ◌∙◌}
-use mathlib.Core.Bool.{Bool, true, false, cond, not, ◌&&◌, ◌||◌}
+use mathlib.Core.Logic.{⊎_elim}
+use mathlib.Core.Bool.{Bool, true, false, cond, ◌&&◌, ◌||◌}
 use mathlib.Core.List.{List, [], ◌∷◌}
 use Prim.Native.Nat.{ℕ, zero, suc, ◌+◌, ◌-◌, ◌*◌, ◌≤◌, ◌<◌}
 use native.Mathlib.Omega.{arith}
-use borrow.Author.Tests.{lt-ltb, le-ltb, le-leb, lt-leb, eq-eqb, ne_eqb, leb-true}
-use lib.Dec.{leb, ltb, eqb}
+use borrow.Author.Tests.{lt-ltb, le-ltb, le-leb, lt-leb, eq-eqb, ne_eqb, eqb-true}
+use lib.Dec.{leb, eqb}
 use lib.ListN.{length, take, drop, get_or, replicate, drop_of_length-le, length-take, length-append}
-use lib.Seq.{take_all, length-take-le}
+use lib.Seq.{take_all}
 use lib.Ieee.{Float, lt, le, eq}
+use Rattle.std.specs.Char.{to_ascii_lowercase}
+use Rattle.std.specs.List.{list_any}
+use Rattle.std.specs.Prelude.{Result, IsErrAnd, Option, Some, None, Ok, Err, IsTrue, ◌↔◌, map}
 use Rattle.numbers.specs.Numbers.{+0}
+use Rattle.numbers.proofs.Cases.{lt-or-ge}
 use Rattle.ascii.specs.Text.{same_text}
 use Rattle.ascii.proofs.Same.{next-byte, other_length}
-use Rattle.day_words.specs.declared.Number.{Number}
-use Rattle.day_words.specs.declared.Number.TheVariants.{Is, Missing}
+use Rattle.day_words.specs.declared.Word.{Word}
 use Rattle.day_words.specs.Words.{is_blank, up_to, skip_blanks, joined, word, rest}
 use Rattle.day_words.specs.Items.{decimal_of, filled}
+use Rattle.sheet_words.specs.declared.Expected.{Expected}
 use Rattle.sheet_words.specs.declared.Expected.TheVariants.{Name, ShortName, PlainName, NewName}
-use Rattle.sheet_words.specs.declared.Judged.TheVariants.{Fine, Not}
-use Rattle.sheet_words.specs.declared.Place.TheVariants.{At, Nowhere}
 use Rattle.sheet_words.specs.Names.{is_capital, is_letter, small, same_small, begins_letter, is_numeric, begins_number, has_equals, is_name_byte, are_name_bytes, is_taken, place_of, name_judged, above_zero, not_below_zero, not_zero}
-use Rattle.sheet_words.specs.Lines.{after_mark, unremarked_from, unremarked, is_over, words_of}
+use Rattle.sheet_words.specs.declared.Wrong.{Wrong}
+use Rattle.sheet_words.specs.Lines.{Lies, FoundIn, after_mark, unremarked_from, unremarked, words_of}
 
 or-false : (b : Bool) → b ≡ (b || false)
 or-false true = refl
@@ -50,9 +54,6 @@ capital-low c h = rw (lt-leb 65 c h)
 pub capital-high : (c : ℕ) → 65 ≤ c → leb c 90 ≡ is_capital c
 capital-high c h = rw (le-leb 65 c h)
 
-pub capital-fits : (c : ℕ) → is_capital c ≡ true → c ≤ 90
-capital-fits c h = leb-true c 90 (and_right (leb 65 c) (leb c 90) h)
-
 module _ (c : ℕ) (b : Bool) (B : b ≡ is_capital c) where
   pub letter-capital : b ≡ true → true ≡ is_letter c
   letter-capital e = rw (← B, e)
@@ -62,14 +63,6 @@ module _ (c : ℕ) (b : Bool) (B : b ≡ is_capital c) where
 
   pub letter-high : b ≡ false → 97 ≤ c → leb c 122 ≡ is_letter c
   letter-high e h = rw (← B, e, le-leb 97 c h)
-
-  pub small_is : b ≡ true → c + 32 ≡ small c
-  unfolding small
-  small_is e = rw (← B, e)
-
-  pub small-not : b ≡ false → c ≡ small c
-  unfolding small
-  small-not e = rw (← B, e)
 
 -- ---- how a word begins
 
@@ -130,17 +123,10 @@ name-bytes-later w i h e = ap are_name_bytes (next-byte w i h) ∙ rw e
 
 -- ---- `=` in a word
 
-pub equals-last : (w : List ℕ) (i : ℕ) → length w ≤ i → false ≡ has_equals (drop i w)
+pub any_equals : (w : List ℕ) → list_any (λ c. eqb c 61) w ≡ has_equals w
 unfolding has_equals
-equals-last w i h = rw (drop_of_length-le w h)
-
-pub equals-here : (w : List ℕ) (i : ℕ) → i < length w → get_or w i 0 ≡ 61 → true ≡ has_equals (drop i w)
-unfolding has_equals
-equals-here w i h e = rw (next-byte w i h, eq-eqb (get_or w i 0) 61 e)
-
-pub equals-later : (w : List ℕ) (i : ℕ) → i < length w → (get_or w i 0 ≡ 61 → ⊥) → has_equals (drop i w) ≡ has_equals (drop (i + 1) w)
-unfolding has_equals
-equals-later w i h e = ap has_equals (next-byte w i h) ∙ rw (ne_eqb (get_or w i 0) 61 e)
+any_equals [] = refl
+any_equals (c ∷ w) = ap (λ (b : Bool). eqb c 61 || b) (any_equals w)
 
 -- ---- the same but for capitals
 
@@ -155,20 +141,45 @@ alike-length (c ∷ s) (d ∷ t) h = go (eqb (small c) (small d)) (alike-length 
     go true e = e
     go false e = refl
 
-module _ (s t : List ℕ) (i : ℕ) (h : i < length s) (l : i < length t) (x y : ℕ) (X : x ≡ small (get_or s i 0)) (Y : y ≡ small (get_or t i 0)) where
-  both : same_small (drop i s) (drop i t) ≡ (eqb x y && same_small (drop (i + 1) s) (drop (i + 1) t))
-  unfolding same_small
-  both = ap (λ (a : List ℕ). same_small a (drop i t)) (next-byte s i h) ∙ ap (λ (b : List ℕ). same_small (get_or s i 0 ∷ drop (i + 1) s) b) (next-byte t i l) ∙ rw (X, Y)
+lower-small : (c : ℕ) → to_ascii_lowercase c ≡ small c
+unfolding small
+lower-small c = ⊎_elim
+    (λ (l : c < 65). rw (lt-ltb c 65 l, lt-leb 65 c l))
+    (λ (l : 65 ≤ c). ⊎_elim
+    (λ (k : c < 91). rw (le-ltb c 65 l, le-leb 65 c l, lt-ltb c 91 k, le-leb c 90 (omega arith)))
+    (λ (k : 91 ≤ c). rw (le-ltb c 65 l, le-leb 65 c l, le-ltb c 91 k, lt-leb c 90 (omega arith)))
+    (lt-or-ge c 91))
+    (lt-or-ge c 65)
 
-  pub alike-differs : (x ≡ y → ⊥) → false ≡ same_small (drop i s) (drop i t)
-  alike-differs n = sym (both ∙ rw (ne_eqb x y n))
-
-  pub alike_same : x ≡ y → same_small (drop i s) (drop i t) ≡ same_small (drop (i + 1) s) (drop (i + 1) t)
-  alike_same e = both ∙ rw (eq-eqb x y e)
-
-pub alike-last : (s t : List ℕ) (i : ℕ) → length s ≤ i → length s ≡ length t → true ≡ same_small (drop i s) (drop i t)
+alike-lower : (s t : List ℕ) → same_small s t ≡ true → map to_ascii_lowercase s ≡ map to_ascii_lowercase t
 unfolding same_small
-alike-last s t i h e = let l : length t ≤ i = omega arith in rw (drop_of_length-le s h, drop_of_length-le t l)
+alike-lower [] [] h = refl
+alike-lower [] (d ∷ t) h = absurd (let z : ◌≡◌ {A = ℕ} 0 1 = cc in omega arith)
+alike-lower (c ∷ s) [] h = absurd (let z : ◌≡◌ {A = ℕ} 0 1 = cc in omega arith)
+alike-lower (c ∷ s) (d ∷ t) h =
+    let e : small c ≡ small d = eqb-true (small c) (small d) (and_left (eqb (small c) (small d)) (same_small s t) h) in
+    let f : to_ascii_lowercase c ≡ to_ascii_lowercase d = lower-small c ∙ e ∙ sym (lower-small d) in
+    let g = alike-lower s t (and_right (eqb (small c) (small d)) (same_small s t) h) in
+    rw (f, g)
+
+lower-alike : (s t : List ℕ) → map to_ascii_lowercase s ≡ map to_ascii_lowercase t → same_small s t ≡ true
+unfolding same_small
+lower-alike [] [] h = refl
+lower-alike [] (d ∷ t) h = absurd (let z : ◌≡◌ {A = ℕ} 0 1 = cc in omega arith)
+lower-alike (c ∷ s) [] h = absurd (let z : ◌≡◌ {A = ℕ} 0 1 = cc in omega arith)
+lower-alike (c ∷ s) (d ∷ t) h =
+    let f : to_ascii_lowercase c ≡ to_ascii_lowercase d = cc in
+    let g : map to_ascii_lowercase s ≡ map to_ascii_lowercase t = cc in
+    let e : small c ≡ small d = sym (lower-small c) ∙ f ∙ lower-small d in
+    rw (eq-eqb (small c) (small d) e) (lower-alike s t g)
+
+pub alike_is : (s t : List ℕ) (b : Bool) → IsTrue b ↔ (map to_ascii_lowercase s ≡ map to_ascii_lowercase t) → b ≡ same_small s t
+alike_is s t true h = sym (lower-alike s t (h.0 refl))
+alike_is s t false h = go (same_small s t) refl
+  where
+    go : (b : Bool) → same_small s t ≡ b → false ≡ b
+    go true e = h.1 (alike-lower s t e)
+    go false e = refl
 
 -- ---- a name among those of the table
 
@@ -195,21 +206,21 @@ unfolding is_taken
 taken_none n name texts k h = let e : n - k ≡ 0 = omega arith in rw e
 
 module _ (name texts : List ℕ) (k m : ℕ) (e : m ≡ 16) where
-  place-next : k < 16 → place_of (16 - k) k name texts ≡ cond (same_text (take m (drop (16 * k) texts)) name) (At k) (place_of (16 - (k + 1)) (k + 1) name texts)
+  place-next : k < 16 → place_of (16 - k) k name texts ≡ cond (same_text (take m (drop (16 * k) texts)) name) (Some k) (place_of (16 - (k + 1)) (k + 1) name texts)
   unfolding place_of
   place-next h =
       let p : 16 - k ≡ suc (16 - (k + 1)) = omega arith in
       let q : suc k ≡ k + 1 = omega arith in
-      ap (λ (j : ℕ). place_of j k name texts) p ∙ ap (λ (j : ℕ). cond (same_text (take 16 (drop (16 * k) texts)) name) (At k) (place_of (16 - (k + 1)) j name texts)) q
-      ∙ ap (λ (j : ℕ). cond (same_text (take j (drop (16 * k) texts)) name) (At k) (place_of (16 - (k + 1)) (k + 1) name texts)) (sym e)
+      ap (λ (j : ℕ). place_of j k name texts) p ∙ ap (λ (j : ℕ). cond (same_text (take 16 (drop (16 * k) texts)) name) (Some k) (place_of (16 - (k + 1)) j name texts)) q
+      ∙ ap (λ (j : ℕ). cond (same_text (take j (drop (16 * k) texts)) name) (Some k) (place_of (16 - (k + 1)) (k + 1) name texts)) (sym e)
 
-  pub place_here : k < 16 → same_text (take m (drop (16 * k) texts)) name ≡ true → At k ≡ place_of (16 - k) k name texts
+  pub place_here : k < 16 → same_text (take m (drop (16 * k) texts)) name ≡ true → Some k ≡ place_of (16 - k) k name texts
   place_here h s = sym (place-next h ∙ rw s)
 
   pub place-later : k < 16 → same_text (take m (drop (16 * k) texts)) name ≡ false → place_of (16 - k) k name texts ≡ place_of (16 - (k + 1)) (k + 1) name texts
   place-later h s = place-next h ∙ rw s
 
-pub place_none : (name texts : List ℕ) (k : ℕ) → 16 ≤ k → Nowhere ≡ place_of (16 - k) k name texts
+pub place_none : (name texts : List ℕ) (k : ℕ) → 16 ≤ k → None ≡ place_of (16 - k) k name texts
 unfolding place_of
 place_none name texts k h = let e : 16 - k ≡ 0 = omega arith in rw e
 
@@ -224,7 +235,7 @@ unfolding is_taken
 long-taken w texts h zero k = refl
 long-taken w texts h (suc left) k = rw (← alike-length (take 16 (drop (16 * k) texts)) (filled w) (over (16 * k) w texts h)) (long-taken w texts h left (suc k))
 
-pub long-place : (w texts : List ℕ) → 16 < length w → (left k : ℕ) → place_of left k (filled w) texts ≡ Nowhere
+pub long-place : (w texts : List ℕ) → 16 < length w → (left k : ℕ) → place_of left k (filled w) texts ≡ None
 unfolding place_of
 long-place w texts h zero k = refl
 long-place w texts h (suc left) k = rw (← other_length (take 16 (drop (16 * k) texts)) (filled w) (over (16 * k) w texts h)) (long-place w texts h left (suc k))
@@ -232,66 +243,66 @@ long-place w texts h (suc left) k = rw (← other_length (take 16 (drop (16 * k)
 -- ---- a word as a name
 
 module _ (w texts : List ℕ) (b : Bool) (B : b ≡ begins_letter w) where
-  pub judge-letter : b ≡ false → Not Name ≡ name_judged w texts
+  pub judge-letter : b ≡ false → Err Name ≡ name_judged w texts
   unfolding name_judged
   judge-letter e = rw (← B, e)
 
   module _ (f : b ≡ true) where
-    pub judge-long : 16 < length w → Not ShortName ≡ name_judged w texts
+    pub judge-long : 16 < length w → Err ShortName ≡ name_judged w texts
     unfolding name_judged
     judge-long h = rw (← B, f, lt-ltb 16 (length w) h)
 
     module _ (h : length w ≤ 16) (d : Bool) (D : d ≡ are_name_bytes w) where
-      pub judge-plain : d ≡ false → Not PlainName ≡ name_judged w texts
+      pub judge-plain : d ≡ false → Err PlainName ≡ name_judged w texts
       unfolding name_judged
       judge-plain e = rw (← B, f, le-ltb 16 (length w) h, ← D, e)
 
       module _ (g : d ≡ true) (n : List ℕ) (N : n ≡ filled w) (t : Bool) (T : t ≡ is_taken 48 0 n texts) where
-        pub judge-taken : t ≡ true → Not NewName ≡ name_judged w texts
+        pub judge-taken : t ≡ true → Err NewName ≡ name_judged w texts
         unfolding name_judged
         judge-taken e = rw (← B, f, le-ltb 16 (length w) h, ← D, g, ← N, ← T, e)
 
-        pub judge-fine : t ≡ false → Fine ≡ name_judged w texts
+        pub judge-fine : t ≡ false → (Ok tt) ≡ name_judged w texts
         unfolding name_judged
         judge-fine e = rw (← B, f, le-ltb 16 (length w) h, ← D, g, ← N, ← T, e)
 
 -- ---- decimals of a kind
 
-module _ (w : List ℕ) (n : Number) (N : n ≡ decimal_of w) where
-  pub above-none : n ≡ Missing → Missing ≡ above_zero w
+module _ (w : List ℕ) (n : Option Float) (N : n ≡ decimal_of w) where
+  pub above-none : n ≡ None → None ≡ above_zero w
   unfolding above_zero
   above-none e = rw (← N, e)
 
-  pub below_none : n ≡ Missing → Missing ≡ not_below_zero w
+  pub below_none : n ≡ None → None ≡ not_below_zero w
   unfolding not_below_zero
   below_none e = rw (← N, e)
 
-  pub zero-none : n ≡ Missing → Missing ≡ not_zero w
+  pub zero-none : n ≡ None → None ≡ not_zero w
   unfolding not_zero
   zero-none e = rw (← N, e)
 
-  module _ (x : Float) (e : n ≡ Is x) where
-    pub above-is : lt +0 x ≡ true → Is x ≡ above_zero w
+  module _ (x : Float) (e : n ≡ Some x) where
+    pub above-is : lt +0 x ≡ true → Some x ≡ above_zero w
     unfolding above_zero
     above-is h = rw (← N, e, h)
 
-    pub above-not : lt +0 x ≡ false → Missing ≡ above_zero w
+    pub above-not : lt +0 x ≡ false → None ≡ above_zero w
     unfolding above_zero
     above-not h = rw (← N, e, h)
 
-    pub below-is : le +0 x ≡ true → Is x ≡ not_below_zero w
+    pub below-is : le +0 x ≡ true → Some x ≡ not_below_zero w
     unfolding not_below_zero
     below-is h = rw (← N, e, h)
 
-    pub below-not : le +0 x ≡ false → Missing ≡ not_below_zero w
+    pub below-not : le +0 x ≡ false → None ≡ not_below_zero w
     unfolding not_below_zero
     below-not h = rw (← N, e, h)
 
-    pub zero_is : eq x +0 ≡ false → Is x ≡ not_zero w
+    pub zero_is : eq x +0 ≡ false → Some x ≡ not_zero w
     unfolding not_zero
     zero_is h = rw (← N, e, h)
 
-    pub zero-not : eq x +0 ≡ true → Missing ≡ not_zero w
+    pub zero-not : eq x +0 ≡ true → None ≡ not_zero w
     unfolding not_zero
     zero-not h = rw (← N, e, h)
 
@@ -412,3 +423,11 @@ words-some s = (split s (skip_blanks s) refl).1
 
 pub nothing : (k : ℕ) (s : List ℕ) → take (k - k) s ≡ []
 nothing k s = let e : k - k ≡ 0 = omega arith in rw e
+
+pub found-in : (line : List ℕ) (r : Wrong) (e : Expected) (w : Word) → r ≡ record { expected = e; word = w } → Lies w.start w.end line → FoundIn line r
+found-in line r e w R h = rw R h
+
+-- an error that `?` hands on as it is
+pub err-is : {A E : Type 0} (r : Result A E) (e : E) → IsErrAnd r (λ x. x ≡ e) → r ≡ Err e
+err-is (Ok a) e h = absurd h
+err-is (Err x) e h = ap Err h

@@ -2,6 +2,7 @@
 use Rattle.std.specs.Prelude.{Bool, true, cond, ◌&&◌, List, [], ◌∷◌, ℕ, ◌-◌, ◌≤◌, eqb, length, take, drop}
 use Rattle.ascii.specs.Text.{same_text}
 use Rattle.day_words.specs.Words.{is_blank, joined}
+use Rattle.sheet_words.specs.declared.Wrong.{Wrong}
 
 -- ---- the bytes EF BB BF at the front
 
@@ -34,3 +35,10 @@ between a b line = take (b - a) (drop a line)
 
 abbrev pub Lies : (a b : ℕ) → List ℕ → Type 0
 Lies a b line = (a ≤ b) × (b ≤ length line)
+
+-- the word of a fault, and that it stands in the line
+abbrev pub found : (line : List ℕ) → Wrong → List ℕ
+found line w = between w.word.start w.word.end line
+
+abbrev pub FoundIn : (line : List ℕ) → Wrong → Type 0
+FoundIn line w = Lies w.word.start w.word.end line

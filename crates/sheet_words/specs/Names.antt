@@ -1,17 +1,12 @@
 -- Names by their letters, and where a name stands in the table. Definitions only.
-use Rattle.std.specs.Prelude.{Bool, true, false, cond, not, ◌&&◌, ◌||◌, List, [], ◌∷◌, ℕ, zero, suc, ◌+◌, ◌*◌, ◌≤◌, ◌<◌, leb, ltb, eqb, length, take, drop, Float}
+use Rattle.std.specs.Prelude.{Option, Some, None, Result, Ok, Err, Bool, true, false, cond, not, ◌&&◌, ◌||◌, List, [], ◌∷◌, ℕ, zero, suc, ◌+◌, ◌*◌, ◌≤◌, ◌<◌, leb, ltb, eqb, length, take, drop, Float}
 use Rattle.std.specs.Float.Ieee.{lt, le, eq}
 use Rattle.numbers.specs.Numbers.{+0}
 use Rattle.ascii.specs.Text.{same_text}
 use Rattle.decimals.specs.Decimal.{is_digit}
-use Rattle.day_words.specs.declared.Number.{Number}
-use Rattle.day_words.specs.declared.Number.TheVariants.{Is, Missing}
 use Rattle.day_words.specs.Items.{is_printable, decimal_of, filled}
+use Rattle.sheet_words.specs.declared.Expected.{Expected}
 use Rattle.sheet_words.specs.declared.Expected.TheVariants.{Name, ShortName, PlainName, NewName}
-use Rattle.sheet_words.specs.declared.Judged.{Judged}
-use Rattle.sheet_words.specs.declared.Judged.TheVariants.{Fine, Not}
-use Rattle.sheet_words.specs.declared.Place.{Place}
-use Rattle.sheet_words.specs.declared.Place.TheVariants.{At, Nowhere}
 
 -- ---- letters
 
@@ -68,40 +63,40 @@ is_taken zero k name texts = false
 is_taken (suc left) k name texts = same_small (take 16 (drop (16 * k) texts)) name || is_taken left (suc k) name texts
 
 -- the first place of a name, letter by letter
-unfoldable pub place_of : (left k : ℕ) → (name texts : List ℕ) → Place
-place_of zero k name texts = Nowhere
-place_of (suc left) k name texts = cond (same_text (take 16 (drop (16 * k) texts)) name) (At k) (place_of left (suc k) name texts)
+unfoldable pub place_of : (left k : ℕ) → (name texts : List ℕ) → Option ℕ
+place_of zero k name texts = None
+place_of (suc left) k name texts = cond (same_text (take 16 (drop (16 * k) texts)) name) (Some k) (place_of left (suc k) name texts)
 
 -- may this word be given as a name?
-unfoldable pub name_judged : (w texts : List ℕ) → Judged
+unfoldable pub name_judged : (w texts : List ℕ) → Result Unit Expected
 name_judged w texts =
-    cond (not (begins_letter w)) (Not Name)
-    (cond (ltb 16 (length w)) (Not ShortName)
-    (cond (not (are_name_bytes w)) (Not PlainName)
-    (cond (is_taken 48 0 (filled w) texts) (Not NewName)
-    Fine)))
+    cond (not (begins_letter w)) (Err Name)
+    (cond (ltb 16 (length w)) (Err ShortName)
+    (cond (not (are_name_bytes w)) (Err PlainName)
+    (cond (is_taken 48 0 (filled w) texts) (Err NewName)
+    (Ok tt))))
 
 -- ---- what callers need besides
 
-abbrev pub Inside : Place → Type 0
-Inside (At k) = k < 16
-Inside Nowhere = Unit
+abbrev pub Inside : Option ℕ → Type 0
+Inside (Some k) = k < 16
+Inside None = Unit
 
-abbrev pub ShortIf : Judged → List ℕ → Type 0
-ShortIf Fine w = length w ≤ 16
-ShortIf (Not e) w = Unit
+abbrev pub ShortIf : Result Unit Expected → List ℕ → Type 0
+ShortIf (Ok u) w = length w ≤ 16
+ShortIf (Err e) w = Unit
 
 -- ---- decimals of a kind
 
-abbrev pub only_if : (Float → Bool) → Number → Number
-only_if test (Is x) = cond (test x) (Is x) Missing
-only_if test Missing = Missing
+abbrev pub only_if : (Float → Bool) → Option Float → Option Float
+only_if test (Some x) = cond (test x) (Some x) None
+only_if test None = None
 
-unfoldable pub above_zero : List ℕ → Number
+unfoldable pub above_zero : List ℕ → Option Float
 above_zero w = only_if (λ x. lt +0 x) (decimal_of w)
 
-unfoldable pub not_below_zero : List ℕ → Number
+unfoldable pub not_below_zero : List ℕ → Option Float
 not_below_zero w = only_if (λ x. le +0 x) (decimal_of w)
 
-unfoldable pub not_zero : List ℕ → Number
+unfoldable pub not_zero : List ℕ → Option Float
 not_zero w = only_if (λ x. not (eq x +0)) (decimal_of w)

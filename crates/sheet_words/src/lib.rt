@@ -2,10 +2,10 @@
 #![tactic(auto)]
 
 ghost use Rattle.std.specs.Prelude.{◌≡◌, ◌&&◌, eqb, ◌+◌, ◌*◌, ◌≤◌, length, take, drop};
-ghost use Rattle.sheet_words.specs.Names.{is_capital, is_letter, is_numeric, begins_letter, begins_number, small as names_small, same_small, has_equals, are_name_bytes, is_name_byte, is_taken, place_of, name_judged, above_zero, not_below_zero, not_zero, Inside, ShortIf};
+ghost use Rattle.sheet_words.specs.Names.{is_capital, is_letter, is_numeric, begins_letter, begins_number, same_small, has_equals, are_name_bytes, is_name_byte, is_taken, place_of, name_judged, above_zero, not_below_zero, not_zero, Inside, ShortIf};
 ghost use Rattle.sheet_words.specs.Lines.{after_mark, unremarked};
 
-use day_words::Number;
+use day_words::Word;
 
 // What was expected where the first fault is.
 #[derive(Clone, Copy)]
@@ -47,18 +47,19 @@ pub enum Expected {
     ToleranceLine,
 }
 
-// Whether a word may stand, or what was expected.
+// What was expected in a line, and the word that stands there: an empty one at the line's end.
 #[derive(Clone, Copy)]
-pub enum Judged {
-    Fine,
-    Not(Expected),
+pub struct Wrong {
+    pub expected: Expected,
+    pub word: Word,
 }
 
-// Where a name stands in the table.
-#[derive(Clone, Copy)]
-pub enum Place {
-    At(usize),
-    Nowhere,
+impl Wrong {
+    pub fn new(expected: Expected, word: Word) -> Wrong
+        ensures { result ≡ record { expected = expected; word = word } }
+    {
+        Wrong { expected, word }
+    }
 }
 
 // Whether a byte is a capital letter.
@@ -84,29 +85,11 @@ fn is_letter(c: u8) -> bool
     false
 }
 
-// A capital's small letter; any other byte as it is.
-fn small(c: u8) -> u8
-    ensures { result ≡ names_small c }
-{
-    if is_capital(c) {
-        return c + 32;
-    }
-    c
-}
-
 // Whether two texts are the same but for capitals.
 pub fn is_alike(a: &[u8], b: &[u8]) -> bool
     ensures { result ≡ same_small a.now b.now }
 {
-    if a.len() != b.len() {
-        return false;
-    }
-    for i in 0..a.len() {
-        if small(a[i]) != small(b[i]) {
-            return false;
-        }
-    }
-    true
+    a.eq_ignore_ascii_case(b)
 }
 
 // Whether a word begins with a letter.
@@ -152,12 +135,7 @@ pub fn begins_number(word: &[u8]) -> bool
 pub fn has_equals(word: &[u8]) -> bool
     ensures { result ≡ has_equals word.now }
 {
-    for i in 0..word.len() {
-        if word[i] == b'=' {
-            return true;
-        }
-    }
-    false
+    word.contains(&b'=')
 }
 
 // Whether a byte may stand in a name.
@@ -177,8 +155,8 @@ fn is_name_byte(c: u8) -> bool
 fn are_name_bytes(word: &[u8]) -> bool
     ensures { result ≡ are_name_bytes word.now }
 {
-    for i in 0..word.len() {
-        if !is_name_byte(word[i]) {
+    for c in word {
+        if !is_name_byte(*c) {
             return false;
         }
     }
@@ -200,8 +178,8 @@ pub fn is_taken(n: usize, name: &[u8], texts: &[u8]) -> bool
     false
 }
 
-// Where a name stands among the first 16 of the table.
-pub fn find_place(name: &[u8], texts: &[u8]) -> Place
+// Where a name stands among the first 16 of the table, if it does.
+pub fn find_place(name: &[u8], texts: &[u8]) -> Option<usize>
     requires { 256 ≤ length texts.now }
     ensures value { result ≡ place_of 16 0 name.now texts.now }
     ensures inside { Inside result }
@@ -210,71 +188,65 @@ pub fn find_place(name: &[u8], texts: &[u8]) -> Place
         let start = 16 * k;
         let end = 16 * k + 16;
         if ascii::is_same(&texts[start..end], name) {
-            return Place::At(k);
+            return Some(k);
         }
     }
-    Place::Nowhere
+    None
 }
 
-// Whether a word may be given as a name.
-pub fn judge_name(word: &[u8], texts: &[u8]) -> Judged
+// Whether a word may be given as a name, or what was expected.
+pub fn judge_name(word: &[u8], texts: &[u8]) -> Result<(), Expected>
     requires { 768 ≤ length texts.now }
     ensures value { result ≡ name_judged word.now texts.now }
     ensures short_if { ShortIf result word.now }
 {
     if !begins_letter(word) {
-        return Judged::Not(Expected::Name);
+        return Err(Expected::Name);
     }
     if 16 < word.len() {
-        return Judged::Not(Expected::ShortName);
+        return Err(Expected::ShortName);
     }
     if !are_name_bytes(word) {
-        return Judged::Not(Expected::PlainName);
+        return Err(Expected::PlainName);
     }
     let name = day_words::fill(word);
     if is_taken(48, &name, texts) {
-        return Judged::Not(Expected::NewName);
+        return Err(Expected::NewName);
     }
-    Judged::Fine
+    Ok(())
 }
 
 // A decimal above zero.
-pub fn above_zero(word: &[u8]) -> Number
+pub fn above_zero(word: &[u8]) -> Option<f64>
     ensures { result ≡ above_zero word.now }
 {
-    let Number::Is(x) = day_words::number_of(word) else {
-        return Number::Missing;
-    };
+    let x = day_words::number_of(word)?;
     if 0.0 < x {
-        return Number::Is(x);
+        return Some(x);
     }
-    Number::Missing
+    None
 }
 
 // A decimal not below zero.
-pub fn not_below_zero(word: &[u8]) -> Number
+pub fn not_below_zero(word: &[u8]) -> Option<f64>
     ensures { result ≡ not_below_zero word.now }
 {
-    let Number::Is(x) = day_words::number_of(word) else {
-        return Number::Missing;
-    };
+    let x = day_words::number_of(word)?;
     if 0.0 <= x {
-        return Number::Is(x);
+        return Some(x);
     }
-    Number::Missing
+    None
 }
 
 // A decimal other than zero.
-pub fn not_zero(word: &[u8]) -> Number
+pub fn not_zero(word: &[u8]) -> Option<f64>
     ensures { result ≡ not_zero word.now }
 {
-    let Number::Is(x) = day_words::number_of(word) else {
-        return Number::Missing;
-    };
+    let x = day_words::number_of(word)?;
     if x == 0.0 {
-        return Number::Missing;
+        return None;
     }
-    Number::Is(x)
+    Some(x)
 }
 
 // The size of the byte order mark at the front.
@@ -305,14 +277,11 @@ pub fn before_remark(text: &[u8]) -> usize
     ensures { (take result text.now ≡ unremarked text.now) × (result ≤ length text.now) }
 {
     let mut free = true;
-    let mut i = 0;
-    while i < text.len() {
-        let c = text[i];
-        if begins_remark(free, c) {
+    for (i, c) in text.iter().enumerate() {
+        if begins_remark(free, *c) {
             return i;
         }
-        free = day_words::is_blank(c);
-        i += 1;
+        free = day_words::is_blank(*c);
     }
-    i
+    text.len()
 }

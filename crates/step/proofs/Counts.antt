@@ -7,9 +7,8 @@ use lib.Dec.{ltb}
 use lib.Ieee.{Float}
 use Rattle.numbers.specs.Numbers.{transposed}
 use Rattle.workspace.specs.Tables.{Answer, rank_deficient, dependent}
-use Rattle.householder.specs.Qr.{Factors, factor, apply_qt, standing}
+use Rattle.householder.specs.Qr.{factor, apply_qt, standing}
 use Rattle.nnls.specs.Counted.{Counted, unless}
-use Rattle.nnls.specs.Claims.{SoundCounted}
 use Rattle.nnls.proofs.Solves.{nnls-sound}
 use Rattle.lsei.specs.Lsei.{Solution, dual_matrix, dual_side, ldp, reduced_rows, reduced_sides, lsi_from, lsi, fixed, turned, tail_of, shifted, lsei_from, lsei}
 

@@ -1,16 +1,16 @@
 -- The exact problem: what is written for LSEI, and what its answer becomes.
-use mathlib.Core.Path.{◌≡◌, refl, sym, ap, ap₂, ◌∙◌}
-use mathlib.Core.List.{List, [], ◌∷◌, ◌++◌}
+use mathlib.Core.Path.{◌≡◌, sym, ap, ap₂, ◌∙◌}
+use mathlib.Core.List.{List, [], ◌++◌}
 use Prim.Native.Nat.{ℕ, ◌+◌, ◌*◌, ◌-◌, ◌≤◌, ◌<◌}
 use native.Mathlib.Nat.{mul-le-mul}
 use native.Mathlib.Omega.{arith}
-use lib.ListN.{length, drop}
+use lib.ListN.{length}
 use lib.Ieee.{Float}
 use borrow.Rule.Slice.PartMut.{mid_of, put_mid}
-use Rattle.numbers.specs.Numbers.{+0, at, nth, row, transposed}
-use Rattle.workspace.specs.Tables.{outcome_of}
+use Rattle.numbers.specs.Numbers.{+0, at, transposed}
+use Rattle.workspace.specs.Tables.{is_late}
 use Rattle.workspace.specs.declared.Refusal.{Refusal}
-use Rattle.workspace.specs.declared.Outcome.TheVariants as Outcome
+use Rattle.std.specs.Prelude.{Ok, Err, ⊤}
 use Rattle.workspace.specs.Readings.{vec, stack, Block, Loaded}
 use Rattle.workspace.proofs.Readings.{vec-is, vec-same, vec-part, stack_same, stack-part}
 use Rattle.workspace.proofs.Writes.{block-vec}
@@ -19,40 +19,28 @@ use Rattle.nnls.specs.Counted.{Counted}
 use Rattle.lsei.specs.Lsei.{Solution, lsei}
 use Rattle.lsei.proofs.Costs.{lsei-most}
 use Rattle.lsei.proofs.Together.{sides-part}
-use Rattle.step_rows.specs.Problem.{problem_of, Problem, constraint_of, matrix_of, sides_of, each, bound_rows, equation_of, equality_rows, inequality_rows}
+use Rattle.step_rows.specs.Problem.{Problem, matrix_of, sides_of, equality_rows, inequality_rows}
 use Rattle.step.specs.Step.{Step, in_order, exact_step, exact}
 use Rattle.step_rows.specs.inner.Work.{Pushed, equalities_among, floors_among}
 use Rattle.step_rows.proofs.Pushing.{pushed-count, pushed-matrix, pushed-sides}
 use Rattle.step_rows.proofs.Among.{all-equal, enough-exact}
-use Rattle.lsei.specs.inner.Work.{ending_answer, ended_solution, sides}
+use Rattle.lsei.specs.inner.Work.{refusal_of, ended_solution, sides}
 use Rattle.lsei_nullspace.specs.inner.Work.{solution_in}
 use Rattle.lsei.specs.declared.Ended.{Ended}
-use Rattle.step.specs.declared.Sizes.{Sizes}
-use Rattle.step.specs.declared.Tried.TheVariants.{Done, Refused}
+use Rattle.lsei.specs.declared.Unsolved.{Unsolved}
 use Rattle.step.specs.inner.Work.{ExactIn, Left, Tries}
 use Rattle.step.proofs.Counts.{lsei-rounds}
-use Rattle.step.proofs.Answers.{refusal-late, refused-is, done-is, rounds-are, factorings-are}
+use Rattle.step.proofs.Answers.{tried, refusal-late, refused-is, done-is, rounds-are, factorings-are}
 use Rattle.step.proofs.Parts.{stack-mat, vec-back, front-back}
 
 -- ---- what is written: C, d, E, f and G with h, one behind the other
 
-module _ (n m c g : ℕ) (factor : List Float) (kinds : List ℕ) (values widths jacobian lower upper w w₁ w₂ w₃ w₄ w₅ : List Float) (n16 : n ≤ 16) (m16 : m ≤ 16) (cm : c ≤ m) (g64 : g ≤ 64)
-    (C : Pushed 444 n 0 c (each m (λ j. equation_of (constraint_of (nth kinds j) (at widths j)) (row n j jacobian) (at values j))) w w₁)
-    (D : Block 732 c (λ t. at w₁ (444 + t * 18 + n)) w₁ w₂)
-    (E : Loaded 750 n n factor w₂ w₃)
-    (F : Block 1056 n (λ t. at w₃ (0 + t)) w₃ w₄)
-    (G : Pushed 1074 n 0 g (inequality_rows (problem_of n m [] [] kinds values widths jacobian lower upper)) w₄ w₅) where
-  abbrev whole : Problem
-  whole = problem_of n m factor [] kinds values widths jacobian lower upper
-
-  equalities-are : each m (λ j. equation_of (constraint_of (nth kinds j) (at widths j)) (row n j jacobian) (at values j)) ≡ equality_rows whole
-  unfolding equality_rows
-  equalities-are = refl
-
-  inequalities-are : inequality_rows (problem_of n m [] [] kinds values widths jacobian lower upper) ≡ inequality_rows whole
-  unfolding inequality_rows bound_rows
-  inequalities-are = refl
-
+module _ (p : Problem) (c g : ℕ) (w w₁ w₂ w₃ w₄ w₅ : List Float) (n16 : p.n ≤ 16) (m16 : p.m ≤ 16) (few : c ≤ p.m) (g64 : g ≤ 64)
+    (C : Pushed 444 p.n 0 c (equality_rows p) w w₁)
+    (D : Block 732 c (λ t. at w₁ (444 + t * 18 + p.n)) w₁ w₂)
+    (E : Loaded 750 p.n p.n p.factor w₂ w₃)
+    (F : Block 1056 p.n (λ t. at w₃ (0 + t)) w₃ w₄)
+    (G : Pushed 1074 p.n 0 g (inequality_rows p) w₄ w₅) where
   -- what later writes leave
   before-f : (x : ℕ) → x < 1056 → at w₅ x ≡ at w₃ x
   before-f x h = G.before x (omega arith) ∙ F.before x h
@@ -66,35 +54,34 @@ module _ (n m c g : ℕ) (factor : List Float) (kinds : List ℕ) (values widths
   before-c : (x : ℕ) → x < 444 → at w₃ x ≡ at w x
   before-c x h = E.before x (omega arith) ∙ D.before x (omega arith) ∙ C.before x h
 
-  target-kept : vec 0 n w₃ ≡ vec 0 n w
-  target-kept = vec-same 0 n w w₃ (λ i h. before-c (0 + i) (omega arith))
+  target-kept : vec 0 p.n w₃ ≡ vec 0 p.n w
+  target-kept = vec-same 0 p.n w w₃ (λ i h. before-c (0 + i) (omega arith))
 
-  f-copied : vec 1056 n w₄ ≡ vec 0 n w₃
+  f-copied : vec 1056 p.n w₄ ≡ vec 0 p.n w₃
   unfolding vec
-  f-copied = block-vec 1056 n _ w₃ w₄ F
+  f-copied = block-vec 1056 p.n _ w₃ w₄ F
 
-  h-pushed : sides 1074 g n w₅ ≡ sides_of (inequality_rows whole)
+  h-pushed : sides 1074 g p.n w₅ ≡ sides_of (inequality_rows p)
   unfolding sides
-  h-pushed = pushed-sides 1074 n g _ w₄ w₅ G ∙ ap sides_of inequalities-are
+  h-pushed = pushed-sides 1074 p.n g _ w₄ w₅ G
 
-  pub exact-in : ExactIn whole (vec 0 n w) (record { equalities = c; inequalities = g }) w₅
+  pub exact-in : ExactIn p (vec 0 p.n w) (record { equalities = c; inequalities = g }) w₅
   exact-in = record {
     few = omega arith;
     several = g64;
-    equalities = pushed-count 444 n c _ w w₁ C ∙ ap length equalities-are;
-    inequalities = pushed-count 1074 n g _ w₄ w₅ G ∙ ap length inequalities-are;
+    equalities = pushed-count 444 p.n c _ w w₁ C;
+    inequalities = pushed-count 1074 p.n g _ w₄ w₅ G;
     the_c =
-        stack_same 444 c n w₁ w₅ (λ k i hk hi. before-d (444 + k * 18 + i) (omega arith)) ∙ pushed-matrix 444 n c _ w w₁ C ∙ ap matrix_of equalities-are;
+        stack_same 444 c p.n w₁ w₅ (λ k i hk hi. before-d (444 + k * 18 + i) (omega arith)) ∙ pushed-matrix 444 p.n c _ w w₁ C;
     the_d =
-        vec-is 732 c w₅ (λ t. at w₁ (444 + t * 18 + n)) (λ t h. before-e (732 + t) (omega arith) ∙ D.inside t h)
-        ∙ pushed-sides 444 n c _ w w₁ C
-        ∙ ap sides_of equalities-are;
+        vec-is 732 c w₅ (λ t. at w₁ (444 + t * 18 + p.n)) (λ t h. before-e (732 + t) (omega arith) ∙ D.inside t h)
+        ∙ pushed-sides 444 p.n c _ w w₁ C;
     the_e =
-        stack_same 750 n n w₃ w₅ (λ k i hk hi. before-f (750 + k * 18 + i) (omega arith)) ∙ stack-mat 750 n n w₃ ∙ ap (transposed n n) E.matrix;
-    the_f = vec-same 1056 n w₄ w₅ (λ i h. G.before (1056 + i) (omega arith)) ∙ f-copied ∙ target-kept;
-    the_g = pushed-matrix 1074 n g _ w₄ w₅ G ∙ ap matrix_of inequalities-are;
+        stack_same 750 p.n p.n w₃ w₅ (λ k i hk hi. before-f (750 + k * 18 + i) (omega arith)) ∙ stack-mat 750 p.n p.n w₃ ∙ ap (transposed p.n p.n) E.matrix;
+    the_f = vec-same 1056 p.n w₄ w₅ (λ i h. G.before (1056 + i) (omega arith)) ∙ f-copied ∙ target-kept;
+    the_g = pushed-matrix 1074 p.n g _ w₄ w₅ G;
     the_h = h-pushed;
-    front = vec-same 0 n w₃ w₅ (λ i h. before-f (0 + i) (omega arith)) ∙ target-kept;
+    front = vec-same 0 p.n w₃ w₅ (λ i h. before-f (0 + i) (omega arith)) ∙ target-kept;
   }
 
 -- ---- LSEI on it
@@ -145,20 +132,20 @@ module _ (p : Problem) (f : List Float) (c g : ℕ) (w v : List Float) (e : Ende
   front-left : vec 0 p.n left ≡ f
   front-left = front-back w v h p.n (omega arith) ∙ X.front
 
-  pub exact-refused : (w₀ : List Float) (r : Refusal) → f ≡ vec 0 p.n w₀ → Outcome.Refused r ≡ outcome_of (ending_answer e.ending (solution_in p.n c g v))
-      → Tries (exact p f) p.n p.m (Refused r e.rounds e.factorings) w₀ left
+  pub exact-refused : (w₀ : List Float) (u : Unsolved) (r : Refusal) → f ≡ vec 0 p.n w₀ → e.ending ≡ Err u → r ≡ refusal_of u
+      → Tries (exact p f) p.n p.m (tried (Err r) e) w₀ left
   unfolding exact
-  exact-refused w₀ r q i = record {
-    answer = refused-is e (solution_in p.n c g v) eqs (exact_step p (length (equality_rows p))) solved r [] [] i;
+  exact-refused w₀ u r q i k = record {
+    answer = refused-is e (solution_in p.n c g v) eqs (exact_step p (length (equality_rows p))) solved u r [] [] i k;
     front = front-left ∙ q;
     rounds = few-rounds;
     factorings = few-factorings;
-    late = refusal-late e.ending (solution_in p.n c g v) r i;
+    late = ap is_late k ∙ refusal-late u;
   }
 
-  pub exact-done : (w₀ w' : List Float) → f ≡ vec 0 p.n w₀ → Outcome.Done ≡ outcome_of (ending_answer e.ending (solution_in p.n c g v))
+  pub exact-done : (w₀ w' : List Float) → f ≡ vec 0 p.n w₀ → {o : ⊤} → e.ending ≡ Ok o
       → Left p.n p.m (vec 732 p.n left) (in_order p.kinds 0 c (vec 378 c left ++ vec 4350 g left)) left w'
-      → Tries (exact p f) p.n p.m (Done +0 e.rounds e.factorings) w₀ w'
+      → Tries (exact p f) p.n p.m (tried (Ok +0) e) w₀ w'
   unfolding exact exact_step
   exact-done w₀ w' q o R = record {
     answer =

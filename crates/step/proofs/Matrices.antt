@@ -6,12 +6,12 @@ use mathlib.Core.List.{List}
 use Prim.Native.Nat.{ℕ, ◌+◌, ◌*◌, ◌-◌, ◌≤◌, ◌<◌}
 use native.Mathlib.Omega.{arith}
 use lib.Dec.{leb, ltb, eqb}
-use lib.Ieee.{Float, nan}
+use lib.Ieee.{Float}
 use borrow.Author.Tests.{le-leb, lt-leb, lt-ltb, le-ltb, eq-eqb, ne_eqb}
-use Rattle.numbers.specs.Numbers.{+0, at, entry, grid}
+use Rattle.numbers.specs.Numbers.{+0, at, entry}
 use Rattle.numbers.proofs.Cases.{lt-or-ge}
 use Rattle.numbers.proofs.Lists.{entry-grid}
-use Rattle.workspace.specs.Readings.{mat, Block, Loaded}
+use Rattle.workspace.specs.Readings.{Block, Loaded}
 use Rattle.workspace.proofs.Readings.{entry-mat, mat-is}
 use Rattle.workspace.proofs.Copies.{Laid}
 use Rattle.step.specs.Step.{relaxed_matrix}

@@ -1,12 +1,12 @@
 -- Readings of LSEI's and LSI's part, which begins at 18, and of the workspace when it is back.
-use mathlib.Core.Path.{◌≡◌, refl, sym, ap, ◌∙◌}
+use mathlib.Core.Path.{◌≡◌, sym, ap, ◌∙◌}
 use mathlib.Core.List.{List}
-use Prim.Native.Nat.{ℕ, ◌+◌, ◌*◌, ◌-◌, ◌≤◌, ◌<◌}
+use Prim.Native.Nat.{ℕ, ◌+◌, ◌-◌, ◌≤◌}
 use native.Mathlib.Omega.{arith}
-use lib.ListN.{length, drop}
+use lib.ListN.{length}
 use lib.Ieee.{Float, nan}
 use borrow.Rule.Slice.PartMut.{put_mid}
-use Rattle.numbers.specs.Numbers.{at, transposed}
+use Rattle.numbers.specs.Numbers.{transposed}
 use Rattle.numbers.proofs.Lists.{matrix-same, length-transposed, entry-transposed}
 use Rattle.workspace.specs.Readings.{vec, mat, stack}
 use Rattle.workspace.proofs.Readings.{vec-same, vec-part, length-stack, entry_stack, entry-mat}

@@ -1,12 +1,12 @@
 -- What is left of an answer that is read: the multipliers at 36, and the step at 18.
-use mathlib.Core.Path.{◌≡◌, refl, sym, ap, ap₂, ◌∙◌}
+use mathlib.Core.Path.{◌≡◌, refl, sym, ap, ◌∙◌}
 use mathlib.Core.List.{List, [], ◌∷◌}
-use Prim.Native.Nat.{ℕ, suc, ◌+◌, ◌≤◌, ◌<◌}
+use Prim.Native.Nat.{ℕ, suc, ◌+◌, ◌≤◌}
 use native.Mathlib.Omega.{arith}
 use lib.ListN.{length, take}
 use lib.Seq.{length-take-le, get_or-take}
 use lib.Ieee.{Float, nan}
-use Rattle.numbers.specs.Numbers.{at, tab}
+use Rattle.numbers.specs.Numbers.{at}
 use Rattle.numbers.proofs.Lists.{by_entries, tab-of}
 use Rattle.workspace.specs.Readings.{vec, Block}
 use Rattle.workspace.proofs.Readings.{length-vec, at-vec, vec-same, vec-is}

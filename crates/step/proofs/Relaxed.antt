@@ -1,74 +1,66 @@
 -- The relaxed problem: what is written for LSI, and what its answer becomes.
-use mathlib.Core.Path.{◌≡◌, refl, sym, ap, ap₂, ◌∙◌}
+use mathlib.Core.Path.{◌≡◌, sym, ap, ap₂, ◌∙◌}
 use mathlib.Core.List.{List, [], ◌∷◌, ◌++◌}
-use Prim.Native.Nat.{ℕ, ◌+◌, ◌*◌, ◌-◌, ◌≤◌, ◌<◌}
+use Prim.Native.Nat.{ℕ, ◌+◌, ◌*◌, ◌-◌, ◌≤◌}
 use native.Mathlib.Nat.{mul-le-mul}
 use native.Mathlib.Omega.{arith}
 use lib.ListN.{length, take, length-append}
-use lib.Seq.{length-take-le, get_or-take}
-use lib.Ieee.{Float, nan}
+use lib.Ieee.{Float}
 use borrow.Rule.Slice.PartMut.{mid_of, put_mid}
 use Rattle.numbers.specs.Numbers.{+0, at}
-use Rattle.numbers.proofs.Lists.{by_entries, tab-of}
-use Rattle.workspace.specs.Tables.{outcome_of}
+use Rattle.numbers.proofs.Lists.{by_entries}
+use Rattle.workspace.specs.Tables.{is_late}
 use Rattle.workspace.specs.declared.Refusal.{Refusal}
-use Rattle.workspace.specs.declared.Outcome.TheVariants as Outcome
+use Rattle.std.specs.Prelude.{Ok, Err, ⊤}
 use Rattle.workspace.specs.Readings.{vec, mat, stack, Block, Loaded}
-use Rattle.workspace.proofs.Readings.{length-vec, at-vec, vec-same, vec-part, mat-same, mat-part, stack-part}
+use Rattle.workspace.proofs.Readings.{length-vec, vec-same, vec-part, mat-same, mat-part, stack-part}
 use Rattle.workspace.proofs.Writes.{block-vec}
 use Rattle.workspace.proofs.Parts.{lent_is}
 use Rattle.nnls.specs.Counted.{Counted}
 use Rattle.lsei.specs.Lsei.{Solution, lsi}
 use Rattle.lsei.proofs.Costs.{lsi-most}
 use Rattle.lsei.proofs.Together.{sides-part}
-use Rattle.step_rows.specs.Problem.{problem_of, Problem, matrix_of, sides_of, bound_rows, relaxed_rows}
+use Rattle.step_rows.specs.Problem.{Problem, matrix_of, sides_of, relaxed_rows}
 use Rattle.step.specs.Step.{Step, root_weight, relaxed_matrix, paired, clamped, relaxed_step, relaxed}
 use Rattle.step_rows.specs.inner.Work.{Pushed, relaxed_among}
 use Rattle.step_rows.proofs.Pushing.{pushed-count, pushed-matrix, pushed-sides}
 use Rattle.step_rows.proofs.Among.{enough-relaxed}
-use Rattle.lsei.specs.inner.Work.{ending_answer, ended_solution, sides, squares_in}
+use Rattle.lsei.specs.inner.Work.{refusal_of, ended_solution, sides, squares_in}
 use Rattle.lsei.specs.declared.Ended.{Ended}
-use Rattle.step.specs.declared.Tried.TheVariants.{Done, Refused}
+use Rattle.lsei.specs.declared.Unsolved.{Unsolved}
 use Rattle.step.specs.inner.Work.{RelaxedIn, Left, Tries}
 use Rattle.step.proofs.Counts.{lsi-rounds}
-use Rattle.step.proofs.Answers.{refusal-late, refused-is, done-is, rounds-are, factorings-are}
+use Rattle.step.proofs.Answers.{tried, refusal-late, refused-is, done-is, rounds-are, factorings-are}
 use Rattle.step.proofs.Parts.{vec-back, front-back}
 
 -- ---- what is written: E, f and G with h, one behind the other
 
-module _ (n m g : ℕ) (r : Float) (factor : List Float) (kinds : List ℕ) (values widths jacobian lower upper w w₁ w₂ w₃ : List Float) (n16 : n ≤ 16) (g66 : g ≤ 66) (q : r ≡ root_weight)
-    (E : Loaded 444 (n + 1) (n + 1) (relaxed_matrix n r factor) w w₁)
-    (F : Block 750 (n + 1) (λ t. at (vec 0 n w₁ ++ (+0 ∷ [])) t) w₁ w₂)
-    (G : Pushed 768 (n + 1) 0 g (relaxed_rows (problem_of n m [] [] kinds values widths jacobian lower upper)) w₂ w₃) where
-  abbrev whole : Problem
-  whole = problem_of n m factor [] kinds values widths jacobian lower upper
+module _ (p : Problem) (g : ℕ) (r : Float) (w w₁ w₂ w₃ : List Float) (n16 : p.n ≤ 16) (g66 : g ≤ 66) (q : r ≡ root_weight)
+    (E : Loaded 444 (p.n + 1) (p.n + 1) (relaxed_matrix p.n r p.factor) w w₁)
+    (F : Block 750 (p.n + 1) (λ t. at (vec 0 p.n w₁ ++ (+0 ∷ [])) t) w₁ w₂)
+    (G : Pushed 768 (p.n + 1) 0 g (relaxed_rows p) w₂ w₃) where
+  target-kept : vec 0 p.n w₁ ≡ vec 0 p.n w
+  target-kept = vec-same 0 p.n w w₁ (λ i h. E.before (0 + i) (omega arith))
 
-  rows_are : relaxed_rows (problem_of n m [] [] kinds values widths jacobian lower upper) ≡ relaxed_rows whole
-  unfolding relaxed_rows bound_rows
-  rows_are = refl
-
-  target-kept : vec 0 n w₁ ≡ vec 0 n w
-  target-kept = vec-same 0 n w w₁ (λ i h. E.before (0 + i) (omega arith))
-
-  side-is : vec 750 (n + 1) w₂ ≡ vec 0 n w₁ ++ (+0 ∷ [])
+  side-is : vec 750 (p.n + 1) w₂ ≡ vec 0 p.n w₁ ++ (+0 ∷ [])
   side-is =
-      block-vec 750 (n + 1) _ w₁ w₂ F ∙ sym (by_entries (n + 1) (vec 0 n w₁ ++ (+0 ∷ [])) (length-append (vec 0 n w₁) (+0 ∷ []) ∙ ap (λ (k : ℕ). k + 1) (length-vec 0 n w₁)))
+      block-vec 750 (p.n + 1) _ w₁ w₂ F ∙ sym (by_entries (p.n + 1) (vec 0 p.n w₁ ++ (+0 ∷ [])) (length-append (vec 0 p.n w₁) (+0 ∷ []) ∙ ap (λ (k : ℕ). k + 1) (length-vec 0 p.n w₁)))
 
-  h-pushed : sides 768 g (n + 1) w₃ ≡ sides_of (relaxed_rows whole)
+  h-pushed : sides 768 g (p.n + 1) w₃ ≡ sides_of (relaxed_rows p)
   unfolding sides
-  h-pushed = pushed-sides 768 (n + 1) g _ w₂ w₃ G ∙ ap sides_of rows_are
+  h-pushed = pushed-sides 768 (p.n + 1) g _ w₂ w₃ G
 
-  pub relaxed-in : RelaxedIn whole (vec 0 n w) g w₃
+  pub relaxed-in : RelaxedIn p (vec 0 p.n w) g w₃
   relaxed-in = record {
     several = g66;
-    rows = pushed-count 768 (n + 1) g _ w₂ w₃ G ∙ ap length rows_are;
+    rows = pushed-count 768 (p.n + 1) g _ w₂ w₃ G;
     the_e =
-        mat-same 444 (n + 1) (n + 1) w₁ w₃ (λ i j hi hj. G.before (444 + j * 18 + i) (omega arith) ∙ F.before (444 + j * 18 + i) (omega arith)) ∙ E.matrix ∙ ap (λ (x : Float). relaxed_matrix n x factor) q;
+        mat-same 444 (p.n + 1) (p.n + 1) w₁ w₃ (λ i j hi hj. G.before (444 + j * 18 + i) (omega arith) ∙ F.before (444 + j * 18 + i) (omega arith)) ∙ E.matrix ∙ ap (λ (x : Float). relaxed_matrix p.n x p.factor) q;
     the_f =
-        vec-same 750 (n + 1) w₂ w₃ (λ i h. G.before (750 + i) (omega arith)) ∙ side-is ∙ ap (λ (f : List Float). f ++ (+0 ∷ [])) target-kept;
-    the_g = pushed-matrix 768 (n + 1) g _ w₂ w₃ G ∙ ap matrix_of rows_are;
+        vec-same 750 (p.n + 1) w₂ w₃ (λ i h. G.before (750 + i) (omega arith)) ∙ side-is ∙ ap (λ (f : List Float). f ++ (+0 ∷ [])) target-kept;
+    the_g = pushed-matrix 768 (p.n + 1) g _ w₂ w₃ G;
     the_h = h-pushed;
-    front = vec-same 0 n w₁ w₃ (λ i h. G.before (0 + i) (omega arith) ∙ F.before (0 + i) (omega arith)) ∙ target-kept;
+    front = vec-same 0 p.n w₁ w₃ (λ i h. G.before (0 + i) (omega arith) ∙ F.before (0 + i) (omega arith)) ∙ target-kept;
   }
 
 -- ---- LSI on it
@@ -111,20 +103,20 @@ module _ (p : Problem) (f : List Float) (g : ℕ) (w v : List Float) (e : Ended)
   front-left : vec 0 p.n left ≡ f
   front-left = front-back w v h p.n (omega arith) ∙ X.front
 
-  pub relaxed-refused : (w₀ : List Float) (r : Refusal) → f ≡ vec 0 p.n w₀ → Outcome.Refused r ≡ outcome_of (ending_answer e.ending (squares_in (p.n + 1) g v))
-      → Tries (relaxed p f) p.n p.m (Refused r e.rounds e.factorings) w₀ left
+  pub relaxed-refused : (w₀ : List Float) (u : Unsolved) (r : Refusal) → f ≡ vec 0 p.n w₀ → e.ending ≡ Err u → r ≡ refusal_of u
+      → Tries (relaxed p f) p.n p.m (tried (Err r) e) w₀ left
   unfolding relaxed
-  relaxed-refused w₀ r q i = record {
-    answer = refused-is e (squares_in (p.n + 1) g v) answer (relaxed_step p) solved r [] [] i;
+  relaxed-refused w₀ u r q i k = record {
+    answer = refused-is e (squares_in (p.n + 1) g v) answer (relaxed_step p) solved u r [] [] i k;
     front = front-left ∙ q;
     rounds = few-rounds;
     factorings = few-factorings;
-    late = refusal-late e.ending (squares_in (p.n + 1) g v) r i;
+    late = ap is_late k ∙ refusal-late u;
   }
 
-  pub relaxed-done : (w₀ w' : List Float) (x : Float) → f ≡ vec 0 p.n w₀ → Outcome.Done ≡ outcome_of (ending_answer e.ending (squares_in (p.n + 1) g v)) → x ≡ clamped (at (vec 378 (p.n + 1) left) p.n)
+  pub relaxed-done : (w₀ w' : List Float) (x : Float) → f ≡ vec 0 p.n w₀ → {o : ⊤} → e.ending ≡ Ok o → x ≡ clamped (at (vec 378 (p.n + 1) left) p.n)
       → Left p.n p.m (take p.n (vec 378 (p.n + 1) left)) (paired p.kinds 0 (vec 2106 g left)) left w'
-      → Tries (relaxed p f) p.n p.m (Done x e.rounds e.factorings) w₀ w'
+      → Tries (relaxed p f) p.n p.m (tried (Ok x) e) w₀ w'
   unfolding relaxed relaxed_step
   relaxed-done w₀ w' x q o d R = record {
     answer =

@@ -7,7 +7,7 @@ use native.Mathlib.Numerals.{add-one}
 use native.Mathlib.Omega.{arith}
 use lib.ListN.{length, set}
 use lib.Ieee.{Float, neg}
-use Rattle.numbers.specs.Numbers.{Σ, at, tab, entry, transposed, ◌⊖◌, ◌⊗◌, ◌⊘◌}
+use Rattle.numbers.specs.Numbers.{Σ, at, entry, transposed, ◌⊖◌, ◌⊗◌, ◌⊘◌}
 use Rattle.numbers.proofs.Lists.{tab-same, by_entries, entry-transposed}
 use Rattle.numbers.proofs.Sums.{Σ-same}
 use Rattle.workspace.specs.Readings.{vec, Block}

@@ -1,5 +1,5 @@
 -- The root of RELAXATION_WEIGHT is exactly 1000.
-use mathlib.Core.Path.{◌≡◌, refl, ap, ◌∙◌}
+use mathlib.Core.Path.{◌≡◌, refl}
 use lib.Count.{count_trailing_zeros}
 use lib.Ieee.{binary64, of_bits, of_fields, odd, units, size, span, climb, round}
 use Rattle.numbers.specs.Root.{floor_root, root_of, sqrt_of}

@@ -1,14 +1,12 @@
 -- The step: the exact problem through LSEI, and where it fails the relaxed one through LSI (docs/RULES.md, "The step"; Kraft 1988). Definitions only.
-use Rattle.std.specs.Prelude.{ℕ, zero, suc, ◌+◌, cond, ◌&&◌, List, [], ◌∷◌, ◌++◌, map, leb, ltb, eqb, length, take, Float}
+use Rattle.std.specs.Prelude.{ℕ, ◌+◌, cond, ◌&&◌, List, [], ◌∷◌, ◌++◌, map, leb, ltb, eqb, length, take, Float, Ok, Err}
 use Rattle.std.specs.Float.Ieee.{lt, neg}
 use Rattle.numbers.specs.Numbers.{+0, near, one, ◌⊖◌, at, entry, grid, transposed}
-use Rattle.workspace.specs.Tables.{Answer, done, refused, number_of, place_of, nowhere}
+use Rattle.workspace.specs.Tables.{Answer, done, refused, Outcome, outcome_number, place_of, nowhere}
 use Rattle.householder.specs.Qr.{downward}
 use Rattle.nnls.specs.Counted.{Counted, and_then, after}
 use Rattle.lsei.specs.Lsei.{Solution, lsi, lsei}
 use Rattle.step_rows.specs.Problem.{Problem, by_kind, matrix_of, sides_of, equality_rows, inequality_rows, relaxed_rows}
-use Rattle.step.specs.declared.Stage.{Stage}
-use Rattle.step.specs.declared.Stage.TheVariants.{Passed, Failed}
 use Rattle.step.specs.declared.Report.{Report}
 
 -- d, one multiplier per constraint in constraint order, and the relaxation delta
@@ -92,23 +90,22 @@ step p =
 -- ---- what it says of itself: how its two stages ended, and what both took
 
 -- a stage that answered passed, and one that was not tried
-abbrev pub stage_of : Answer Step → Stage
-stage_of (done s) = Passed
-stage_of (refused r) = Failed r
+abbrev pub stage_of : Answer Step → Outcome
+stage_of (done s) = Ok tt
+stage_of (refused r) = Err r
 
 -- its number, 0 where it passed, and the place that comes with it
-abbrev pub stage_number : Stage → ℕ
-stage_number Passed = 0
-stage_number (Failed r) = number_of r
+abbrev pub stage_number : Outcome → ℕ
+stage_number o = outcome_number o
 
-abbrev pub stage_place : Stage → ℕ
-stage_place Passed = nowhere
-stage_place (Failed r) = place_of r
+abbrev pub stage_place : Outcome → ℕ
+stage_place (Ok tt) = nowhere
+stage_place (Err r) = place_of r
 
 abbrev pub reported : Answer Step → (first second : Counted Step) → Report
-reported (done s) first second = record { exact = Passed; relaxed = Passed; rounds = first.rounds; factorings = first.factorings }
+reported (done s) first second = record { exact = Ok tt; relaxed = Ok tt; rounds = first.rounds; factorings = first.factorings }
 reported (refused r) first second = record {
-  exact = Failed r;
+  exact = Err r;
   relaxed = stage_of second.answer;
   rounds = first.rounds + second.rounds;
   factorings = first.factorings + second.factorings;

@@ -5,10 +5,13 @@ ghost use Rattle.numbers.specs.Numbers.{+0, Σ, at, transposed, ◌⊖◌, ◌�
 ghost use Rattle.workspace.specs.Readings.{vec, Block, Loaded};
 ghost use Rattle.householder.specs.Qr.{downward};
 ghost use Rattle.step_rows.specs.Problem.{by_kind};
-ghost use Rattle.step.specs.Step.{in_order, relaxed_matrix, paired, clamped};
+ghost use Rattle.step_rows.specs.Lent.{problem_in};
+ghost use Rattle.step.specs.Step.{target, in_order, relaxed_matrix, paired, clamped};
 ghost use Rattle.step_rows.specs.inner.Work.{equalities_among, floors_among, relaxed_among};
 ghost use Rattle.step.specs.inner.Assembly.{triangle};
 ghost use Rattle.step.specs.inner.Places.{EXACT_C, EXACT_EQUALITY_MULTIPLIERS, EXACT_MULTIPLIERS, EXACT_X, RELAXED_E, RELAXED_F, RELAXED_G, RELAXED_MULTIPLIERS, STEP_MULTIPLIERS};
+
+use step_rows::Subproblem;
 
 // ---- f = -L^-1 g
 
@@ -44,13 +47,13 @@ fn negate(w: &mut [f64], n: usize)
 }
 
 // f, to the front.
-pub fn write_target(factor: &[f64], gradient: &[f64], w: &mut [f64], n: usize)
-    requires { (length factor.now ≡ n * n) × (length gradient.now ≡ n) × (n ≤ length w.old) }
-    ensures { vec 0 n w.new ≡ map neg (downward n (transposed n n factor.now) n gradient.now) }
+pub fn write_target(p: &Subproblem, w: &mut [f64])
+    requires { p.now.n ≤ length w.old }
+    ensures { vec 0 p.now.n w.new ≡ target (problem_in p.now) }
 {
-    workspace::load(gradient, w, 0, n);
-    substitute(factor, w, n);
-    negate(w, n);
+    workspace::load(p.gradient, w, 0, p.n);
+    substitute(p.factor, w, p.n);
+    negate(w, p.n);
 }
 
 // ---- matrices and right sides
@@ -105,6 +108,8 @@ pub fn write_matrix(factor: &[f64], w: &mut [f64], n: usize, root: f64)
 }
 
 // ---- the multipliers, one per constraint in constraint order
+//
+// A kind is the byte that C lends: an order needs no width, which a `Constraint` carries.
 
 // The multiplier of a constraint of the exact problem, e equalities and i rows of floors and bands being passed: of a band, that of its first row less that of its second.
 fn ordered_of(kind: u8, w: &[f64], e: usize, i: usize) -> f64
@@ -112,13 +117,11 @@ fn ordered_of(kind: u8, w: &[f64], e: usize, i: usize) -> f64
     ensures { result ≡ by_kind kind (at w.now (EXACT_EQUALITY_MULTIPLIERS + e)) (at w.now (EXACT_MULTIPLIERS + i)) (at w.now (EXACT_MULTIPLIERS + i) ⊖ at w.now (EXACT_MULTIPLIERS + i + 1)) }
 {
     let q = crate::EXACT_MULTIPLIERS + i;
-    if kind == 0 {
-        return w[crate::EXACT_EQUALITY_MULTIPLIERS + e];
+    match kind {
+        0 => w[crate::EXACT_EQUALITY_MULTIPLIERS + e],
+        1 => w[q],
+        _ => w[q] - w[q + 1],
     }
-    if kind == 1 {
-        return w[q];
-    }
-    w[q] - w[q + 1]
 }
 
 // How many equalities are passed after a constraint.
@@ -126,10 +129,10 @@ fn passed(kind: u8, e: usize) -> usize
     requires { e ≤ 16 }
     ensures { result ≡ by_kind kind (e + 1) e e }
 {
-    if kind == 0 {
-        return e + 1;
+    match kind {
+        0 => e + 1,
+        _ => e,
     }
-    e
 }
 
 // How many rows of floors and bands are passed after a constraint.
@@ -137,24 +140,21 @@ fn passed_floors(kind: u8, i: usize) -> usize
     requires { i ≤ 64 }
     ensures { result ≡ by_kind kind i (i + 1) (i + 2) }
 {
-    if kind == 0 {
-        return i;
+    match kind {
+        0 => i,
+        1 => i + 1,
+        _ => i + 2,
     }
-    if kind == 1 {
-        return i + 1;
-    }
-    i + 2
 }
 
 // Those of the exact problem, of c equalities and g rows of inequalities.
-pub fn order_multipliers(kinds: &[u8], w: &mut [f64], m: usize, c: usize, g: usize)
-    requires { (m ≤ 16) × (length kinds.now ≡ m) × (c ≡ equalities_among kinds.now) × (floors_among kinds.now ≤ g) × (g ≤ 64) × (EXACT_MULTIPLIERS + 66 ≤ length w.old) }
-    ensures { Block STEP_MULTIPLIERS m (λ t. at (in_order kinds.now 0 c (vec EXACT_EQUALITY_MULTIPLIERS c w.old ++ vec EXACT_MULTIPLIERS g w.old)) t) w.old w.new }
+pub fn order_multipliers(kinds: &[u8], w: &mut [f64], c: usize, g: usize)
+    requires { (length kinds.now ≤ 16) × (c ≡ equalities_among kinds.now) × (floors_among kinds.now ≤ g) × (g ≤ 64) × (EXACT_MULTIPLIERS + 66 ≤ length w.old) }
+    ensures { Block STEP_MULTIPLIERS (length kinds.now) (λ t. at (in_order kinds.now 0 c (vec EXACT_EQUALITY_MULTIPLIERS c w.old ++ vec EXACT_MULTIPLIERS g w.old)) t) w.old w.new }
 {
     let mut e = 0;
     let mut i = 0;
-    for j in 0..m {
-        let kind = kinds[j];
+    for (j, &kind) in kinds.iter().enumerate() {
         let v = ordered_of(kind, w, e, i);
         w[crate::STEP_MULTIPLIERS + j] = v;
         e = passed(kind, e);
@@ -168,10 +168,10 @@ fn paired_of(kind: u8, w: &[f64], r: usize) -> f64
     ensures { result ≡ by_kind kind (at w.now (RELAXED_MULTIPLIERS + r) ⊖ at w.now (RELAXED_MULTIPLIERS + r + 1)) (at w.now (RELAXED_MULTIPLIERS + r)) (at w.now (RELAXED_MULTIPLIERS + r) ⊖ at w.now (RELAXED_MULTIPLIERS + r + 1)) }
 {
     let p = crate::RELAXED_MULTIPLIERS + r;
-    if kind == 1 {
-        return w[p];
+    match kind {
+        1 => w[p],
+        _ => w[p] - w[p + 1],
     }
-    w[p] - w[p + 1]
 }
 
 // How many rows are passed after a constraint of the relaxed problem.
@@ -179,20 +179,19 @@ fn passed_rows(kind: u8, r: usize) -> usize
     requires { r ≤ 65 }
     ensures { result ≡ by_kind kind (r + 2) (r + 1) (r + 2) }
 {
-    if kind == 1 {
-        return r + 1;
+    match kind {
+        1 => r + 1,
+        _ => r + 2,
     }
-    r + 2
 }
 
 // Those of the relaxed problem, of g rows.
-pub fn pair_multipliers(kinds: &[u8], w: &mut [f64], m: usize, g: usize)
-    requires { (m ≤ 16) × (length kinds.now ≡ m) × (relaxed_among kinds.now ≤ g) × (g ≤ 66) × (RELAXED_MULTIPLIERS + 67 ≤ length w.old) }
-    ensures { Block STEP_MULTIPLIERS m (λ t. at (paired kinds.now 0 (vec RELAXED_MULTIPLIERS g w.old)) t) w.old w.new }
+pub fn pair_multipliers(kinds: &[u8], w: &mut [f64], g: usize)
+    requires { (length kinds.now ≤ 16) × (relaxed_among kinds.now ≤ g) × (g ≤ 66) × (RELAXED_MULTIPLIERS + 67 ≤ length w.old) }
+    ensures { Block STEP_MULTIPLIERS (length kinds.now) (λ t. at (paired kinds.now 0 (vec RELAXED_MULTIPLIERS g w.old)) t) w.old w.new }
 {
     let mut r = 0;
-    for j in 0..m {
-        let kind = kinds[j];
+    for (j, &kind) in kinds.iter().enumerate() {
         let v = paired_of(kind, w, r);
         w[crate::STEP_MULTIPLIERS + j] = v;
         r = passed_rows(kind, r);

@@ -3,17 +3,18 @@
 
 mod assembly;
 
-ghost use Rattle.std.specs.Prelude.{◌≡◌, ◌&&◌, [], ◌++◌, map, ℕ, ◌+◌, ◌*◌, ◌≤◌, ◌<◌, eqb, length, take};
+ghost use Rattle.std.specs.Prelude.{◌≡◌, ◌++◌, ◌+◌, ◌≤◌, length, take};
 ghost use Rattle.numbers.specs.Numbers.{at};
 ghost use Rattle.workspace.specs.Readings.{vec};
 ghost use Rattle.nnls.specs.Counted.{Counted};
-ghost use Rattle.step.specs.Step.{in_order, paired, clamped, exact, relaxed, stage_number, stage_place};
+ghost use Rattle.step.specs.Step.{in_order, paired, clamped, exact, relaxed, stage_place};
 ghost use Rattle.step_rows.specs.inner.Work.{equalities_among, floors_among, relaxed_among};
-ghost use Rattle.step_rows.specs.Problem.{problem_of};
-ghost use Rattle.step.specs.inner.Work.{StepReady, ExactIn, RelaxedIn, Readable, Left, Tries, rounds_of, factorings_of, unrelaxed, later, EndsStep};
-ghost use Rattle.step.specs.inner.Places.{EXACT_EQUALITY_MULTIPLIERS, EXACT_MULTIPLIERS, EXACT_X, RELAXED_MULTIPLIERS, RELAXED_X, STEP_WORDS};
+ghost use Rattle.step_rows.specs.Lent.{problem_in};
+ghost use Rattle.step.specs.inner.Work.{ExactIn, RelaxedIn, Left, Tries, passed_or_failed, unrelaxed, later, EndsStep};
+ghost use Rattle.step.specs.inner.Places.{EXACT_EQUALITY_MULTIPLIERS, EXACT_MULTIPLIERS, EXACT_X, RELAXED_MULTIPLIERS, RELAXED_X, STEP_ROOM, STEP_WORDS};
 
-use workspace::{Outcome, Refusal};
+use step_rows::Subproblem;
+use workspace::Refusal;
 
 // ---- where things stand in the part of the step
 
@@ -61,135 +62,95 @@ impl Step {
     pub const RELAXATION_WEIGHT: f64 = 1e6;
 }
 
-// How one of its problems ended, done with its relaxation or refused, with the rounds and the factorings that it took.
+// How one of its problems ended: its relaxation, or why it failed; and the rounds and the factorings that it took.
 #[derive(Clone, Copy)]
-pub enum Tried {
-    Done(f64, usize, usize),
-    Refused(Refusal, usize, usize),
+pub struct Tried {
+    pub relaxation: Result<f64, Refusal>,
+    pub rounds: usize,
+    pub factorings: usize,
 }
 
-// How a stage ended: it answered, or was not tried; or why it failed.
-#[derive(Clone, Copy)]
-pub enum Stage {
-    Passed,
-    Failed(Refusal),
-}
-
-impl Stage {
-    // 0, or the number of the refusal.
-    pub fn number(self) -> u32
-        ensures { result ≡ stage_number self }
-    {
-        match self {
-            Stage::Passed => 0,
-            Stage::Failed(why) => why.number(),
-        }
-    }
-
-    // The place that comes with it, or NOWHERE.
-    pub fn place(self) -> u32
-        ensures { result ≡ stage_place self }
-    {
-        match self {
-            Stage::Passed => workspace::NOWHERE,
-            Stage::Failed(why) => why.place(),
-        }
+// The place that comes with how a stage ended, or NOWHERE.
+pub fn stage_place(stage: Result<(), Refusal>) -> u32
+    ensures { result ≡ stage_place stage }
+{
+    match stage {
+        Ok(()) => workspace::NOWHERE,
+        Err(why) => why.place(),
     }
 }
 
-// What a step says of itself: how its two problems ended, and the rounds and factorings that both took.
-#[derive(Clone, Copy)]
+// What a step says of itself: how its two problems ended, where one that was not tried passed, and the rounds and factorings that both took.
+#[derive(Clone, Copy, Debug, PartialEq, Eq)]
 pub struct Report {
-    pub exact: Stage,
-    pub relaxed: Stage,
+    pub exact: Result<(), Refusal>,
+    pub relaxed: Result<(), Refusal>,
     pub rounds: u32,
     pub factorings: u32,
 }
 
-// How the step ended, done with its relaxation or refused, with its report.
+// How the step ended: its relaxation, or why it failed; with its report.
 #[derive(Clone, Copy)]
-pub enum Stepped {
-    Done(f64, Report),
-    Refused(Refusal, Report),
+pub struct Stepped {
+    pub relaxation: Result<f64, Refusal>,
+    pub report: Report,
 }
 
 // ---- the exact problem
 
 // How many equalities and inequalities a problem has.
-#[derive(Clone, Copy)]
+#[derive(Clone, Copy, Debug, PartialEq, Eq)]
 pub struct Sizes {
     pub equalities: usize,
     pub inequalities: usize,
 }
 
 // The exact problem, for LSEI: E is L', the whole square of it.
-fn write_exact(
-    factor: &[f64],
-    kinds: &[u8],
-    values: &[f64],
-    widths: &[f64],
-    jacobian: &[f64],
-    lower: &[f64],
-    upper: &[f64],
-    w: &mut [f64],
-    n: usize,
-    m: usize,
-) -> Sizes
-    requires { StepReady n m factor.now kinds.now values.now widths.now jacobian.now lower.now upper.now w.old }
-    ensures { ExactIn (problem_of n m factor.now [] kinds.now values.now widths.now jacobian.now lower.now upper.now) (vec 0 n w.old) result w.new }
+fn write_exact(p: &Subproblem, w: &mut [f64]) -> Sizes
+    requires { STEP_ROOM ≤ length w.old }
+    ensures { ExactIn (problem_in p.now) (vec 0 p.now.n w.old) result w.new }
 {
-    let c = step_rows::push_equalities(kinds, values, widths, jacobian, w, EXACT_C, n, m);
-    assembly::gather_sides(w, c, n);
-    workspace::load_matrix(factor, w, EXACT_E, n, n);
-    workspace::copy_up(w, 0, EXACT_F, n);
-    let g = step_rows::push_inequalities(
-        kinds, values, widths, jacobian, lower, upper, w, EXACT_G, n, m,
-    );
+    let equalities = step_rows::push_equalities(p, w, EXACT_C);
+    assembly::gather_sides(w, equalities, p.n);
+    workspace::load_matrix(p.factor, w, EXACT_E, p.n, p.n);
+    workspace::copy_up(w, 0, EXACT_F, p.n);
+    let inequalities = step_rows::push_inequalities(p, w, EXACT_G);
     Sizes {
-        equalities: c,
-        inequalities: g,
+        equalities,
+        inequalities,
     }
 }
 
 // From LSEI's answer: the multipliers in constraint order, and the step.
-fn read_exact(kinds: &[u8], w: &mut [f64], n: usize, m: usize, c: usize, g: usize)
-    requires { Readable n m kinds.now w.old × (c ≡ equalities_among kinds.now) × (floors_among kinds.now ≤ g) × (g ≤ 64) }
-    ensures { Left n m (vec EXACT_X n w.old) (in_order kinds.now 0 c (vec EXACT_EQUALITY_MULTIPLIERS c w.old ++ vec EXACT_MULTIPLIERS g w.old)) w.old w.new }
+fn read_exact(p: &Subproblem, w: &mut [f64], s: Sizes)
+    requires { (STEP_ROOM ≤ length w.old) × (s.equalities ≡ equalities_among p.now.kinds.now) × (floors_among p.now.kinds.now ≤ s.inequalities) × (s.inequalities ≤ 64) }
+    ensures { Left p.now.n p.now.m (vec EXACT_X p.now.n w.old) (in_order p.now.kinds.now 0 s.equalities (vec EXACT_EQUALITY_MULTIPLIERS s.equalities w.old ++ vec EXACT_MULTIPLIERS s.inequalities w.old)) w.old w.new }
 {
-    assembly::order_multipliers(kinds, w, m, c, g);
-    workspace::copy_down(w, EXACT_X, STEP_D, n);
+    assembly::order_multipliers(p.kinds, w, s.equalities, s.inequalities);
+    workspace::copy_down(w, EXACT_X, STEP_D, p.n);
 }
 
 // The exact problem, through LSEI.
-fn try_exact(
-    factor: &[f64],
-    kinds: &[u8],
-    values: &[f64],
-    widths: &[f64],
-    jacobian: &[f64],
-    lower: &[f64],
-    upper: &[f64],
-    w: &mut [f64],
-    iw: &mut [u32],
-    n: usize,
-    m: usize,
-) -> Tried
-    requires { StepReady n m factor.now kinds.now values.now widths.now jacobian.now lower.now upper.now w.old × (STEP_WORDS ≤ length iw.old) }
-    ensures { Tries (exact (problem_of n m factor.now [] kinds.now values.now widths.now jacobian.now lower.now upper.now) (vec 0 n w.old)) n m result w.old w.new }
+fn try_exact(p: &Subproblem, w: &mut [f64], iw: &mut [u32]) -> Tried
+    requires { (STEP_ROOM ≤ length w.old) × (STEP_WORDS ≤ length iw.old) }
+    ensures { Tries (exact (problem_in p.now) (vec 0 p.now.n w.old)) p.now.n p.now.m result w.old w.new }
 {
-    let s = write_exact(
-        factor, kinds, values, widths, jacobian, lower, upper, w, n, m,
-    );
-    let c = s.equalities;
-    let g = s.inequalities;
-    let e = lsei_nullspace::solve_lsei(&mut w[STEP_LENT..], iw, n, c, n, g);
-    let ending = e.ending;
-    let told = ending.outcome();
-    match told {
-        Outcome::Refused(r) => Tried::Refused(r, e.rounds, e.factorings),
-        Outcome::Done => {
-            read_exact(kinds, w, n, m, c, g);
-            Tried::Done(0.0, e.rounds, e.factorings)
+    let s = write_exact(p, w);
+    let lent = &mut w[STEP_LENT..];
+    let e = lsei_nullspace::solve_lsei(lent, iw, p.n, s.equalities, p.n, s.inequalities);
+    match e.ending {
+        Err(unsolved) => Tried {
+            relaxation: Err(Refusal::from(unsolved)),
+            rounds: e.rounds,
+            factorings: e.factorings,
+        },
+        Ok(()) => {
+            read_exact(p, w, s);
+            Tried {
+                relaxation: Ok(0.0),
+                rounds: e.rounds,
+                factorings: e.factorings,
+            }
         }
     }
 }
@@ -197,155 +158,102 @@ fn try_exact(
 // ---- the relaxed problem
 
 // The relaxed problem, for LSI: E is the upper triangle of L', and in the corner the root of the weight.
-fn write_relaxed(
-    factor: &[f64],
-    kinds: &[u8],
-    values: &[f64],
-    widths: &[f64],
-    jacobian: &[f64],
-    lower: &[f64],
-    upper: &[f64],
-    w: &mut [f64],
-    n: usize,
-    m: usize,
-) -> usize
-    requires { StepReady n m factor.now kinds.now values.now widths.now jacobian.now lower.now upper.now w.old }
-    ensures { RelaxedIn (problem_of n m factor.now [] kinds.now values.now widths.now jacobian.now lower.now upper.now) (vec 0 n w.old) result w.new }
+fn write_relaxed(p: &Subproblem, w: &mut [f64]) -> usize
+    requires { STEP_ROOM ≤ length w.old }
+    ensures { RelaxedIn (problem_in p.now) (vec 0 p.now.n w.old) result w.new }
 {
     let root = numbers::sqrt(Step::RELAXATION_WEIGHT);
-    assembly::write_matrix(factor, w, n, root);
-    assembly::write_side(w, n);
-    step_rows::push_relaxed_rows(
-        kinds, values, widths, jacobian, lower, upper, w, RELAXED_G, n, m,
-    )
+    assembly::write_matrix(p.factor, w, p.n, root);
+    assembly::write_side(w, p.n);
+    step_rows::push_relaxed_rows(p, w, RELAXED_G)
 }
 
-// From LSI's answer: the multipliers in constraint order, the step, and the relaxation.
-fn read_relaxed(kinds: &[u8], w: &mut [f64], n: usize, m: usize, g: usize) -> f64
-    requires { Readable n m kinds.now w.old × (relaxed_among kinds.now ≤ g) × (g ≤ 66) }
-    ensures { (result ≡ clamped (at (vec RELAXED_X (n + 1) w.old) n)) × Left n m (take n (vec RELAXED_X (n + 1) w.old)) (paired kinds.now 0 (vec RELAXED_MULTIPLIERS g w.old)) w.old w.new }
+// From LSI's answer to g rows: the multipliers in constraint order, the step, and the relaxation.
+fn read_relaxed(p: &Subproblem, w: &mut [f64], g: usize) -> f64
+    requires { (STEP_ROOM ≤ length w.old) × (relaxed_among p.now.kinds.now ≤ g) × (g ≤ 66) }
+    ensures { (result ≡ clamped (at (vec RELAXED_X (p.now.n + 1) w.old) p.now.n)) × Left p.now.n p.now.m (take p.now.n (vec RELAXED_X (p.now.n + 1) w.old)) (paired p.now.kinds.now 0 (vec RELAXED_MULTIPLIERS g w.old)) w.old w.new }
 {
-    let delta = assembly::clamp(w[RELAXED_X + n]);
-    assembly::pair_multipliers(kinds, w, m, g);
-    workspace::copy_down(w, RELAXED_X, STEP_D, n);
+    let delta = assembly::clamp(w[RELAXED_X + p.n]);
+    assembly::pair_multipliers(p.kinds, w, g);
+    workspace::copy_down(w, RELAXED_X, STEP_D, p.n);
     delta
 }
 
 // The relaxed problem, through LSI.
-fn try_relaxed(
-    factor: &[f64],
-    kinds: &[u8],
-    values: &[f64],
-    widths: &[f64],
-    jacobian: &[f64],
-    lower: &[f64],
-    upper: &[f64],
-    w: &mut [f64],
-    iw: &mut [u32],
-    n: usize,
-    m: usize,
-) -> Tried
-    requires { StepReady n m factor.now kinds.now values.now widths.now jacobian.now lower.now upper.now w.old × (STEP_WORDS ≤ length iw.old) }
-    ensures { Tries (relaxed (problem_of n m factor.now [] kinds.now values.now widths.now jacobian.now lower.now upper.now) (vec 0 n w.old)) n m result w.old w.new }
+fn try_relaxed(p: &Subproblem, w: &mut [f64], iw: &mut [u32]) -> Tried
+    requires { (STEP_ROOM ≤ length w.old) × (STEP_WORDS ≤ length iw.old) }
+    ensures { Tries (relaxed (problem_in p.now) (vec 0 p.now.n w.old)) p.now.n p.now.m result w.old w.new }
 {
-    let g = write_relaxed(
-        factor, kinds, values, widths, jacobian, lower, upper, w, n, m,
-    );
-    let e = lsei::solve_lsi(&mut w[STEP_LENT..], iw, n + 1, n + 1, g);
-    let ending = e.ending;
-    let told = ending.outcome();
-    match told {
-        Outcome::Refused(r) => Tried::Refused(r, e.rounds, e.factorings),
-        Outcome::Done => {
-            let delta = read_relaxed(kinds, w, n, m, g);
-            Tried::Done(delta, e.rounds, e.factorings)
+    let g = write_relaxed(p, w);
+    let e = lsei::solve_lsi(&mut w[STEP_LENT..], iw, p.n + 1, p.n + 1, g);
+    match e.ending {
+        Err(unsolved) => Tried {
+            relaxation: Err(Refusal::from(unsolved)),
+            rounds: e.rounds,
+            factorings: e.factorings,
+        },
+        Ok(()) => {
+            let delta = read_relaxed(p, w, g);
+            Tried {
+                relaxation: Ok(delta),
+                rounds: e.rounds,
+                factorings: e.factorings,
+            }
         }
     }
 }
 
 // ---- the step
 
+// Whether a problem answered, or why it failed.
+fn stage_of(relaxation: Result<f64, Refusal>) -> Result<(), Refusal>
+    ensures { result ≡ passed_or_failed relaxation }
+{
+    relaxation.map(|_| ())
+}
+
 // What the exact problem answered, with nothing after it.
 fn alone(first: Tried) -> Stepped
-    requires { (rounds_of first ≤ 198) × (factorings_of first ≤ 13334) }
+    requires { (first.rounds ≤ 198) × (first.factorings ≤ 13334) }
     ensures { result ≡ unrelaxed first }
 {
-    match first {
-        Tried::Done(relaxation, r, f) => Stepped::Done(
-            relaxation,
-            Report {
-                exact: Stage::Passed,
-                relaxed: Stage::Passed,
-                rounds: r as u32,
-                factorings: f as u32,
-            },
-        ),
-        Tried::Refused(why, r, f) => Stepped::Refused(
-            why,
-            Report {
-                exact: Stage::Failed(why),
-                relaxed: Stage::Passed,
-                rounds: r as u32,
-                factorings: f as u32,
-            },
-        ),
+    Stepped {
+        relaxation: first.relaxation,
+        report: Report {
+            exact: stage_of(first.relaxation),
+            relaxed: Ok(()),
+            rounds: first.rounds as u32,
+            factorings: first.factorings as u32,
+        },
     }
 }
 
-// What the relaxed problem answered, after the exact one was refused, with the counts of both.
-fn after(why: Refusal, rounds: usize, factorings: usize, second: Tried) -> Stepped
-    requires { (rounds ≤ 198) × (factorings ≤ 13334) × (rounds_of second ≤ 198) × (factorings_of second ≤ 13334) }
-    ensures { result ≡ later why rounds factorings second }
+// What the relaxed problem answered, after the exact one failed, with the counts of both.
+fn after(first: Tried, second: Tried) -> Stepped
+    requires { (first.rounds ≤ 198) × (first.factorings ≤ 13334) × (second.rounds ≤ 198) × (second.factorings ≤ 13334) }
+    ensures { result ≡ later first second }
 {
-    match second {
-        Tried::Done(delta, r, f) => Stepped::Done(
-            delta,
-            Report {
-                exact: Stage::Failed(why),
-                relaxed: Stage::Passed,
-                rounds: (rounds + r) as u32,
-                factorings: (factorings + f) as u32,
-            },
-        ),
-        Tried::Refused(k, r, f) => Stepped::Refused(
-            k,
-            Report {
-                exact: Stage::Failed(why),
-                relaxed: Stage::Failed(k),
-                rounds: (rounds + r) as u32,
-                factorings: (factorings + f) as u32,
-            },
-        ),
+    Stepped {
+        relaxation: second.relaxation,
+        report: Report {
+            exact: stage_of(first.relaxation),
+            relaxed: stage_of(second.relaxation),
+            rounds: (first.rounds + second.rounds) as u32,
+            factorings: (first.factorings + second.factorings) as u32,
+        },
     }
 }
 
 // The exact problem, and where it fails the relaxed one.
-pub fn solve_step(
-    factor: &[f64],
-    gradient: &[f64],
-    kinds: &[u8],
-    values: &[f64],
-    widths: &[f64],
-    jacobian: &[f64],
-    lower: &[f64],
-    upper: &[f64],
-    w: &mut [f64],
-    iw: &mut [u32],
-    n: usize,
-    m: usize,
-) -> Stepped
-    requires { StepReady n m factor.now kinds.now values.now widths.now jacobian.now lower.now upper.now w.old × (length gradient.now ≡ n) × (STEP_WORDS ≤ length iw.old) }
-    ensures { EndsStep n m result w.new (problem_of n m factor.now gradient.now kinds.now values.now widths.now jacobian.now lower.now upper.now) }
+pub fn solve_step(p: &Subproblem, w: &mut [f64], iw: &mut [u32]) -> Stepped
+    requires { (STEP_ROOM ≤ length w.old) × (STEP_WORDS ≤ length iw.old) }
+    ensures { EndsStep p.now.n p.now.m result w.new (problem_in p.now) }
 {
-    assembly::write_target(factor, gradient, w, n);
-    let first = try_exact(
-        factor, kinds, values, widths, jacobian, lower, upper, w, iw, n, m,
-    );
-    let Tried::Refused(why, rounds, factorings) = first else {
+    assembly::write_target(p, w);
+    let first = try_exact(p, w, iw);
+    let Err(_) = first.relaxation else {
         return alone(first);
     };
-    let second = try_relaxed(
-        factor, kinds, values, widths, jacobian, lower, upper, w, iw, n, m,
-    );
-    after(why, rounds, factorings, second)
+    let second = try_relaxed(p, w, iw);
+    after(first, second)
 }

@@ -12,13 +12,13 @@ use lib.Ieee.{Float, neg}
 use borrow.Author.Tests.{leb-true, le-leb, lt-leb}
 use Rattle.numbers.specs.Numbers.{+0, at, nth, row, transposed, ◌⊖◌}
 use Rattle.numbers.proofs.Cases.{lt-or-ge}
-use Rattle.workspace.specs.Tables.{Answer, done, refused, call, test, is_dimension, is_constraints, is_room, has}
+use Rattle.workspace.specs.Tables.{Answer, done, call, test, is_dimension, is_constraints, is_room, has}
 use Rattle.workspace.specs.declared.Refusal.TheVariants.{Width}
 use Rattle.workspace.proofs.Tests.{and-true}
 use Rattle.nnls.specs.Counted.{Counted, and_then}
 use Rattle.lsei.specs.Lsei.{Solution, lsi, lsei}
 use Rattle.step_rows.specs.Problem.{Problem, Row, row_of, constraint_of, matrix_of, sides_of, each, bound_rows, equation_of, floors_of, relaxed_of, equality_rows, inequality_rows, relaxed_rows}
-use Rattle.step.specs.Step.{Step, target, in_order, exact_step, exact, root_weight, relaxed_matrix, paired, clamped, relaxed_step, relaxed, or_relaxed, step, reported, report_of}
+use Rattle.step.specs.Step.{Step, target, in_order, exact_step, exact, root_weight, relaxed_matrix, paired, clamped, relaxed_step, relaxed, step, report_of}
 use Rattle.step.specs.declared.Report.{Report}
 use Rattle.step_call.specs.Promise.{are_kinds, is_width, are_widths, are_lengths, outcome_of}
 use Rattle.step_call.specs.NoBands as NoBands

@@ -8,8 +8,8 @@ use lib.Ieee.{Float, nan, inf, fin, binary64, of_bits, div, neg, lt}
 use Rattle.workspace.specs.Tables.{Answer, done, refused, test, outcome_of, is_late}
 use Rattle.workspace.specs.declared.Refusal.{Refusal}
 use Rattle.workspace.specs.declared.Refusal.TheVariants.{Bound}
-use Rattle.workspace.specs.declared.Outcome.{Outcome}
-use Rattle.workspace.specs.declared.Outcome.TheVariants.{Done, Refused}
+use Rattle.workspace.specs.Tables.{Outcome}
+use Rattle.std.specs.Prelude.{Ok, Err}
 use Rattle.step_call.specs.Strict.{is_lower, is_upper, is_bounded, bounds}
 use Rattle.step_call.specs.inner.Work.{bounds_outcome}
 use Rattle.step_call.proofs.Widths.{above, lit-infinity}
@@ -57,38 +57,38 @@ module _ (l u : List Float) where
       let j : suc i ≡ i + 1 = omega arith in
       rw (k, e) (ap (λ (x : ℕ). bounds_outcome l u (n - (i + 1)) x) j)
 
-  pub tested-out : (n i : ℕ) → i < n → is_bounded l u i ≡ false → bounds_outcome l u (n - i) i ≡ Refused (Bound i)
+  pub tested-out : (n i : ℕ) → i < n → is_bounded l u i ≡ false → bounds_outcome l u (n - i) i ≡ Err (Bound i)
   unfolding bounds
   tested-out n i h e = let k : n - i ≡ suc (n - (i + 1)) = omega arith in rw (k, e)
 
-  pub tested-all : (n i : ℕ) → n ≤ i → bounds_outcome l u (n - i) i ≡ Done
+  pub tested-all : (n i : ℕ) → n ≤ i → bounds_outcome l u (n - i) i ≡ Ok tt
   unfolding bounds
   tested-all n i h = let k : n - i ≡ 0 = omega arith in rw k refl
 
 -- ---- what the tests come to, before whatever follows
 
-never : {A : Type 0} (r : Refusal) → Refused r ≡ Done → A
-never r e = let z : ◌≡◌ {A = ℕ} 0 1 = cc in absurd (let y : ⊥ = omega arith in y)
+never : {A : Type 0} (r : Refusal) → ◌≡◌ {A = Outcome} (Err r) (Ok tt) → A
+never r e = absurd (let y : ⊥ = cc in y)
 
-first_passes : {A : Type 0} (b : Bool) (r : Refusal) (rest : Answer Unit) (x y : Answer A) → (outcome_of rest ≡ Done → x ≡ y) → outcome_of (test b r rest) ≡ Done → test b r x ≡ y
+first_passes : {A : Type 0} (b : Bool) (r : Refusal) (rest : Answer Unit) (x y : Answer A) → (outcome_of rest ≡ Ok tt → x ≡ y) → outcome_of (test b r rest) ≡ Ok tt → test b r x ≡ y
 first_passes true r rest x y h e = h e
 first_passes false r rest x y h e = never r e
 
-first_stops : {A : Type 0} (b : Bool) (r k : Refusal) (rest : Answer Unit) (x : Answer A) → is_late r ≡ false → (outcome_of rest ≡ Refused k → (x ≡ refused k) × (is_late k ≡ false))
-    → outcome_of (test b r rest) ≡ Refused k → (test b r x ≡ refused k) × (is_late k ≡ false)
+first_stops : {A : Type 0} (b : Bool) (r k : Refusal) (rest : Answer Unit) (x : Answer A) → is_late r ≡ false → (outcome_of rest ≡ Err k → (x ≡ refused k) × (is_late k ≡ false))
+    → outcome_of (test b r rest) ≡ Err k → (test b r x ≡ refused k) × (is_late k ≡ false)
 first_stops true r k rest x l h e = h e
 first_stops false r k rest x l h e = (ap refused (told e), ap is_late (sym (told e)) ∙ l)
   where
-    told : Refused r ≡ Refused k → r ≡ k
+    told : ◌≡◌ {A = Outcome} (Err r) (Err k) → r ≡ k
     told h = cc
 
 module _ {A : Type 0} (l u : List Float) (x : Answer A) where
-  pub all_pass : (n i : ℕ) → bounds_outcome l u n i ≡ Done → bounds l u n i x ≡ x
+  pub all_pass : (n i : ℕ) → bounds_outcome l u n i ≡ Ok tt → bounds l u n i x ≡ x
   unfolding bounds
   all_pass zero i e = refl
   all_pass (suc n) i e = first_passes (is_bounded l u i) (Bound i) (bounds {A = Unit} l u n (suc i) (done tt)) (bounds l u n (suc i) x) x (all_pass n (suc i)) e
 
-  pub all-stop : (n i : ℕ) (k : Refusal) → bounds_outcome l u n i ≡ Refused k → (bounds l u n i x ≡ refused k) × (is_late k ≡ false)
+  pub all-stop : (n i : ℕ) (k : Refusal) → bounds_outcome l u n i ≡ Err k → (bounds l u n i x ≡ refused k) × (is_late k ≡ false)
   unfolding bounds
   all-stop zero i k e = never k (sym e)
   all-stop (suc n) i k e = first_stops (is_bounded l u i) (Bound i) k (bounds {A = Unit} l u n (suc i) (done tt)) (bounds l u n (suc i) x) refl (all-stop n (suc i) k) e

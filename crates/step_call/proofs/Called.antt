@@ -1,5 +1,5 @@
 -- Where a call of the step is done, the multipliers that it leaves come of rows whose own are not negative or -0.
-use mathlib.Core.Path.{◌≡◌, refl, sym, subst}
+use mathlib.Core.Path.{◌≡◌, refl, sym, ap, subst}
 use mathlib.Core.Bool.{Bool, true, false, ◌&&◌}
 use mathlib.Core.List.{List}
 use mathlib.Core.Logic.{inl, inr}
@@ -7,20 +7,19 @@ use Prim.Native.Nat.{ℕ, ◌*◌, ◌<◌}
 use native.Mathlib.Omega.{arith}
 use lib.ListN.{length}
 use lib.Ieee.{Float}
+use Rattle.std.specs.Prelude.{Result, Ok, Err}
 use borrow.Author.Tests.{eqb-true}
 use Rattle.numbers.specs.Numbers.{at}
 use Rattle.workspace.specs.Tables.{Answer, done, refused, is_late, call, test, is_dimension, is_constraints, is_room, has}
 use Rattle.workspace.specs.declared.Refusal.{Refusal}
 use Rattle.workspace.specs.declared.Refusal.TheVariants.{Width}
 use Rattle.workspace.proofs.Tests.{and-true}
-use Rattle.nnls.specs.Counted.{Counted}
 use Rattle.step_rows.specs.Problem.{Problem}
 use Rattle.step.specs.Step.{Step, step, report_of}
 use Rattle.step.specs.declared.Report.{Report}
 use Rattle.step_call.specs.Claims.{OfRows, StepCallClear, LowestBound, all_bounded, wrong_bound}
 use Rattle.step_call.specs.Strict.{bounds}
-use Rattle.step_call.specs.Promise.{are_kinds, are_widths, are_lengths, refused_by, Steps}
-use Rattle.step_call.specs.declared.Outcome.TheVariants.{Done, Failed, Refused}
+use Rattle.step_call.specs.Promise.{are_kinds, are_widths, are_lengths, Outcome, stepped, refused_by, Steps}
 use Rattle.step_call.proofs.Clear.{ClearStep, step_clear}
 use Rattle.step_call.proofs.Strictly.{lowest-variable}
 
@@ -43,13 +42,22 @@ kinds-long p d l h =
     let h3 = (and-true (a && k) v h4).0 in
     eqb-true (length p.kinds) p.m (and-true a k h3).1
 
+-- of three outcomes: done, failed, or refused by a test
+abbrev failed : Result Float Refusal → ℕ
+failed (Ok relaxation) = 0
+failed (Err r) = 1
+
+abbrev sort : Outcome → ℕ
+sort (Ok s) = failed s.relaxation
+sort (Err r) = 2
+
 module _ (p : Problem) (relaxation : Float) (t : Report) (d d' l l' w w' : List Float) (iw iw' : List ℕ) where
-  never : {A : Type 0} (b : Bool) (r : Refusal) (u : Report) → Done relaxation t ≡ refused_by b r u → A
-  never false r u e = let z : ◌≡◌ {A = ℕ} 0 2 = cc in absurd (let y : ⊥ = omega arith in y)
-  never true r u e = let z : ◌≡◌ {A = ℕ} 0 1 = cc in absurd (let y : ⊥ = omega arith in y)
+  never : {A : Type 0} (b : Bool) (r : Refusal) (u : Report) → Ok (stepped (Ok relaxation) t) ≡ refused_by b r u → A
+  never false r u e = let z : ◌≡◌ {A = ℕ} 0 2 = ap sort e in absurd (let y : ⊥ = omega arith in y)
+  never true r u e = let z : ◌≡◌ {A = ℕ} 0 1 = ap sort e in absurd (let y : ⊥ = omega arith in y)
 
   from-tests : (s b m k v : Bool) → are_lengths p d l ≡ b → (a : Answer Step) → (length p.kinds ≡ p.m → ClearStep p a)
-      → Steps (call s b m k (test v Width a)) (report_of p) (Done relaxation t) d d' l l' w w' iw iw' → (j : ℕ) → j < p.m → OfRows p j (at l' j)
+      → Steps (call s b m k (test v Width a)) (report_of p) (Ok (stepped (Ok relaxation) t)) d d' l l' w w' iw iw' → (j : ℕ) → j < p.m → OfRows p j (at l' j)
   from-tests false b m k v e a c q j h = never false _ (report_of p) q.the_outcome
   from-tests true false m k v e a c q j h = never false _ (report_of p) q.the_outcome
   from-tests true true false k v e a c q j h = never false _ (report_of p) q.the_outcome

@@ -1,33 +1,27 @@
 -- The tests of the call, and what it leaves by its answer.
 use mathlib.Core.Path.{◌≡◌, refl, sym, ap, ◌∙◌}
-use mathlib.Core.Bool.{Bool, true, false, cond, ◌&&◌, ◌||◌}
+use mathlib.Core.Bool.{Bool, true, false, ◌&&◌}
 use mathlib.Core.List.{List, [], ◌∷◌, ◌++◌}
-use Prim.Native.Nat.{ℕ, suc, ◌+◌, ◌*◌, ◌≤◌, ◌<◌}
-use native.Mathlib.Numerals.{add-one}
+use Prim.Native.Nat.{ℕ, zero, suc, ◌*◌, ◌≤◌, ◌<◌}
 use native.Mathlib.Omega.{arith}
 use lib.Dec.{eqb, leb}
-use lib.ListN.{length, drop, drop_of_length-le, length-append}
-use lib.Seq.{drop-cons}
+use lib.ListN.{length, drop, length-append}
 use lib.Ieee.{Float}
 use borrow.Author.Tests.{le-leb, lt-leb, eqb-true}
-use Rattle.numbers.specs.Numbers.{+0, nth}
-use Rattle.workspace.specs.Tables.{Answer, done, refused, is_late, call, test, cleared, is_dimension, is_constraints}
+use Rattle.numbers.specs.Numbers.{+0}
+use Rattle.workspace.specs.Tables.{Answer, refused, is_late, call, test, is_dimension, is_constraints}
 use Rattle.workspace.specs.declared.Refusal.{Refusal}
 use Rattle.workspace.specs.declared.Refusal.TheVariants.{Size, Length, Room, Kind, Width}
-use Rattle.workspace.specs.Readings.{vec}
 use Rattle.workspace.proofs.Parts.{vec-front, front-cleared}
 use Rattle.workspace.proofs.Tests.{and-true, dimension-le, constraints-le}
-use Rattle.nnls.specs.Counted.{Counted}
 use Rattle.step_rows.specs.Problem.{Problem}
 use Rattle.step.specs.Step.{Step, step, report_of}
-use Rattle.step_call.specs.Promise.{are_kinds, refused_by, Steps}
+use Rattle.step_call.specs.Promise.{are_kinds, Outcome, stepped, refused_by, Steps}
 use Rattle.step.specs.inner.Work.{EndsStep}
 use Rattle.step.specs.declared.Report.{Report}
 use Rattle.step_call.specs.inner.Work.{StepGiven}
-use Rattle.step_call.specs.declared.Outcome.{Outcome}
-use Rattle.step_call.specs.declared.Outcome.TheVariants.{Done, Refused}
-use Rattle.step.specs.declared.Stepped.{Stepped}
-use Rattle.step.specs.declared.Stepped.TheVariants as Stepped
+use Rattle.std.specs.Prelude.{Result, Ok, Err, MatchBool}
+use Rattle.std.specs.List.{AllWithin, HoldsAt}
 
 -- ---- the tests
 
@@ -51,43 +45,41 @@ others-are n m x a b c d h =
     let s = and-true (eqb x m) (eqb a n) r.0 in
     (eqb-true x m s.0, eqb-true a n s.1, eqb-true b n r.1, eqb-true c n q.1, eqb-true d m p.1)
 
--- a kind a turn
-kinds-suc : (ks : List ℕ) (j : ℕ) → j < length ks → are_kinds (drop j ks) ≡ (leb (nth ks j) 2 && are_kinds (drop (j + 1) ks))
+-- the kinds, by what `all` tells of them
+and-false : (b : Bool) → false ≡ (b && false)
+and-false true = refl
+and-false false = refl
+
+pub kinds-told : (ks : List ℕ) (r : Bool) → MatchBool r (AllWithin (λ k. k ≤ 2) ks 0 (length ks)) ((j : ℕ) × (j < length ks) × HoldsAt (λ k. 2 < k) ks j) → r ≡ are_kinds ks
 unfolding are_kinds
-kinds-suc ks j h = rw (drop-cons ks j 0 h, add-one)
-
-pub kinds-more : (ks : List ℕ) (j : ℕ) → j < length ks → nth ks j ≤ 2 → are_kinds ks ≡ are_kinds (drop j ks) → are_kinds ks ≡ are_kinds (drop (j + 1) ks)
-kinds-more ks j h k e = e ∙ kinds-suc ks j h ∙ ap (λ (b : Bool). b && are_kinds (drop (j + 1) ks)) (le-leb (nth ks j) 2 k)
-
-pub kinds-bad : (ks : List ℕ) (j : ℕ) → j < length ks → 2 < nth ks j → are_kinds ks ≡ are_kinds (drop j ks) → false ≡ are_kinds ks
-kinds-bad ks j h k e = sym (e ∙ kinds-suc ks j h ∙ ap (λ (b : Bool). b && are_kinds (drop (j + 1) ks)) (lt-leb (nth ks j) 2 k))
-
-pub kinds-all : (ks : List ℕ) (j : ℕ) → length ks ≤ j → are_kinds ks ≡ are_kinds (drop j ks) → true ≡ are_kinds ks
-unfolding are_kinds
-kinds-all ks j h e = sym (e ∙ ap are_kinds (drop_of_length-le ks {i = j} h))
+kinds-told [] true h = refl
+kinds-told [] false (j, l, q) = absurd (omega arith)
+kinds-told (k ∷ ks) true h = let z : k ≤ 2 = h 0 0 (omega arith) (omega arith) in rw (le-leb k 2 z) (kinds-told ks true (λ j d m l. h (suc j) d (omega arith) (omega arith)))
+kinds-told (k ∷ ks) false (zero, l, q) = let z : 2 < k = q 0 in rw (lt-leb k 2 z)
+kinds-told (k ∷ ks) false (suc j, l, q) = and-false (leb k 2) ∙ ap (λ (b : Bool). leb k 2 && b) (kinds-told ks false (j, omega arith, q))
 
 -- ---- the call, by what its tests found
 
 module _ (a : Answer Step) (t : Report) (s l r k : Bool) (d x w : List Float) (iw : List ℕ) where
-  pub size-refused : s ≡ false → Steps (call s l r k a) t (Refused Size) d d x x w w iw iw
+  pub size-refused : s ≡ false → Steps (call s l r k a) t (Err Size) d d x x w w iw iw
   size-refused e = rw e (record { the_outcome = refl; the_d = refl; the_multipliers = refl; the_floats = refl; the_words = refl })
 
-  pub length-refused : s ≡ true → l ≡ false → Steps (call s l r k a) t (Refused Length) d d x x w w iw iw
+  pub length-refused : s ≡ true → l ≡ false → Steps (call s l r k a) t (Err Length) d d x x w w iw iw
   length-refused e f = rw (e, f) (record { the_outcome = refl; the_d = refl; the_multipliers = refl; the_floats = refl; the_words = refl })
 
-  pub room-refused : s ≡ true → l ≡ true → r ≡ false → Steps (call s l r k a) t (Refused Room) d d x x w w iw iw
+  pub room-refused : s ≡ true → l ≡ true → r ≡ false → Steps (call s l r k a) t (Err Room) d d x x w w iw iw
   room-refused e f g = rw (e, f, g) (record { the_outcome = refl; the_d = refl; the_multipliers = refl; the_floats = refl; the_words = refl })
 
-  pub kind-refused : s ≡ true → l ≡ true → r ≡ true → k ≡ false → Steps (call s l r k a) t (Refused Kind) d d x x w w iw iw
+  pub kind-refused : s ≡ true → l ≡ true → r ≡ true → k ≡ false → Steps (call s l r k a) t (Err Kind) d d x x w w iw iw
   kind-refused e f g h = rw (e, f, g, h) (record { the_outcome = refl; the_d = refl; the_multipliers = refl; the_floats = refl; the_words = refl })
 
 pub width-refused : (a : Answer Step) (t : Report) (s l r k v : Bool) (d x w : List Float) (iw : List ℕ)
-    → s ≡ true → l ≡ true → r ≡ true → k ≡ true → v ≡ false → Steps (call s l r k (test v Width a)) t (Refused Width) d d x x w w iw iw
+    → s ≡ true → l ≡ true → r ≡ true → k ≡ true → v ≡ false → Steps (call s l r k (test v Width a)) t (Err Width) d d x x w w iw iw
 width-refused a t s l r k v d x w iw e f g h i = rw (e, f, g, h, i) (record { the_outcome = refl; the_d = refl; the_multipliers = refl; the_floats = refl; the_words = refl })
 
 -- a bound is refused, and nothing is written
 pub bound-refused : (a : Answer Step) (t : Report) (s l r k v : Bool) (q : Refusal) (d x w : List Float) (iw : List ℕ)
-    → s ≡ true → l ≡ true → r ≡ true → k ≡ true → v ≡ true → (a ≡ refused q) × (is_late q ≡ false) → Steps (call s l r k (test v Width a)) t (Refused q) d d x x w w iw iw
+    → s ≡ true → l ≡ true → r ≡ true → k ≡ true → v ≡ true → (a ≡ refused q) × (is_late q ≡ false) → Steps (call s l r k (test v Width a)) t (Err q) d d x x w w iw iw
 bound-refused a t s l r k v q d x w iw e f g h i j =
     rw (e, f, g, h, i, j.0) (record { the_outcome = rw j.1 refl; the_d = refl; the_multipliers = refl; the_floats = rw j.1 refl; the_words = rw j.1 refl })
 
@@ -107,10 +99,10 @@ lengths-rest a b c d e f h k = rw h k
 
 -- ---- the answer: v and u are what the step left of the workspaces' parts
 
-pub step_given : (n m : ℕ) (p : Problem) (t : Stepped) (r : Outcome) (d d' x x' v w w' : List Float) (u iw iw' : List ℕ) → n ≤ 16 → m ≤ 16 → length v ≡ 8192 → length u ≡ 512
-    → EndsStep n m t v p → StepGiven n m t r d d' x x' (v ++ drop 8192 w) w' (u ++ drop 512 iw) iw' → Steps (step p).answer (report_of p) r d d' x x' w w' iw iw'
-step_given n m p (Stepped.Done delta t) r d d' x x' v w w' u iw iw' hn hm lv lu e g =
-    rw (← e.the_answer, ← e.the_report, g.outcome)
+pub step_given : (n m : ℕ) (p : Problem) (x : Result Float Refusal) (t : Report) (d d' l l' v w w' : List Float) (u iw iw' : List ℕ) → n ≤ 16 → m ≤ 16 → length v ≡ 8192 → length u ≡ 512
+    → EndsStep n m (stepped x t) v p → StepGiven n m (stepped x t) d d' l l' (v ++ drop 8192 w) w' (u ++ drop 512 iw) iw' → Steps (step p).answer (report_of p) (Ok (stepped x t)) d d' l l' w w' iw iw'
+step_given n m p (Ok delta) t d d' l l' v w w' u iw iw' hn hm lv lu e g =
+    rw (← e.the_answer, ← e.the_report)
     (record {
       the_outcome = refl;
       the_d = g.the_d ∙ vec-front v (drop 8192 w) 18 n (omega arith);
@@ -118,15 +110,15 @@ step_given n m p (Stepped.Done delta t) r d d' x x' v w w' u iw iw' hn hm lv lu 
       the_floats = g.both.floats ∙ front-cleared +0 8192 v w lv;
       the_words = g.both.words ∙ front-cleared 0 512 u iw lu;
     })
-step_given n m p (Stepped.Refused k t) r d d' x x' v w w' u iw iw' hn hm lv lu e g =
-    let l : is_late k ≡ true = e.late in
-    rw (← e.the_answer, ← e.the_report, g.outcome)
+step_given n m p (Err k) t d d' l l' v w w' u iw iw' hn hm lv lu e g =
+    let late : is_late k ≡ true = e.late in
+    rw (← e.the_answer, ← e.the_report)
     (record {
-      the_outcome = sym (ap (λ (b : Bool). refused_by b k t) l);
+      the_outcome = sym (ap (λ (b : Bool). refused_by b k t) late);
       the_d = g.the_d;
       the_multipliers = g.the_multipliers;
-      the_floats = rw l (g.both.floats ∙ front-cleared +0 8192 v w lv);
-      the_words = rw l (g.both.words ∙ front-cleared 0 512 u iw lu);
+      the_floats = rw late (g.both.floats ∙ front-cleared +0 8192 v w lv);
+      the_words = rw late (g.both.words ∙ front-cleared 0 512 u iw lu);
     })
 
 -- the first k entries came back as v, and the whole is at least as long

@@ -1,5 +1,5 @@
 -- The multipliers that a step answers come of rows whose own are not negative or -0.
-use mathlib.Core.Path.{◌≡◌, refl, sym, ap, ◌∙◌, subst}
+use mathlib.Core.Path.{◌≡◌, refl, ap, subst}
 use mathlib.Core.List.{List, [], ◌∷◌, ◌++◌}
 use Prim.Native.Nat.{ℕ, zero, suc, ◌+◌, ◌<◌, ◌≤◌}
 use native.Mathlib.Nat.{not-suc-le-zero, le_of_suc-le-suc}
@@ -9,7 +9,7 @@ use lib.Ieee.{Float}
 use Rattle.numbers.specs.Numbers.{+0, ◌⊖◌, at, nth, transposed}
 use Rattle.workspace.specs.Tables.{Answer, done, refused}
 use Rattle.workspace.specs.declared.Refusal.{Refusal}
-use Rattle.nnls.specs.Counted.{Counted, then}
+use Rattle.nnls.specs.Counted.{then}
 use Rattle.nnls.specs.Claims.{NotNegative}
 use Rattle.lsei.specs.Lsei.{Solution}
 use Rattle.lsei_call.specs.Claims.{ClearFrom}

@@ -19,8 +19,7 @@ use Rattle.step_rows.specs.Problem.{Problem, matrix_of, sides_of, equality_rows,
 use Rattle.step_rows.proofs.Fit.{rows_fit}
 use Rattle.step.specs.Step.{Step, target, exact, root_weight, relaxed_matrix, relaxed, step, reported, report_of}
 use Rattle.step.specs.declared.Report.{Report}
-use Rattle.step_call.specs.declared.Outcome.{Outcome}
-use Rattle.step_call.specs.Promise.{are_kinds, are_widths, are_lengths, refused_by, outcome_of, Steps}
+use Rattle.step_call.specs.Promise.{Outcome, are_kinds, are_widths, are_lengths, refused_by, outcome_of}
 use Rattle.step_call.specs.Strict.{bounds}
 use Rattle.step_call.specs.Claims.{EitherSteps, most, cost_bound, factorings_told, CostBound, CostMost}
 

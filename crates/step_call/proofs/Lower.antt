@@ -1,5 +1,5 @@
 -- The solve for f and the relaxed problem read only the lower triangle of the factor.
-use mathlib.Core.Path.{◌≡◌, refl, sym, ap, ◌∙◌, subst}
+use mathlib.Core.Path.{◌≡◌, refl, sym, ap, ◌∙◌}
 use mathlib.Core.Bool.{Bool, true, false, cond, ◌&&◌}
 use mathlib.Core.List.{List, [], ◌∷◌, ◌++◌, map}
 use Prim.Native.Nat.{ℕ, zero, suc, ◌+◌, ◌<◌, ◌≤◌}
@@ -8,15 +8,15 @@ use lib.Dec.{T, leb, ltb, eqb, leb→le, ltb→lt}
 use lib.ListN.{length, set}
 use lib.Ieee.{Float, neg}
 use lib.Ieee.Fits.{and_l, and_r}
-use Rattle.numbers.specs.Numbers.{+0, Σ, at, entry, grid, transposed, SameLower, ◌⊖◌, ◌⊗◌, ◌⊘◌}
+use Rattle.numbers.specs.Numbers.{+0, Σ, at, entry, transposed, SameLower, ◌⊖◌, ◌⊗◌, ◌⊘◌}
 use Rattle.numbers.proofs.Lists.{grid-same, entry-transposed}
 use Rattle.numbers.proofs.Sums.{Σ-same}
 use Rattle.householder.specs.Qr.{downward}
-use Rattle.nnls.specs.Counted.{Counted, and_then}
-use Rattle.workspace.specs.Tables.{Answer, done}
-use Rattle.lsei.specs.Lsei.{Solution, lsi}
+use Rattle.nnls.specs.Counted.{and_then}
+use Rattle.workspace.specs.Tables.{done}
+use Rattle.lsei.specs.Lsei.{lsi}
 use Rattle.step_rows.specs.Problem.{Problem, matrix_of, sides_of, bound_rows, relaxed_rows}
-use Rattle.step.specs.Step.{Step, target, root_weight, relaxed_matrix, relaxed_step, relaxed}
+use Rattle.step.specs.Step.{target, root_weight, relaxed_matrix, relaxed_step, relaxed}
 use Rattle.step_call.specs.Claims.{with_factor, ReadLower}
 
 -- ---- f

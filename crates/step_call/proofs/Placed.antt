@@ -1,29 +1,24 @@
 -- The places that a step tells, and that it never answers 11.
 use mathlib.Core.Path.{◌≡◌, refl, ap, subst, sym, ◌∙◌}
 use mathlib.Core.Bool.{Bool, true, false, ◌&&◌, true≢false}
-use mathlib.Core.List.{List, [], ◌∷◌, ◌++◌}
+use mathlib.Core.List.{[], ◌∷◌, ◌++◌}
 use mathlib.Core.Logic.{inl, inr}
-use Prim.Native.Nat.{ℕ, ◌+◌, ◌-◌, ◌*◌, ◌<◌}
+use Prim.Native.Nat.{ℕ, ◌+◌, ◌-◌, ◌*◌}
 use native.Mathlib.Omega.{arith}
-use lib.Dec.{leb, ltb, eqb}
 use lib.ListN.{length}
-use lib.Ieee.{Float}
-use Rattle.numbers.specs.Numbers.{+0, entry, transposed}
+use Rattle.numbers.specs.Numbers.{+0, transposed}
 use Rattle.numbers.proofs.Lists.{length-grid}
 use Rattle.workspace.specs.Tables.{Answer, done, refused, number_of, is_late, call, test, is_dimension, is_constraints, is_room}
 use Rattle.workspace.specs.declared.Refusal.{Refusal}
 use Rattle.workspace.specs.declared.Refusal.TheVariants.{Size, Length, Room, Kind, Width, Bound, Deficient, Dependent}
-use Rattle.nnls.specs.Counted.{Counted, then}
+use Rattle.nnls.specs.Counted.{then}
 use Rattle.lsei.specs.Lsei.{Solution}
 use Rattle.lsei_call.specs.Claims.{IsNext}
 use Rattle.lsei_call.proofs.Places.{lsi-says, lsi-next, lsei-next, rest-next}
 use Rattle.step_rows.specs.Problem.{Problem, matrix_of, sides_of, equality_rows, inequality_rows, relaxed_rows}
 use Rattle.step.specs.Step.{Step, target, exact_step, exact_solution, exact, root_weight, relaxed_matrix, relaxed_step, relaxed_solution, relaxed, or_relaxed, step, stage_of, reported, report_of}
-use Rattle.step.specs.declared.Report.{Report}
-use Rattle.step.specs.declared.Stage.TheVariants as stage
-use Rattle.step_call.specs.declared.Outcome.{Outcome}
-use Rattle.step_call.specs.declared.Outcome.TheVariants.{Done, Failed, Refused}
-use Rattle.step_call.specs.Promise.{are_kinds, are_widths, are_lengths, refused_by, outcome_of, Steps}
+use Rattle.std.specs.Prelude.{Result, Ok, Err}
+use Rattle.step_call.specs.Promise.{are_kinds, are_widths, are_lengths, Outcome, refused_by, outcome_of}
 use Rattle.step_call.specs.Strict.{bounds}
 use Rattle.step_call.specs.Claims.{of_relaxed, of_equations, of_nullspace, StagePlaces, PlacesTold, StepPlaced, LowestBound, all_bounded, wrong_bound}
 use Rattle.step_call.proofs.Strictly.{lowest-variable}
@@ -83,10 +78,10 @@ module _ (p : Problem) where
 
   -- ---- the report
 
-  passed-not : {A : Type 0} (r : Refusal) → stage.Passed ≡ stage.Failed r → A
-  passed-not r e = let z : ◌≡◌ {A = ℕ} 0 1 = cc in absurd (let y : ⊥ = omega (arith, z) in y)
+  passed-not : {A : Type 0} (r : Refusal) → ◌≡◌ {A = Result Unit Refusal} (Ok tt) (Err r) → A
+  passed-not r e = absurd (let y : ⊥ = cc in y)
 
-  stage-refused : (a : Answer Step) (r : Refusal) → stage_of a ≡ stage.Failed r → a ≡ refused r
+  stage-refused : (a : Answer Step) (r : Refusal) → stage_of a ≡ Err r → a ≡ refused r
   stage-refused (done s) r e = passed-not r e
   stage-refused (refused k) r e = let z : k ≡ r = cc in ap refused z
 

@@ -9,11 +9,9 @@ use lib.Ieee.{Float}
 use Rattle.numbers.proofs.Cases.{last-or-before}
 use Rattle.workspace.specs.Tables.{Answer, refused, call, test, is_dimension, is_constraints, is_room}
 use Rattle.workspace.specs.declared.Refusal.TheVariants.{Width, Bound}
-use Rattle.nnls.specs.Counted.{Counted}
 use Rattle.step_rows.specs.Problem.{Problem}
 use Rattle.step.specs.Step.{Step, step, report_of}
-use Rattle.step_call.specs.declared.Outcome.{Outcome}
-use Rattle.step_call.specs.Promise.{are_lengths, are_kinds, are_widths, step_call, Steps}
+use Rattle.step_call.specs.Promise.{are_lengths, are_kinds, are_widths, step_call, Outcome, Steps}
 use Rattle.step_call.specs.Strict.{is_bounded, bounds}
 use Rattle.step_call.specs.Claims.{LowestBound, all_bounded, wrong_bound, LowestVariable, Tested, StrictTold, lowest_told, as_step, StrictIsStep}
 

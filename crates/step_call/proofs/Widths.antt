@@ -1,15 +1,14 @@
 -- The test of a band's width, and of all of them in turn.
-use mathlib.Core.Path.{◌≡◌, refl, sym, ap, ◌∙◌}
+use mathlib.Core.Path.{◌≡◌, refl}
 use mathlib.Core.Bool.{Bool, true, false, ◌&&◌}
 use mathlib.Core.List.{List}
 use mathlib.Core.Logic.{⊎_elim}
 use Prim.Native.Nat.{ℕ, zero, suc, ◌+◌, ◌≤◌, ◌<◌}
 use native.Mathlib.Numerals.{add-one}
 use native.Mathlib.Omega.{arith}
-use lib.Ieee.{Float, inf, binary64, of_bits, div, lt, le}
-use Rattle.numbers.specs.Numbers.{+0, at, nth}
+use lib.Ieee.{Float, inf, binary64, of_bits, div}
+use Rattle.numbers.specs.Numbers.{at, nth}
 use Rattle.numbers.proofs.Cases.{eq-or-ne, lt-or-ge}
-use Rattle.workspace.proofs.Readings.{lit-+0}
 use Rattle.step_rows.specs.Problem.{constraint_of}
 use Rattle.step_call.specs.Promise.{is_width, are_widths}
 
@@ -22,29 +21,6 @@ above = div binary64 (of_bits binary64 0x3ff0_0000_0000_0000) (of_bits binary64 
 pub lit-infinity : above ≡ inf false
 unfolding div of_bits
 lit-infinity = refl
-
-pub width-none : (k : ℕ) (w : Float) → k < 2 → true ≡ is_width (constraint_of k w)
-width-none zero w h = refl
-width-none (suc zero) w h = refl
-width-none (suc (suc k)) w h = absurd (omega arith)
-
-pub width-finite : (k : ℕ) (w : Float) → 2 ≤ k → lt w above ≡ true → le (of_bits binary64 0) w ≡ is_width (constraint_of k w)
-width-finite zero w h e = absurd (omega arith)
-width-finite (suc zero) w h e = absurd (omega arith)
-width-finite (suc (suc k)) w h e = rw (← lit-infinity, e, lit-+0) (and_right (le +0 w))
-  where
-    and_right : (a : Bool) → a ≡ (a && true)
-    and_right true = refl
-    and_right false = refl
-
-pub width-infinite : (k : ℕ) (w : Float) → 2 ≤ k → lt w above ≡ false → false ≡ is_width (constraint_of k w)
-width-infinite zero w h e = absurd (omega arith)
-width-infinite (suc zero) w h e = absurd (omega arith)
-width-infinite (suc (suc k)) w h e = rw (← lit-infinity, e) (and_none (le +0 w))
-  where
-    and_none : (a : Bool) → false ≡ (a && false)
-    and_none true = refl
-    and_none false = refl
 
 -- ---- in turn
 

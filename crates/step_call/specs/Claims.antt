@@ -1,11 +1,10 @@
 -- What is shown of the step and of its calls: its multipliers, that without bands they are as before, what it reads of the factor, what it costs, how the strict step differs, and that the promise allows one answer only. Definitions only.
-use Rattle.std.specs.Prelude.{◌≡◌, true, false, ◌&&◌, List, [], ◌∷◌, ◌⊎◌, ℕ, ◌+◌, ◌-◌, ◌*◌, ◌<◌, ◌≤◌, length, take, Float}
+use Rattle.std.specs.Prelude.{◌≡◌, true, false, ◌&&◌, List, [], ◌∷◌, ◌⊎◌, ℕ, ◌+◌, ◌-◌, ◌*◌, ◌<◌, ◌≤◌, length, take, Float, Result, Ok, Err}
 use Rattle.numbers.specs.Numbers.{◌⊖◌, at, nth, transposed, SameLower}
 use Rattle.workspace.specs.Tables.{Answer, done, refused, is_dimension, is_constraints, is_room, has}
 use Rattle.workspace.specs.declared.Refusal.{Refusal}
 use Rattle.workspace.specs.declared.Refusal.TheVariants.{Deficient, Dependent, Bound}
 use Rattle.householder.specs.Qr.{Factors, factor}
-use Rattle.nnls.specs.Counted.{Counted}
 use Rattle.nnls.specs.Claims.{NotNegative}
 use Rattle.lsei.specs.Lsei.{Solution}
 use Rattle.lsei_call.specs.Claims.{ClearFrom, IsNext, of_equalities, of_rest}
@@ -14,12 +13,9 @@ use Rattle.step_rows.specs.declared.Constraint.{Constraint}
 use Rattle.step_rows.specs.declared.Constraint.TheVariants.{Equality, Floor, Band}
 use Rattle.step.specs.Step.{Step, target, exact_solution, root_weight, relaxed_matrix, relaxed_solution, relaxed, step, report_of}
 use Rattle.step.specs.declared.Report.{Report}
-use Rattle.step.specs.declared.Stage.TheVariants as stage
-use Rattle.step_call.specs.Promise.{are_kinds, are_widths, are_lengths, step_call, outcome_of, Steps}
+use Rattle.step_call.specs.Promise.{are_kinds, are_widths, are_lengths, step_call, Outcome, stepped, outcome_of, Steps}
 use Rattle.step_call.specs.Strict.{is_bounded, bounds, strict_call}
 use Rattle.step_call.specs.NoBands as NoBands
-use Rattle.step_call.specs.declared.Outcome.{Outcome}
-use Rattle.step_call.specs.declared.Outcome.TheVariants.{Done, Failed, Refused}
 
 -- ---- multipliers
 
@@ -69,7 +65,7 @@ pub data OfRows (p : Problem) (j : ℕ) (v : Float) : Type 0 where
 
 -- so is each that a done call leaves
 abbrev pub StepCallClear : Type 0
-StepCallClear = (p : Problem) (relaxation : Float) (t : Report) (d d' l l' w w' : List Float) (iw iw' : List ℕ) → EitherSteps p (Done relaxation t) d d' l l' w w' iw iw'
+StepCallClear = (p : Problem) (relaxation : Float) (t : Report) (d d' l l' w w' : List Float) (iw iw' : List ℕ) → EitherSteps p (Ok (stepped (Ok relaxation) t)) d d' l l' w w' iw iw'
     → (j : ℕ) → j < p.m → OfRows p j (at l' j)
 
 -- ---- where rank was lost
@@ -86,17 +82,20 @@ of_nullspace p = of_rest p.n (length (equality_rows p)) p.n (matrix_of (equality
 
 -- The places of a report's stages: the exact one's 11 names an equality's row and its 5 a column of what is left, the relaxed one's 5 a column of its matrix; it has no 11.
 pub record StagePlaces (p : Problem) (t : Report) : Type 0 where
-  pub exact_eleven : (place : ℕ) → t.exact ≡ stage.Failed (Dependent place) → IsNext (length (equality_rows p)) (of_equations p) place
-  pub exact_five : (place : ℕ) → t.exact ≡ stage.Failed (Deficient place)
+  pub exact_eleven : (place : ℕ) → t.exact ≡ Err (Dependent place) → IsNext (length (equality_rows p)) (of_equations p) place
+  pub exact_five : (place : ℕ) → t.exact ≡ Err (Deficient place)
       → ((of_equations p).rank ≡ length (equality_rows p)) × IsNext (p.n - length (equality_rows p)) (of_nullspace p) place
-  pub relaxed_five : (place : ℕ) → t.relaxed ≡ stage.Failed (Deficient place) → IsNext (p.n + 1) (of_relaxed p) place
-  pub never_eleven : (place : ℕ) → t.relaxed ≡ stage.Failed (Dependent place) → ⊥
+  pub relaxed_five : (place : ℕ) → t.relaxed ≡ Err (Deficient place) → IsNext (p.n + 1) (of_relaxed p) place
+  pub never_eleven : (place : ℕ) → t.relaxed ≡ Err (Dependent place) → ⊥
 
 -- so of what a call tells: its 5 is the relaxed stage's, and it never answers 11
+abbrev pub StepPlaces : Problem → Result Float Refusal → Report → Type 0
+StepPlaces p (Ok relaxation) t = StagePlaces p t
+StepPlaces p (Err r) t = StagePlaces p t × ((place : ℕ) → r ≡ Deficient place → IsNext (p.n + 1) (of_relaxed p) place) × ((place : ℕ) → r ≡ Dependent place → ⊥)
+
 abbrev pub PlacesTold : Problem → Outcome → Type 0
-PlacesTold p (Done relaxation t) = StagePlaces p t
-PlacesTold p (Failed r t) = StagePlaces p t × ((place : ℕ) → r ≡ Deficient place → IsNext (p.n + 1) (of_relaxed p) place) × ((place : ℕ) → r ≡ Dependent place → ⊥)
-PlacesTold p (Refused r) = ((place : ℕ) → r ≡ Deficient place → ⊥) × ((place : ℕ) → r ≡ Dependent place → ⊥)
+PlacesTold p (Ok s) = StepPlaces p s.relaxation s.report
+PlacesTold p (Err r) = ((place : ℕ) → r ≡ Deficient place → ⊥) × ((place : ℕ) → r ≡ Dependent place → ⊥)
 
 abbrev pub StepPlaced : Type 0
 StepPlaced = (p : Problem) (o : Outcome) (d d' l l' w w' : List Float) (iw iw' : List ℕ) → EitherSteps p o d d' l l' w w' iw iw' → PlacesTold p o
@@ -138,9 +137,8 @@ cost_bound p = 3 + most (length (inequality_rows p)) + most (length (relaxed_row
 
 -- what a call reports; one that a test refuses takes none
 abbrev pub factorings_told : Outcome → ℕ
-factorings_told (Done relaxation t) = t.factorings
-factorings_told (Failed r t) = t.factorings
-factorings_told (Refused r) = 0
+factorings_told (Ok s) = s.report.factorings
+factorings_told (Err r) = 0
 
 -- so of every call, done or refused
 abbrev pub CostBound : Type 0
@@ -173,7 +171,7 @@ Untouched d d' l l' w w' iw iw' = (d' ≡ d) × (l' ≡ l) × (w' ≡ w) × (iw'
 -- Of a strict call's outcome o and what it leaves: these are right, and it is refused by 15 of the lowest variable with a bound that means nothing; or one of them is not, or every bound means something, and it is the step.
 pub data StrictTold (p : Problem) (o : Outcome) (d d' l l' w w' : List Float) (iw iw' : List ℕ) : Type 0 where
   lowest_told : Tested p d l w iw → (i : ℕ) → i < p.n → ((j : ℕ) → j < i → is_bounded p.lower p.upper j ≡ true) → is_bounded p.lower p.upper i ≡ false
-      → o ≡ Refused (Bound i) → Untouched d d' l l' w w' iw iw' → StrictTold p o d d' l l' w w' iw iw'
+      → o ≡ Err (Bound i) → Untouched d d' l l' w w' iw iw' → StrictTold p o d d' l l' w w' iw iw'
   as_step : (Tested p d l w iw → (i : ℕ) → i < p.n → is_bounded p.lower p.upper i ≡ true) → Steps (step_call p d l w iw) (report_of p) o d d' l l' w w' iw iw'
       → StrictTold p o d d' l l' w w' iw iw'
 

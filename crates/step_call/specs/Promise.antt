@@ -1,19 +1,17 @@
 -- What a call of the public step answers and leaves. Definitions only.
-use Rattle.std.specs.Prelude.{ℕ, zero, suc, ◌*◌, ◌≡◌, Bool, true, false, ◌&&◌, List, [], ◌∷◌, leb, Float}
+use Rattle.std.specs.Prelude.{ℕ, zero, suc, ◌*◌, ◌≡◌, Bool, true, false, ◌&&◌, List, [], ◌∷◌, leb, Float, Result, Ok, Err}
 use Rattle.std.specs.Float.{inf}
 use Rattle.std.specs.Float.Ieee.{lt, le}
 use Rattle.numbers.specs.Numbers.{+0, at, nth}
 use Rattle.workspace.specs.declared.Refusal.{Refusal}
 use Rattle.workspace.specs.declared.Refusal.TheVariants.{Width}
 use Rattle.workspace.specs.Tables.{Answer, done, refused, is_late, call, test, output, floats, words, is_dimension, is_constraints, is_room, has}
-use Rattle.nnls.specs.Counted.{Counted}
 use Rattle.step_rows.specs.Problem.{Problem, constraint_of}
 use Rattle.step_rows.specs.declared.Constraint.{Constraint}
 use Rattle.step_rows.specs.declared.Constraint.TheVariants.{Equality, Floor, Band}
 use Rattle.step.specs.Step.{Step, step}
 use Rattle.step.specs.declared.Report.{Report}
-use Rattle.step_call.specs.declared.Outcome.{Outcome}
-use Rattle.step_call.specs.declared.Outcome.TheVariants.{Done, Failed, Refused}
+use Rattle.step.specs.declared.Stepped.{Stepped}
 
 -- every kind is 0, 1 or 2
 unfoldable pub are_kinds : List ℕ → Bool
@@ -41,14 +39,21 @@ abbrev pub step_call : Problem → (d multipliers w : List Float) (iw : List ℕ
 step_call p d l w iw =
     call (is_dimension p.n && is_constraints p.m) (are_lengths p d l) (is_room w iw) (are_kinds p.kinds) (test (are_widths p.kinds p.widths p.m) Width (step p).answer)
 
+-- what a call tells: the step's relaxation, or why it failed, with its report; or why a test before it refuses
+abbrev pub Outcome : Type 0
+Outcome = Result Stepped Refusal
+
+abbrev pub stepped : Result Float Refusal → Report → Stepped
+stepped relaxation t = record { relaxation = relaxation; report = t }
+
 -- a refusal of the arithmetic tells the report, one of the tests before it has none
 abbrev pub refused_by : Bool → Refusal → Report → Outcome
-refused_by true r t = Failed r t
-refused_by false r t = Refused r
+refused_by true r t = Ok (stepped (Err r) t)
+refused_by false r t = Err r
 
--- what it tells: where it is done, the relaxation and the report
+-- where it is done, the relaxation and the report
 abbrev pub outcome_of : Answer Step → Report → Outcome
-outcome_of (done s) t = Done s.relaxation t
+outcome_of (done s) t = Ok (stepped (Ok s.relaxation) t)
 outcome_of (refused r) t = refused_by (is_late r) r t
 
 -- From its answer c and the step's report t: the outcome o, and what d, the multipliers l and the workspaces hold before and, primed, afterwards.

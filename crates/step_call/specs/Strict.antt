@@ -4,7 +4,6 @@ use Rattle.std.specs.Float.{nan, inf, fin}
 use Rattle.numbers.specs.Numbers.{at}
 use Rattle.workspace.specs.declared.Refusal.TheVariants.{Width, Bound}
 use Rattle.workspace.specs.Tables.{Answer, call, test, is_dimension, is_constraints, is_room}
-use Rattle.nnls.specs.Counted.{Counted}
 use Rattle.step_rows.specs.Problem.{Problem}
 use Rattle.step.specs.Step.{Step, step}
 use Rattle.step_call.specs.Promise.{are_lengths, are_kinds, are_widths}

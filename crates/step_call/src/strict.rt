@@ -3,7 +3,7 @@ ghost use Rattle.std.specs.Prelude.{◌≡◌, ◌&&◌, ◌≤◌, length};
 ghost use Rattle.step_call.specs.Strict.{is_lower, is_upper};
 ghost use Rattle.step_call.specs.inner.Work.{bounds_outcome};
 
-use workspace::{Outcome, Refusal};
+use workspace::Refusal;
 
 // A NaN is less than nothing, so one comparison a side tells.
 pub fn are_bounds(lower: f64, upper: f64) -> bool
@@ -16,14 +16,14 @@ pub fn are_bounds(lower: f64, upper: f64) -> bool
 }
 
 // The bounds of the first `tested` variables, the lowest first.
-pub fn test_bounds(lower: &[f64], upper: &[f64], tested: usize) -> Outcome
+pub fn test_bounds(lower: &[f64], upper: &[f64], tested: usize) -> Result<(), Refusal>
     requires { (tested ≤ 16) × (tested ≤ length lower.now) × (tested ≤ length upper.now) }
     ensures { result ≡ bounds_outcome lower.now upper.now tested 0 }
 {
     for i in 0..tested {
         if !are_bounds(lower[i], upper[i]) {
-            return Outcome::Refused(Refusal::Bound(i as u32));
+            return Err(Refusal::Bound(i as u32));
         }
     }
-    Outcome::Done
+    Ok(())
 }

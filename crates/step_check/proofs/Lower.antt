@@ -1,16 +1,14 @@
 -- Of the factor the check reads the lower triangle only.
-use mathlib.Core.Path.{◌≡◌, refl, sym, ap, ◌∙◌}
-use mathlib.Core.List.{List, [], ◌∷◌, ◌++◌}
-use Prim.Native.Nat.{ℕ, zero, suc, ◌+◌, ◌-◌, ◌≤◌, ◌<◌}
+use mathlib.Core.Path.{◌≡◌, refl, sym, ap}
+use mathlib.Core.List.{List}
+use Prim.Native.Nat.{ℕ, zero, suc, ◌+◌, ◌-◌, ◌<◌}
 use native.Mathlib.Omega.{arith}
 use lib.Ieee.{Float}
-use Rattle.numbers.specs.Numbers.{+0, Σ, at, entry, ◌⊗◌, SameLower}
+use Rattle.numbers.specs.Numbers.{at, ◌⊗◌, SameLower}
 use Rattle.numbers.proofs.Sums.{Σ-same}
 use Rattle.step_rows.specs.Problem.{Problem, each}
 use Rattle.step_check.specs.declared.Test.TheVariants.{Stationarity, Residual, Violation, Sign, Product}
-use Rattle.step_check.specs.declared.Part.TheVariants.{Variable}
-use Rattle.step_check.specs.declared.Verdict.{Verdict}
-use Rattle.step_check.specs.Check.{Pasted, halfway, curved, slope, Margin, margin_of, slopes, equalities, inequalities, first_failed, ◌or_else◌, verdict}
+use Rattle.step_check.specs.Check.{Pasted, halfway, curved, slope, Margin, slopes, equalities, inequalities, first_failed, ◌or_else◌, verdict}
 use Rattle.step_check.specs.Claims.{with_factor, ReadsLower}
 
 same-halfway : (n : ℕ) (a b d : List Float) → SameLower n a b → (k : ℕ) → k < n → halfway n b d k ≡ halfway n a d k

@@ -1,8 +1,7 @@
 -- The check says yes exactly when the five tests hold, and else names the first that fails, with its row.
-use mathlib.Core.Path.{◌≡◌, refl, sym, ap, ◌∙◌}
+use mathlib.Core.Path.{◌≡◌, refl, sym, ap}
 use mathlib.Core.Bool.{Bool, true, false, cond}
 use mathlib.Core.List.{List, [], ◌∷◌, ◌++◌}
-use mathlib.Core.Logic.{◌↔◌}
 use Prim.Native.Nat.{ℕ, zero, suc, ◌<◌}
 use native.Mathlib.Omega.{arith}
 use lib.Ieee.{Float}
@@ -11,34 +10,33 @@ use Rattle.step_check.specs.declared.Test.{Test}
 use Rattle.step_check.specs.declared.Test.TheVariants.{Stationarity, Residual, Violation, Sign, Product}
 use Rattle.step_check.specs.declared.Part.{Part}
 use Rattle.step_check.specs.declared.Part.TheVariants.{Variable}
-use Rattle.step_check.specs.declared.Verdict.{Verdict}
-use Rattle.step_check.specs.declared.Verdict.TheVariants.{Yes, Fails}
+use Rattle.std.specs.Prelude.{Ok, Err}
 use Rattle.numbers.specs.Numbers.{+0}
-use Rattle.step_check.specs.Check.{Pasted, slope, Margin, margin_of, slopes, equalities, inequalities, rows_of, within, holds, first_failed, ◌or_else◌, verdict, test_number}
+use Rattle.step_check.specs.Check.{Pasted, slope, Margin, margin_of, slopes, equalities, inequalities, rows_of, holds, Verdict, yes, fails, first_failed, ◌or_else◌, verdict, test_number}
 use Rattle.step_check.specs.Claims.{All, Five, YesIsFive, Holds, FirstFailed, NamesFirst}
 
 -- a verdict is yes or it fails, and never both
 abbrev said : Verdict → ℕ
-said Yes = 0
-said (Fails t p i) = 1
+said (Ok tt) = 0
+said (Err f) = 1
 
-never : {A : Type 0} (t : Test) (p : Part) (i : ℕ) → Fails t p i ≡ Yes → A
+never : {A : Type 0} (t : Test) (p : Part) (i : ℕ) → fails t p i ≡ yes → A
 never t p i e = let z : ◌≡◌ {A = ℕ} 1 0 = ap said e in absurd (let y : ⊥ = omega arith in y)
 
 -- ---- some rows
 
 module _ (t : Test) (tol : Float) where
-  yes-all : (rs : List Margin) → first_failed t tol rs ≡ Yes → All (Holds t tol) rs
+  yes-all : (rs : List Margin) → first_failed t tol rs ≡ yes → All (Holds t tol) rs
   unfolding first_failed
   yes-all [] e = tt
   yes-all (r ∷ rs) e = go (holds t tol r.multiplier r.margin) refl e (yes-all rs)
     where
-      go : (b : Bool) → holds t tol r.multiplier r.margin ≡ b → cond b (first_failed t tol rs) (Fails t r.part r.index) ≡ Yes → (first_failed t tol rs ≡ Yes → All (Holds t tol) rs)
+      go : (b : Bool) → holds t tol r.multiplier r.margin ≡ b → cond b (first_failed t tol rs) (fails t r.part r.index) ≡ yes → (first_failed t tol rs ≡ yes → All (Holds t tol) rs)
           → Holds t tol r × All (Holds t tol) rs
       go true h e k = (h, k e)
       go false h e k = never t r.part r.index e
 
-  all_yes : (rs : List Margin) → All (Holds t tol) rs → first_failed t tol rs ≡ Yes
+  all_yes : (rs : List Margin) → All (Holds t tol) rs → first_failed t tol rs ≡ yes
   unfolding first_failed
   all_yes [] h = refl
   all_yes (r ∷ rs) h = rw h.0 (all_yes rs h.1)
@@ -57,9 +55,9 @@ each_all P (suc n) f h (suc i) l = each_all P n (λ i. f (suc i)) h.1 i (omega a
 
 -- ---- yes is five
 
-both_yes : (u v : Verdict) → (u or_else v) ≡ Yes → (u ≡ Yes) × (v ≡ Yes)
-both_yes Yes v e = (refl, e)
-both_yes (Fails t p i) v e = never t p i e
+both_yes : (u v : Verdict) → (u or_else v) ≡ yes → (u ≡ yes) × (v ≡ yes)
+both_yes (Ok tt) v e = (refl, e)
+both_yes (Err f) v e = never f.test f.part f.index e
 
 module _ (p : Problem) (s : Pasted) (tol : Float) where
   abbrev V₁ : Verdict
@@ -80,7 +78,7 @@ module _ (p : Problem) (s : Pasted) (tol : Float) where
   abbrev row₁ : ℕ → Margin
   row₁ i = margin_of Variable i +0 (slope p.n p.m p.factor p.gradient p.jacobian p.lower p.upper s.d s.multipliers s.lowers s.uppers i)
 
-  five-of : verdict p s tol ≡ Yes → Five p s tol
+  five-of : verdict p s tol ≡ yes → Five p s tol
   unfolding verdict slopes
   five-of e =
       let e₁ = both_yes V₁ (V₂ or_else V₃ or_else V₄ or_else V₅) e in
@@ -95,7 +93,7 @@ module _ (p : Problem) (s : Pasted) (tol : Float) where
         products = yes-all Product tol (inequalities p s) e₄.1;
       }
 
-  of-five : Five p s tol → verdict p s tol ≡ Yes
+  of-five : Five p s tol → verdict p s tol ≡ yes
   unfolding verdict slopes
   of-five f =
       rw (
@@ -112,16 +110,16 @@ yes-is-five p s tol = (five-of p s tol, of-five p s tol)
 -- ---- the first failed
 
 abbrev test_in : Verdict → Test
-test_in Yes = Product
-test_in (Fails t p i) = t
+test_in (Ok tt) = Product
+test_in (Err f) = f.test
 
 abbrev part_in : Verdict → Part
-part_in Yes = Variable
-part_in (Fails t p i) = p
+part_in (Ok tt) = Variable
+part_in (Err f) = f.part
 
 abbrev index_in : Verdict → ℕ
-index_in Yes = 0
-index_in (Fails t p i) = i
+index_in (Ok tt) = 0
+index_in (Err f) = f.index
 
 -- of one list
 record Stops (t : Test) (tol : Float) (rs : List Margin) (u : Test) (name : Part) (index : ℕ) : Type 0 where
@@ -135,13 +133,13 @@ record Stops (t : Test) (tol : Float) (rs : List Margin) (u : Test) (name : Part
   its_part : failed.part ≡ name
   its_index : failed.index ≡ index
 
-stops : (t : Test) (tol : Float) (rs : List Margin) (u : Test) (name : Part) (index : ℕ) → first_failed t tol rs ≡ Fails u name index → Stops t tol rs u name index
+stops : (t : Test) (tol : Float) (rs : List Margin) (u : Test) (name : Part) (index : ℕ) → first_failed t tol rs ≡ fails u name index → Stops t tol rs u name index
 unfolding first_failed
 stops t tol [] u name index e = never u name index (sym e)
 stops t tol (r ∷ rs) u name index e = go (holds t tol r.multiplier r.margin) refl e (stops t tol rs u name index)
   where
-    go : (b : Bool) → holds t tol r.multiplier r.margin ≡ b → cond b (first_failed t tol rs) (Fails t r.part r.index) ≡ Fails u name index
-        → (first_failed t tol rs ≡ Fails u name index → Stops t tol rs u name index) → Stops t tol (r ∷ rs) u name index
+    go : (b : Bool) → holds t tol r.multiplier r.margin ≡ b → cond b (first_failed t tol rs) (fails t r.part r.index) ≡ fails u name index
+        → (first_failed t tol rs ≡ fails u name index → Stops t tol rs u name index) → Stops t tol (r ∷ rs) u name index
     go true h e k =
         let f = k e in
         record {
@@ -158,9 +156,9 @@ stops t tol (r ∷ rs) u name index e = go (holds t tol r.multiplier r.margin) r
     go false h e k = record { the-test = ap test_in e; before = []; failed = r; others = rs; its_rows = refl; rows_before = tt; fails_there = h; its_part = ap part_in e; its_index = ap index_in e }
 
 -- the verdict that failed is the first's, or the first is yes and it is the second's
-split : {A : Type 0} (u v : Verdict) (t : Test) (p : Part) (i : ℕ) → (u or_else v) ≡ Fails t p i → (u ≡ Fails t p i → A) → (u ≡ Yes → v ≡ Fails t p i → A) → A
-split Yes v t p i e here on = on refl e
-split (Fails a b c) v t p i e here on = here e
+split : {A : Type 0} (u v : Verdict) (t : Test) (p : Part) (i : ℕ) → (u or_else v) ≡ fails t p i → (u ≡ fails t p i → A) → (u ≡ yes → v ≡ fails t p i → A) → A
+split (Ok tt) v t p i e here on = on refl e
+split (Err f) v t p i e here on = here e
 
 module _ (p : Problem) (s : Pasted) (tol : Float) (name : Part) (index : ℕ) where
   named : (t u : Test) → Stops t tol (rows_of t p s) u name index → ((w : Test) → test_number w < test_number t → All (Holds w tol) (rows_of w p s)) → FirstFailed p s tol u name index
@@ -209,7 +207,7 @@ module _ (p : Problem) (s : Pasted) (tol : Float) (name : Part) (index : ℕ) wh
   below-5 a b c d Sign l = d
   below-5 a b c d Product l = absurd (omega arith)
 
-  first-of : (u : Test) → verdict p s tol ≡ Fails u name index → FirstFailed p s tol u name index
+  first-of : (u : Test) → verdict p s tol ≡ fails u name index → FirstFailed p s tol u name index
   unfolding verdict
   first-of u e =
       let all₁ = yes-all Stationarity tol (slopes p s) in

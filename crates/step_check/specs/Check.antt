@@ -1,18 +1,15 @@
 -- Is a step plausible? Five tests on a step that may come from anywhere (docs/RULES.md, "The check"). Definitions only.
-use Rattle.std.specs.Prelude.{ℕ, ◌+◌, ◌-◌, Bool, cond, ◌&&◌, List, [], ◌∷◌, ◌++◌, Float}
+use Rattle.std.specs.Prelude.{ℕ, ◌+◌, ◌-◌, Bool, cond, ◌&&◌, List, [], ◌∷◌, ◌++◌, Option, None, Some, Result, Ok, Err, ⊤, Float}
 use Rattle.std.specs.Float.Ieee.{le, neg}
 use Rattle.numbers.specs.Numbers.{+0, ◌⊕◌, ◌⊖◌, ◌⊗◌, Σ, at, entry}
 use Rattle.step_rows.specs.Problem.{Problem, constraint_at, side_of, each}
-use Rattle.step_rows.specs.declared.Side.{Side}
-use Rattle.step_rows.specs.declared.Side.TheVariants.{Open, At}
 use Rattle.step_rows.specs.declared.Constraint.{Constraint}
 use Rattle.step_rows.specs.declared.Constraint.TheVariants.{Equality, Floor, Band}
 use Rattle.step_check.specs.declared.Test.{Test}
 use Rattle.step_check.specs.declared.Test.TheVariants.{Stationarity, Residual, Violation, Sign, Product}
 use Rattle.step_check.specs.declared.Part.{Part}
 use Rattle.step_check.specs.declared.Part.TheVariants as part
-use Rattle.step_check.specs.declared.Verdict.{Verdict}
-use Rattle.step_check.specs.declared.Verdict.TheVariants.{Yes, Fails}
+use Rattle.step_check.specs.declared.Failure.{Failure}
 
 -- what is pasted: a step, and multipliers for the constraints and for the lower and upper side of each variable
 pub record Pasted : Type 0 where
@@ -38,13 +35,13 @@ unfoldable pub terms : (n m : ℕ) (jacobian multipliers : List Float) → ℕ �
 terms n m jacobian multipliers i = Σ m (λ j. entry n jacobian j i ⊗ at multipliers j)
 
 -- minus the lower, plus the upper multiplier: an open side takes no part
-abbrev pub less_lower : Side → (multiplier v : Float) → Float
-less_lower Open l v = v
-less_lower (At bound) l v = v ⊖ l
+abbrev pub less_lower : Option Float → (multiplier v : Float) → Float
+less_lower None l v = v
+less_lower (Some bound) l v = v ⊖ l
 
-abbrev pub plus_upper : Side → (multiplier v : Float) → Float
-plus_upper Open u v = v
-plus_upper (At bound) u v = v ⊕ u
+abbrev pub plus_upper : Option Float → (multiplier v : Float) → Float
+plus_upper None u v = v
+plus_upper (Some bound) u v = v ⊕ u
 
 -- L L'd, plus gradient, minus the constraints' terms, minus lower, plus upper multiplier
 unfoldable pub slope : (n m : ℕ) (factor gradient jacobian lower upper d multipliers lowers uppers : List Float) → ℕ → Float
@@ -90,13 +87,13 @@ floor_rows Floor n a c d l j = margin_of part.Constraint j (at l j) (value_at n 
 floor_rows (Band w) n a c d l j = margin_of part.Constraint j (positive (at l j)) (value_at n a c d j) ∷ margin_of part.Ceiling j (negative (at l j)) (ceiling_at n a c d w j) ∷ []
 
 -- d - lower, and upper - d
-abbrev pub lower_row : Side → (d lowers : List Float) → ℕ → List Margin
-lower_row Open d l i = []
-lower_row (At bound) d l i = margin_of part.Lower i (at l i) (at d i ⊖ bound) ∷ []
+abbrev pub lower_row : Option Float → (d lowers : List Float) → ℕ → List Margin
+lower_row None d l i = []
+lower_row (Some bound) d l i = margin_of part.Lower i (at l i) (at d i ⊖ bound) ∷ []
 
-abbrev pub upper_row : Side → (d uppers : List Float) → ℕ → List Margin
-upper_row Open d u i = []
-upper_row (At bound) d u i = margin_of part.Upper i (at u i) (bound ⊖ at d i) ∷ []
+abbrev pub upper_row : Option Float → (d uppers : List Float) → ℕ → List Margin
+upper_row None d u i = []
+upper_row (Some bound) d u i = margin_of part.Upper i (at u i) (bound ⊖ at d i) ∷ []
 
 -- ---- the rows of the tests, each in its order
 
@@ -136,16 +133,26 @@ holds Product tol l v = within tol (l ⊗ v)
 
 -- ---- the verdict
 
+-- yes, or the first failed test with its row
+abbrev pub Verdict : Type 0
+Verdict = Result ⊤ Failure
+
+abbrev pub yes : Verdict
+yes = Ok tt
+
+abbrev pub fails : Test → Part → (index : ℕ) → Verdict
+fails t p i = Err (record { test = t; part = p; index = i })
+
 -- where one says yes, what the next says
 infixr 20 ◌or_else◌
 abbrev pub ◌or_else◌ : Verdict → Verdict → Verdict
-Yes or_else v = v
-Fails t p i or_else v = Fails t p i
+Ok tt or_else v = v
+Err f or_else v = Err f
 
 -- the first of some rows that fails a test
 unfoldable pub first_failed : Test → (tolerance : Float) → List Margin → Verdict
-first_failed t tol [] = Yes
-first_failed t tol (r ∷ rs) = cond (holds t tol r.multiplier r.margin) (first_failed t tol rs) (Fails t r.part r.index)
+first_failed t tol [] = yes
+first_failed t tol (r ∷ rs) = cond (holds t tol r.multiplier r.margin) (first_failed t tol rs) (fails t r.part r.index)
 
 unfoldable pub verdict : Problem → Pasted → (tolerance : Float) → Verdict
 verdict p s tol =
@@ -174,13 +181,13 @@ part_number part.Upper = 4
 
 -- a verdict in three numbers, all 0 with yes
 abbrev pub test_told : Verdict → ℕ
-test_told Yes = 0
-test_told (Fails t p i) = test_number t
+test_told (Ok tt) = 0
+test_told (Err f) = test_number f.test
 
 abbrev pub part_told : Verdict → ℕ
-part_told Yes = 0
-part_told (Fails t p i) = part_number p
+part_told (Ok tt) = 0
+part_told (Err f) = part_number f.part
 
 abbrev pub index_told : Verdict → ℕ
-index_told Yes = 0
-index_told (Fails t p i) = i
+index_told (Ok tt) = 0
+index_told (Err f) = f.index

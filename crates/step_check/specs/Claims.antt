@@ -4,10 +4,8 @@ use Rattle.std.specs.Float.Ieee.{le, neg}
 use Rattle.numbers.specs.Numbers.{+0, ◌⊗◌, SameLower}
 use Rattle.step_rows.specs.Problem.{Problem, problem_of}
 use Rattle.step_check.specs.declared.Test.{Test}
-use Rattle.step_check.specs.declared.Test.TheVariants.{Stationarity, Residual, Violation, Sign, Product}
 use Rattle.step_check.specs.declared.Part.{Part}
-use Rattle.step_check.specs.declared.Verdict.TheVariants.{Yes, Fails}
-use Rattle.step_check.specs.Check.{Pasted, slope, Margin, equalities, inequalities, rows_of, within, holds, verdict, test_number}
+use Rattle.step_check.specs.Check.{Pasted, slope, Margin, equalities, inequalities, rows_of, within, holds, yes, fails, verdict, test_number}
 
 -- for every row of a list
 abbrev pub All : (Margin → Type 0) → List Margin → Type 0
@@ -44,7 +42,7 @@ pub record Five (p : Problem) (s : Pasted) (tol : Float) : Type 0 where
   pub products : ProductsSmall p s tol
 
 abbrev pub YesIsFive : Type 0
-YesIsFive = (p : Problem) (s : Pasted) (tol : Float) → (verdict p s tol ≡ Yes) ↔ Five p s tol
+YesIsFive = (p : Problem) (s : Pasted) (tol : Float) → (verdict p s tol ≡ yes) ↔ Five p s tol
 
 -- ---- else the first failed
 
@@ -64,7 +62,7 @@ pub record FirstFailed (p : Problem) (s : Pasted) (tol : Float) (t : Test) (name
   pub its_index : failed.index ≡ index
 
 abbrev pub NamesFirst : Type 0
-NamesFirst = (p : Problem) (s : Pasted) (tol : Float) (t : Test) (name : Part) (index : ℕ) → verdict p s tol ≡ Fails t name index → FirstFailed p s tol t name index
+NamesFirst = (p : Problem) (s : Pasted) (tol : Float) (t : Test) (name : Part) (index : ℕ) → verdict p s tol ≡ fails t name index → FirstFailed p s tol t name index
 
 -- ---- what it reads of the factor
 

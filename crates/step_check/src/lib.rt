@@ -3,25 +3,27 @@
 
 mod bounds;
 mod constraints;
+mod posed;
 mod slopes;
 
 ghost use Rattle.std.specs.Prelude.{◌≡◌, [], ◌∷◌};
-ghost use Rattle.step_rows.specs.Problem.{problem_of};
-ghost use Rattle.step_check.specs.Check.{pasted_of, margin_of, within, holds, first_failed, inequalities, verdict, test_number, part_number, test_told, part_told, index_told};
-ghost use Rattle.step_check.specs.inner.Work.{Rowed, Sided, Posed, last_three};
+ghost use Rattle.step_check.specs.Check.{margin_of, within, holds, first_failed, inequalities, verdict, test_number, part_number};
+ghost use Rattle.step_check.specs.Lent.{problem_in, pasted_in};
+ghost use Rattle.step_check.specs.inner.Work.{last_three};
 
 use crate::bounds::check_bounds;
 use crate::constraints::{check_equalities, check_floors};
+pub use crate::posed::Posed;
 use crate::slopes::check_slopes;
 
 // The five tests, in their order.
-#[derive(Clone, Copy)]
+#[derive(Clone, Copy, Debug, PartialEq, Eq)]
 pub enum Test {
-    Stationarity,
-    Residual,
-    Violation,
-    Sign,
-    Product,
+    Stationarity = 1,
+    Residual = 2,
+    Violation = 3,
+    Sign = 4,
+    Product = 5,
 }
 
 impl Test {
@@ -29,24 +31,18 @@ impl Test {
     pub fn number(self) -> u32
         ensures { result ≡ test_number self }
     {
-        match self {
-            Test::Stationarity => 1,
-            Test::Residual => 2,
-            Test::Violation => 3,
-            Test::Sign => 4,
-            Test::Product => 5,
-        }
+        self as u32
     }
 }
 
 // What the index of a row counts: variables, constraints, or the bands' ceilings or variables' sides by these.
-#[derive(Clone, Copy)]
+#[derive(Clone, Copy, Debug, PartialEq, Eq)]
 pub enum Part {
-    Variable,
-    Constraint,
-    Ceiling,
-    Lower,
-    Upper,
+    Variable = 0,
+    Constraint = 1,
+    Ceiling = 2,
+    Lower = 3,
+    Upper = 4,
 }
 
 impl Part {
@@ -54,54 +50,20 @@ impl Part {
     pub fn number(self) -> u32
         ensures { result ≡ part_number self }
     {
-        match self {
-            Part::Variable => 0,
-            Part::Constraint => 1,
-            Part::Ceiling => 2,
-            Part::Lower => 3,
-            Part::Upper => 4,
-        }
+        self as u32
     }
 }
 
-// Yes, or the first failed test with its row.
-#[derive(Clone, Copy)]
-pub enum Verdict {
-    Yes,
-    Fails(Test, Part, u32),
+// The first failed test, with its row: the index of one of a part.
+#[derive(Clone, Copy, Debug, PartialEq, Eq)]
+pub struct Failure {
+    pub test: Test,
+    pub part: Part,
+    pub index: u32,
 }
 
-impl Verdict {
-    // The failed test's number, or 0.
-    pub fn test(self) -> u32
-        ensures { result ≡ test_told self }
-    {
-        match self {
-            Verdict::Yes => 0,
-            Verdict::Fails(test, _, _) => test.number(),
-        }
-    }
-
-    // The number of the part that its row belongs to, or 0.
-    pub fn part(self) -> u32
-        ensures { result ≡ part_told self }
-    {
-        match self {
-            Verdict::Yes => 0,
-            Verdict::Fails(_, part, _) => part.number(),
-        }
-    }
-
-    // Its row's index, or 0.
-    pub fn index(self) -> u32
-        ensures { result ≡ index_told self }
-    {
-        match self {
-            Verdict::Yes => 0,
-            Verdict::Fails(_, _, index) => index,
-        }
-    }
-}
+// Yes, or the first failure.
+pub type Verdict = Result<(), Failure>;
 
 // ---- one row
 
@@ -137,191 +99,35 @@ pub fn judge(
     ensures { result ≡ first_failed test tolerance (margin_of part index multiplier margin ∷ []) }
 {
     if passes(test, tolerance, multiplier, margin) {
-        return Verdict::Yes;
+        return Ok(());
     }
-    Verdict::Fails(test, part, index)
+    Err(Failure { test, part, index })
 }
 
 // ---- all of them
 
 // A test of every inequality: floors and bands, then sides.
-fn check_inequalities(
-    test: Test,
-    kinds: &[u8],
-    values: &[f64],
-    widths: &[f64],
-    jacobian: &[f64],
-    lower: &[f64],
-    upper: &[f64],
-    d: &[f64],
-    multipliers: &[f64],
-    lowers: &[f64],
-    uppers: &[f64],
-    n: usize,
-    m: usize,
-    tolerance: f64,
-) -> Verdict
-    requires { Rowed n m kinds.now values.now widths.now jacobian.now d.now multipliers.now × Sided n lower.now upper.now d.now lowers.now uppers.now }
-    ensures { result ≡ first_failed test tolerance (inequalities (problem_of n m [] [] kinds.now values.now widths.now jacobian.now lower.now upper.now) (pasted_of d.now multipliers.now lowers.now uppers.now)) }
+fn check_inequalities(test: Test, s: &Posed, tolerance: f64) -> Verdict
+    ensures { result ≡ first_failed test tolerance (inequalities (problem_in s.now) (pasted_in s.now)) }
 {
-    let first = check_floors(
-        test,
-        kinds,
-        values,
-        widths,
-        jacobian,
-        d,
-        multipliers,
-        n,
-        m,
-        tolerance,
-    );
-    let Verdict::Yes = first else {
-        return first;
-    };
-    check_bounds(test, lower, upper, d, lowers, uppers, n, tolerance)
+    check_floors(test, s, tolerance)?;
+    check_bounds(test, s, tolerance)
 }
 
 // The last three tests, which are on the same rows.
-fn check_last(
-    kinds: &[u8],
-    values: &[f64],
-    widths: &[f64],
-    jacobian: &[f64],
-    lower: &[f64],
-    upper: &[f64],
-    d: &[f64],
-    multipliers: &[f64],
-    lowers: &[f64],
-    uppers: &[f64],
-    n: usize,
-    m: usize,
-    tolerance: f64,
-) -> Verdict
-    requires { Rowed n m kinds.now values.now widths.now jacobian.now d.now multipliers.now × Sided n lower.now upper.now d.now lowers.now uppers.now }
-    ensures { result ≡ last_three tolerance (inequalities (problem_of n m [] [] kinds.now values.now widths.now jacobian.now lower.now upper.now) (pasted_of d.now multipliers.now lowers.now uppers.now)) }
+fn check_last(s: &Posed, tolerance: f64) -> Verdict
+    ensures { result ≡ last_three tolerance (inequalities (problem_in s.now) (pasted_in s.now)) }
 {
-    let third = check_inequalities(
-        Test::Violation,
-        kinds,
-        values,
-        widths,
-        jacobian,
-        lower,
-        upper,
-        d,
-        multipliers,
-        lowers,
-        uppers,
-        n,
-        m,
-        tolerance,
-    );
-    let Verdict::Yes = third else {
-        return third;
-    };
-    let fourth = check_inequalities(
-        Test::Sign,
-        kinds,
-        values,
-        widths,
-        jacobian,
-        lower,
-        upper,
-        d,
-        multipliers,
-        lowers,
-        uppers,
-        n,
-        m,
-        tolerance,
-    );
-    let Verdict::Yes = fourth else {
-        return fourth;
-    };
-    check_inequalities(
-        Test::Product,
-        kinds,
-        values,
-        widths,
-        jacobian,
-        lower,
-        upper,
-        d,
-        multipliers,
-        lowers,
-        uppers,
-        n,
-        m,
-        tolerance,
-    )
+    check_inequalities(Test::Violation, s, tolerance)?;
+    check_inequalities(Test::Sign, s, tolerance)?;
+    check_inequalities(Test::Product, s, tolerance)
 }
 
-// The five tests on a step d of the problem, with multipliers of its constraints and sides.
-pub fn check_step(
-    factor: &[f64],
-    gradient: &[f64],
-    kinds: &[u8],
-    values: &[f64],
-    widths: &[f64],
-    jacobian: &[f64],
-    lower: &[f64],
-    upper: &[f64],
-    d: &[f64],
-    multipliers: &[f64],
-    lowers: &[f64],
-    uppers: &[f64],
-    n: usize,
-    m: usize,
-    tolerance: f64,
-) -> Verdict
-    requires { Posed n m factor.now gradient.now kinds.now values.now widths.now jacobian.now lower.now upper.now d.now multipliers.now lowers.now uppers.now }
-    ensures { result ≡ verdict (problem_of n m factor.now gradient.now kinds.now values.now widths.now jacobian.now lower.now upper.now) (pasted_of d.now multipliers.now lowers.now uppers.now) tolerance }
+// The five tests.
+pub fn check_step(s: &Posed, tolerance: f64) -> Verdict
+    ensures { result ≡ verdict (problem_in s.now) (pasted_in s.now) tolerance }
 {
-    let first = check_slopes(
-        factor,
-        gradient,
-        jacobian,
-        lower,
-        upper,
-        d,
-        multipliers,
-        lowers,
-        uppers,
-        n,
-        m,
-        tolerance,
-    );
-    let Verdict::Yes = first else {
-        return first;
-    };
-    let second = check_equalities(
-        kinds,
-        values,
-        widths,
-        jacobian,
-        d,
-        multipliers,
-        n,
-        m,
-        tolerance,
-    );
-    let Verdict::Yes = second else {
-        return second;
-    };
-    check_last(
-        kinds,
-        values,
-        widths,
-        jacobian,
-        lower,
-        upper,
-        d,
-        multipliers,
-        lowers,
-        uppers,
-        n,
-        m,
-        tolerance,
-    )
+    check_slopes(s, tolerance)?;
+    check_equalities(s, tolerance)?;
+    check_last(s, tolerance)
 }

@@ -1,14 +1,12 @@
 // The first test: stationarity.
 ghost use Rattle.std.specs.Prelude.{◌≡◌, [], ◌∷◌, ◌*◌, ◌≤◌, ◌<◌, length};
 ghost use Rattle.numbers.specs.Numbers.{+0};
-ghost use Rattle.step_rows.specs.Problem.{each};
 ghost use Rattle.step_check.specs.declared.Test.TheVariants.{Stationarity};
 ghost use Rattle.step_check.specs.declared.Part.TheVariants.{Variable};
-ghost use Rattle.step_check.specs.Check.{halfway, curved, terms, less_lower, plus_upper, slope, margin_of, first_failed};
-ghost use Rattle.step_check.specs.inner.Work.{Sloped};
+ghost use Rattle.step_check.specs.Check.{halfway, curved, terms, less_lower, plus_upper, slope, margin_of, slopes, first_failed};
+ghost use Rattle.step_check.specs.Lent.{problem_in, pasted_in};
 
-use crate::{Part, Test, Verdict};
-use step_rows::Side;
+use crate::{Part, Posed, Test, Verdict};
 
 // Entry k of L'd, from the lower triangle.
 fn halfway_at(factor: &[f64], d: &[f64], n: usize, k: usize) -> f64
@@ -26,10 +24,8 @@ fn curved_at(factor: &[f64], d: &[f64], n: usize, i: usize) -> f64
 {
     let p = i * n;
     let mut t = -0.0;
-    let mut k = 0;
-    while k < i + 1 {
-        t = t + factor[p + k] * halfway_at(factor, d, n, k);
-        k += 1;
+    for k in 0..i + 1 {
+        t += factor[p + k] * halfway_at(factor, d, n, k);
     }
     t
 }
@@ -43,48 +39,36 @@ fn terms_at(jacobian: &[f64], multipliers: &[f64], n: usize, m: usize, i: usize)
 }
 
 // Less a lower side's multiplier, where that side is closed.
-fn less_lower(side: Side, multiplier: f64, v: f64) -> f64
+fn less_lower(side: Option<f64>, multiplier: f64, v: f64) -> f64
     ensures { result ≡ less_lower side multiplier v }
 {
     match side {
-        Side::Open => v,
-        Side::At(_) => v - multiplier,
+        None => v,
+        Some(_) => v - multiplier,
     }
 }
 
 // Plus an upper side's multiplier, where that side is closed.
-fn plus_upper(side: Side, multiplier: f64, v: f64) -> f64
+fn plus_upper(side: Option<f64>, multiplier: f64, v: f64) -> f64
     ensures { result ≡ plus_upper side multiplier v }
 {
     match side {
-        Side::Open => v,
-        Side::At(_) => v + multiplier,
+        None => v,
+        Some(_) => v + multiplier,
     }
 }
 
 // The slope of variable i.
-fn slope_at(
-    factor: &[f64],
-    gradient: &[f64],
-    jacobian: &[f64],
-    lower: &[f64],
-    upper: &[f64],
-    d: &[f64],
-    multipliers: &[f64],
-    lowers: &[f64],
-    uppers: &[f64],
-    n: usize,
-    m: usize,
-    i: usize,
-) -> f64
-    requires { (i < n) × Sloped n m factor.now gradient.now jacobian.now lower.now upper.now d.now multipliers.now lowers.now uppers.now }
-    ensures { result ≡ slope n m factor.now gradient.now jacobian.now lower.now upper.now d.now multipliers.now lowers.now uppers.now i }
+fn slope_at(s: &Posed, i: usize) -> f64
+    requires { i < s.now.problem.n }
+    ensures { result ≡ slope s.now.problem.n s.now.problem.m s.now.problem.factor.now s.now.problem.gradient.now s.now.problem.jacobian.now s.now.problem.lower.now s.now.problem.upper.now s.now.d.now s.now.multipliers.now s.now.lowers.now s.now.uppers.now i }
 {
-    let bent = curved_at(factor, d, n, i);
-    let held = terms_at(jacobian, multipliers, n, m, i);
-    let v = bent + gradient[i] - held;
-    let u = less_lower(Side::of(lower[i]), lowers[i], v);
-    plus_upper(Side::of(upper[i]), uppers[i], u)
+    let p = &s.problem;
+    let bent = curved_at(p.factor, s.d, p.n, i);
+    let held = terms_at(p.jacobian, s.multipliers, p.n, p.m, i);
+    let v = bent + p.gradient[i] - held;
+    let u = less_lower(step_rows::side_of(p.lower[i]), s.lowers[i], v);
+    plus_upper(step_rows::side_of(p.upper[i]), s.uppers[i], u)
 }
 
 // The verdict on the slope along variable i.
@@ -103,42 +87,12 @@ fn judge_slope(tolerance: f64, i: usize, slope: f64) -> Verdict
 }
 
 // Stationarity of each variable.
-pub fn check_slopes(
-    factor: &[f64],
-    gradient: &[f64],
-    jacobian: &[f64],
-    lower: &[f64],
-    upper: &[f64],
-    d: &[f64],
-    multipliers: &[f64],
-    lowers: &[f64],
-    uppers: &[f64],
-    n: usize,
-    m: usize,
-    tolerance: f64,
-) -> Verdict
-    requires { Sloped n m factor.now gradient.now jacobian.now lower.now upper.now d.now multipliers.now lowers.now uppers.now }
-    ensures { result ≡ first_failed Stationarity tolerance (each n (λ i. margin_of Variable i +0 (slope n m factor.now gradient.now jacobian.now lower.now upper.now d.now multipliers.now lowers.now uppers.now i) ∷ [])) }
+pub fn check_slopes(s: &Posed, tolerance: f64) -> Verdict
+    ensures { result ≡ first_failed Stationarity tolerance (slopes (problem_in s.now) (pasted_in s.now)) }
 {
-    for i in 0..n {
-        let v = slope_at(
-            factor,
-            gradient,
-            jacobian,
-            lower,
-            upper,
-            d,
-            multipliers,
-            lowers,
-            uppers,
-            n,
-            m,
-            i,
-        );
-        let told = judge_slope(tolerance, i, v);
-        let Verdict::Yes = told else {
-            return told;
-        };
+    for i in 0..s.problem.n {
+        let v = slope_at(s, i);
+        judge_slope(tolerance, i, v)?;
     }
-    Verdict::Yes
+    Ok(())
 }

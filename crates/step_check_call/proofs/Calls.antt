@@ -1,5 +1,5 @@
 -- The call, by what its tests found.
-use mathlib.Core.Path.{◌≡◌, refl, sym, ap, ◌∙◌}
+use mathlib.Core.Path.{◌≡◌, refl}
 use mathlib.Core.Bool.{Bool, true, false, ◌&&◌}
 use mathlib.Core.List.{List}
 use Prim.Native.Nat.{ℕ, ◌*◌}
@@ -13,9 +13,8 @@ use Rattle.step_rows.specs.Problem.{Problem}
 use Rattle.step_call.specs.Promise.{are_kinds, are_widths, are_lengths}
 use Rattle.step_call.proofs.Calls.{lengths-bad, lengths-good, lengths-rest}
 use Rattle.step_check.specs.Check.{Pasted, verdict}
-use Rattle.step_check_call.specs.Promise.{check_call, Checks}
-use Rattle.step_check_call.specs.declared.Outcome.{Outcome}
-use Rattle.step_check_call.specs.declared.Outcome.TheVariants.{Done, Refused}
+use Rattle.std.specs.Prelude.{Err}
+use Rattle.step_check_call.specs.Promise.{check_call, Outcome, Checks}
 
 pub sides-are : (n a b : ℕ) → (eqb a n && eqb b n) ≡ true → (a ≡ n) × (b ≡ n)
 sides-are n a b h = let p = and-true (eqb a n) (eqb b n) h in (eqb-true a n p.0, eqb-true b n p.1)
@@ -37,37 +36,37 @@ module _ (p : Problem) (s : Pasted) (tol : Float) (w : List Float) (iw : List �
   both : first ≡ true → second ≡ true → are_lengths p s.d s.multipliers ≡ true
   both a b = lengths-good first (has p.widths p.m) (has p.lower p.n) (has p.upper p.n) (has s.d p.n) (has s.multipliers p.m) a b
 
-  pub size-refused : sizes ≡ false → Checks (check_call p s tol w iw) (Refused Size) w w iw iw
+  pub size-refused : sizes ≡ false → Checks (check_call p s tol w iw) (Err Size) w w iw iw
   size-refused e = rw e (record { the_outcome = refl; the_floats = refl; the_words = refl })
 
-  lengths-refused : sizes ≡ true → (are_lengths p s.d s.multipliers && third) ≡ false → Checks (check_call p s tol w iw) (Refused Length) w w iw iw
+  lengths-refused : sizes ≡ true → (are_lengths p s.d s.multipliers && third) ≡ false → Checks (check_call p s tol w iw) (Err Length) w w iw iw
   lengths-refused e f = rw (e, f) (record { the_outcome = refl; the_floats = refl; the_words = refl })
 
-  pub first-refused : sizes ≡ true → first ≡ false → Checks (check_call p s tol w iw) (Refused Length) w w iw iw
+  pub first-refused : sizes ≡ true → first ≡ false → Checks (check_call p s tol w iw) (Err Length) w w iw iw
   first-refused e a =
       lengths-refused e
       (rw (lengths-bad first (has p.widths p.m) (has p.lower p.n) (has p.upper p.n) (has s.d p.n) (has s.multipliers p.m) a))
 
-  pub second-refused : sizes ≡ true → first ≡ true → second ≡ false → Checks (check_call p s tol w iw) (Refused Length) w w iw iw
+  pub second-refused : sizes ≡ true → first ≡ true → second ≡ false → Checks (check_call p s tol w iw) (Err Length) w w iw iw
   second-refused e a b =
       lengths-refused e
       (rw (lengths-rest first (has p.widths p.m) (has p.lower p.n) (has p.upper p.n) (has s.d p.n) (has s.multipliers p.m) a b))
 
-  pub third-refused : sizes ≡ true → first ≡ true → second ≡ true → third ≡ false → Checks (check_call p s tol w iw) (Refused Length) w w iw iw
+  pub third-refused : sizes ≡ true → first ≡ true → second ≡ true → third ≡ false → Checks (check_call p s tol w iw) (Err Length) w w iw iw
   third-refused e a b c = lengths-refused e (rw (both a b) c)
 
   module _ (e : sizes ≡ true) (a : first ≡ true) (b : second ≡ true) (c : third ≡ true) where
-    pub room-refused : is_room w iw ≡ false → Checks (check_call p s tol w iw) (Refused Room) w w iw iw
+    pub room-refused : is_room w iw ≡ false → Checks (check_call p s tol w iw) (Err Room) w w iw iw
     room-refused f = rw (e, both a b, c, f) (record { the_outcome = refl; the_floats = refl; the_words = refl })
 
     module _ (f : is_room w iw ≡ true) where
-      pub kind-refused : are_kinds p.kinds ≡ false → Checks (check_call p s tol w iw) (Refused Kind) w w iw iw
+      pub kind-refused : are_kinds p.kinds ≡ false → Checks (check_call p s tol w iw) (Err Kind) w w iw iw
       kind-refused g = rw (e, both a b, c, f, g) (record { the_outcome = refl; the_floats = refl; the_words = refl })
 
-      pub width-refused : are_kinds p.kinds ≡ true → are_widths p.kinds p.widths p.m ≡ false → Checks (check_call p s tol w iw) (Refused Width) w w iw iw
+      pub width-refused : are_kinds p.kinds ≡ true → are_widths p.kinds p.widths p.m ≡ false → Checks (check_call p s tol w iw) (Err Width) w w iw iw
       width-refused g h = rw (e, both a b, c, f, g, h) (record { the_outcome = refl; the_floats = refl; the_words = refl })
 
-      pub tolerance-refused : are_kinds p.kinds ≡ true → are_widths p.kinds p.widths p.m ≡ true → is_tolerance tol ≡ false → Checks (check_call p s tol w iw) (Refused Tolerance) w w iw iw
+      pub tolerance-refused : are_kinds p.kinds ≡ true → are_widths p.kinds p.widths p.m ≡ true → is_tolerance tol ≡ false → Checks (check_call p s tol w iw) (Err Tolerance) w w iw iw
       tolerance-refused g h i = rw (e, both a b, c, f, g, h, i) (record { the_outcome = refl; the_floats = refl; the_words = refl })
 
       pub all-passed : are_kinds p.kinds ≡ true → are_widths p.kinds p.widths p.m ≡ true → is_tolerance tol ≡ true → (o : Outcome) (w' : List Float) (iw' : List ℕ)

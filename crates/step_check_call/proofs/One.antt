@@ -1,6 +1,5 @@
 -- The promise allows one answer only.
 use mathlib.Core.Path.{sym, ◌∙◌}
-use Rattle.step_check_call.specs.Promise.{Checks}
 use Rattle.step_check_call.specs.Claims.{OneAnswer}
 
 pub one_answer : OneAnswer

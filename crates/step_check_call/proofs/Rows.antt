@@ -1,37 +1,30 @@
--- Yes is five, by constraint and side; with a NaN no call says it, and the multipliers of open sides do not matter.
+-- yes is five, by constraint and side; with a NaN no call says it, and the multipliers of open sides do not matter.
 use mathlib.Core.Path.{◌≡◌, refl, sym, ap, subst, ◌∙◌}
 use mathlib.Core.Bool.{Bool, true, false, ◌&&◌, true≢false}
 use mathlib.Core.List.{List, [], ◌∷◌, ◌++◌}
-use mathlib.Core.Logic.{◌↔◌, ⊎_elim}
-use Prim.Native.Nat.{ℕ, zero, suc, ◌+◌, ◌-◌, ◌<◌, ◌≤◌}
+use mathlib.Core.Logic.{⊎_elim}
+use Prim.Native.Nat.{ℕ, zero, suc, ◌+◌, ◌-◌, ◌<◌}
 use native.Mathlib.Omega.{arith}
 use lib.Dec.{leb}
-use lib.ListN.{length}
-use lib.Ieee.{Float, nan, inf, fin, binary64, add, sub, mul, neg, lt, le, eq}
+use lib.Ieee.{Float, nan, inf, fin, add, sub, mul, neg, lt, le, eq}
 use borrow.Author.Tests.{leb-true}
 use Rattle.numbers.specs.Numbers.{+0, ◌⊕◌, ◌⊖◌, ◌⊗◌, Σ, at, entry}
 use Rattle.numbers.proofs.Cases.{last-or-before}
-use Rattle.workspace.specs.Tables.{Answer, done, call, test, is_dimension, is_constraints, is_room, is_tolerance, has}
+use Rattle.workspace.specs.Tables.{done, call, test, is_dimension, is_constraints, is_room, is_tolerance}
 use Rattle.workspace.specs.declared.Refusal.{Refusal}
 use Rattle.workspace.specs.declared.Refusal.TheVariants.{Width, Tolerance}
 use Rattle.workspace.proofs.Tests.{and-true}
 use Rattle.step_rows.specs.Problem.{Problem, constraint_at, side_of, each}
-use Rattle.step_rows.specs.declared.Side.{Side}
-use Rattle.step_rows.specs.declared.Side.TheVariants.{Open, At}
+use Rattle.std.specs.Prelude.{Option, None, Some, Ok, Err}
 use Rattle.step_rows.specs.declared.Constraint.{Constraint}
 use Rattle.step_rows.specs.declared.Constraint.TheVariants.{Equality, Floor, Band}
-use Rattle.step_call.specs.Promise.{are_kinds, are_widths, are_lengths}
-use Rattle.step_check.specs.Check.{Pasted, halfway, curved, terms, less_lower, plus_upper, slope, Margin, margin_of, value_at, ceiling_at, positive, negative, equality_row, floor_rows, lower_row, upper_row, slopes, equalities, inequalities, within, first_failed, ◌or_else◌, verdict}
-use Rattle.step_check.specs.Claims.{All, Stationary, Five}
-use Rattle.step_check.specs.declared.Test.TheVariants.{Stationarity, Residual, Violation, Sign, Product}
+use Rattle.step_call.specs.Promise.{are_kinds, are_widths}
+use Rattle.step_check.specs.Check.{Pasted, halfway, curved, terms, less_lower, plus_upper, slope, Margin, margin_of, equality_row, floor_rows, lower_row, upper_row, slopes, equalities, inequalities, within, Verdict, yes, verdict}
+use Rattle.step_check.specs.Claims.{All, Five}
 use Rattle.step_check.specs.declared.Part.TheVariants as part
-use Rattle.step_check.specs.declared.Verdict.{Verdict}
-use Rattle.step_check.specs.declared.Verdict.TheVariants.{Yes}
 use Rattle.step_check.proofs.Shown.{yes-is-five}
-use Rattle.step_check_call.specs.Promise.{are_pasted, check_call, outcome_of, Checks}
-use Rattle.step_check_call.specs.Claims.{Passes, ConstraintPasses, LowerPasses, UpperPasses, Plausible, CallYesIsFive, NoneNan, NanFails, SameClosed, OpenIgnored}
-use Rattle.step_check_call.specs.declared.Outcome.{Outcome}
-use Rattle.step_check_call.specs.declared.Outcome.TheVariants.{Done, Refused}
+use Rattle.step_check_call.specs.Promise.{are_pasted, Outcome, outcome_of}
+use Rattle.step_check_call.specs.Claims.{ConstraintPasses, LowerPasses, UpperPasses, Plausible, CallYesIsFive, NoneNan, NanFails, SameClosed, OpenIgnored}
 use Rattle.step_check_call.proofs.Called.{the_verdict}
 
 -- ---- rows of a list
@@ -106,21 +99,21 @@ module _ (p : Problem) (s : Pasted) (tol : Float) where
     (h.0.product, (h.1.product, tt)),
   )
 
-  to-lower : (b : Side) (i : ℕ) → All Above (lower_row b s.d s.lowers i) → All Signed (lower_row b s.d s.lowers i) → All Small (lower_row b s.d s.lowers i) → LowerPasses b tol (at s.lowers i) (at s.d i)
-  to-lower Open i v g c = tt
-  to-lower (At bound) i v g c = record { not_violated = v.0; sign = g.0; product = c.0 }
+  to-lower : (b : Option Float) (i : ℕ) → All Above (lower_row b s.d s.lowers i) → All Signed (lower_row b s.d s.lowers i) → All Small (lower_row b s.d s.lowers i) → LowerPasses b tol (at s.lowers i) (at s.d i)
+  to-lower None i v g c = tt
+  to-lower (Some bound) i v g c = record { not_violated = v.0; sign = g.0; product = c.0 }
 
-  of-lower : (b : Side) (i : ℕ) → LowerPasses b tol (at s.lowers i) (at s.d i) → All Above (lower_row b s.d s.lowers i) × All Signed (lower_row b s.d s.lowers i) × All Small (lower_row b s.d s.lowers i)
-  of-lower Open i h = (tt, tt, tt)
-  of-lower (At bound) i h = ((h.not_violated, tt), (h.sign, tt), (h.product, tt))
+  of-lower : (b : Option Float) (i : ℕ) → LowerPasses b tol (at s.lowers i) (at s.d i) → All Above (lower_row b s.d s.lowers i) × All Signed (lower_row b s.d s.lowers i) × All Small (lower_row b s.d s.lowers i)
+  of-lower None i h = (tt, tt, tt)
+  of-lower (Some bound) i h = ((h.not_violated, tt), (h.sign, tt), (h.product, tt))
 
-  to-upper : (b : Side) (i : ℕ) → All Above (upper_row b s.d s.uppers i) → All Signed (upper_row b s.d s.uppers i) → All Small (upper_row b s.d s.uppers i) → UpperPasses b tol (at s.uppers i) (at s.d i)
-  to-upper Open i v g c = tt
-  to-upper (At bound) i v g c = record { not_violated = v.0; sign = g.0; product = c.0 }
+  to-upper : (b : Option Float) (i : ℕ) → All Above (upper_row b s.d s.uppers i) → All Signed (upper_row b s.d s.uppers i) → All Small (upper_row b s.d s.uppers i) → UpperPasses b tol (at s.uppers i) (at s.d i)
+  to-upper None i v g c = tt
+  to-upper (Some bound) i v g c = record { not_violated = v.0; sign = g.0; product = c.0 }
 
-  of-upper : (b : Side) (i : ℕ) → UpperPasses b tol (at s.uppers i) (at s.d i) → All Above (upper_row b s.d s.uppers i) × All Signed (upper_row b s.d s.uppers i) × All Small (upper_row b s.d s.uppers i)
-  of-upper Open i h = (tt, tt, tt)
-  of-upper (At bound) i h = ((h.not_violated, tt), (h.sign, tt), (h.product, tt))
+  of-upper : (b : Option Float) (i : ℕ) → UpperPasses b tol (at s.uppers i) (at s.d i) → All Above (upper_row b s.d s.uppers i) × All Signed (upper_row b s.d s.uppers i) × All Small (upper_row b s.d s.uppers i)
+  of-upper None i h = (tt, tt, tt)
+  of-upper (Some bound) i h = ((h.not_violated, tt), (h.sign, tt), (h.product, tt))
 
   -- all inequalities, and one after the other
   spread : (P : Margin → Type 0) → All P (inequalities p s) → ((j : ℕ) → j < p.m → All P (floors j)) × ((i : ℕ) → i < p.n → All P (low i) × All P (up i))
@@ -217,13 +210,13 @@ nan-sign : le +0 nan ≡ false
 unfolding le lt eq
 nan-sign = refl
 
-lower-nan : (b : Side) (l v : Float) → v ≡ nan → less_lower b l v ≡ nan
-lower-nan Open l v e = e
-lower-nan (At bound) l v e = rw e (nan-sub l)
+lower-nan : (b : Option Float) (l v : Float) → v ≡ nan → less_lower b l v ≡ nan
+lower-nan None l v e = e
+lower-nan (Some bound) l v e = rw e (nan-sub l)
 
-upper-nan : (b : Side) (l v : Float) → v ≡ nan → plus_upper b l v ≡ nan
-upper-nan Open l v e = e
-upper-nan (At bound) l v e = rw e (nan-add l)
+upper-nan : (b : Option Float) (l v : Float) → v ≡ nan → plus_upper b l v ≡ nan
+upper-nan None l v e = e
+upper-nan (Some bound) l v e = rw e (nan-add l)
 
 module _ (p : Problem) (s : Pasted) where
   abbrev slope_at : ℕ → Float
@@ -255,26 +248,26 @@ module _ (p : Problem) (s : Pasted) where
   none-nan tol n h = record {
     steps = λ i l e. never-within tol (slope_at i) (slope-nan i (rw (curved-nan i l e, nan-add (at p.gradient i)) (nan-sub (terms p.n p.m p.jacobian s.multipliers i)))) (h.stationary i l);
     multipliers = λ j l e. never-within tol (slope_at 0) (slope-nan 0 (rw (terms-nan 0 j l e) (sub-nan (curved p.n p.factor s.d 0 ⊕ at p.gradient 0)))) (h.stationary 0 n);
-    lowers = λ i l bound b e. never-sign (at s.lowers i) e (subst (λ (x : Side). LowerPasses x tol (at s.lowers i) (at s.d i)) b (h.lowers i l)).sign;
-    uppers = λ i l bound b e. never-sign (at s.uppers i) e (subst (λ (x : Side). UpperPasses x tol (at s.uppers i) (at s.d i)) b (h.uppers i l)).sign;
+    lowers = λ i l bound b e. never-sign (at s.lowers i) e (subst (λ (x : Option Float). LowerPasses x tol (at s.lowers i) (at s.d i)) b (h.lowers i l)).sign;
+    uppers = λ i l bound b e. never-sign (at s.uppers i) e (subst (λ (x : Option Float). UpperPasses x tol (at s.uppers i) (at s.d i)) b (h.uppers i l)).sign;
   }
 
 -- a done call has at least one variable
-sized : (n m : ℕ) (l r k x t : Bool) (u v : Verdict) → Done v ≡ outcome_of (call (is_dimension n && is_constraints m) l r k (test x Width (test t Tolerance (done u)))) → 0 < n
+sized : (n m : ℕ) (l r k x t : Bool) (u v : Verdict) → Ok v ≡ outcome_of (call (is_dimension n && is_constraints m) l r k (test x Width (test t Tolerance (done u)))) → 0 < n
 sized n m l r k x t u v e = go (is_dimension n && is_constraints m) refl e
   where
-    never : {A : Type 0} (r : Refusal) → Done v ≡ Refused r → A
-    never r e = let z : ◌≡◌ {A = ℕ} 0 1 = cc in absurd (let y : ⊥ = omega (arith, z) in y)
+    never : {A : Type 0} (r : Refusal) → ◌≡◌ {A = Outcome} (Ok v) (Err r) → A
+    never r e = absurd (let y : ⊥ = cc in y)
 
-    go : (b : Bool) → (is_dimension n && is_constraints m) ≡ b → Done v ≡ outcome_of (call b l r k (test x Width (test t Tolerance (done u)))) → 0 < n
+    go : (b : Bool) → (is_dimension n && is_constraints m) ≡ b → Ok v ≡ outcome_of (call b l r k (test x Width (test t Tolerance (done u)))) → 0 < n
     go true h e = let a = and-true (leb 1 n) (leb n 16) (and-true (is_dimension n) (is_constraints m) h).0 in leb-true 1 n a.0
     go false h e = never _ e
 
 pub nan-fails : NanFails
 nan-fails p s tol w w' iw iw' c =
     none-nan p s tol
-    (sized p.n p.m (are_pasted p s) (is_room w iw) (are_kinds p.kinds) (are_widths p.kinds p.widths p.m) (is_tolerance tol) (verdict p s tol) Yes c.the_outcome)
-    ((call-yes-is-five p s tol Yes w w' iw iw' c).0 refl)
+    (sized p.n p.m (are_pasted p s) (is_room w iw) (are_kinds p.kinds) (are_widths p.kinds p.widths p.m) (is_tolerance tol) (verdict p s tol) yes c.the_outcome)
+    ((call-yes-is-five p s tol yes w w' iw iw' c).0 refl)
 
 -- ---- open sides
 
@@ -284,25 +277,25 @@ each_same zero f g h = refl
 each_same (suc n) f g h = rw (h zero (omega arith), each_same n (λ i. f (suc i)) (λ i. g (suc i)) (λ i l. h (suc i) (omega arith)))
 
 -- one side, open or with the same multiplier
-same-less : (b : Side) (l l' v : Float) → ((bound : Float) → b ≡ At bound → l ≡ l') → less_lower b l v ≡ less_lower b l' v
-same-less Open l l' v h = refl
-same-less (At bound) l l' v h = ap (λ (x : Float). v ⊖ x) (h bound refl)
+same-less : (b : Option Float) (l l' v : Float) → ((bound : Float) → b ≡ Some bound → l ≡ l') → less_lower b l v ≡ less_lower b l' v
+same-less None l l' v h = refl
+same-less (Some bound) l l' v h = ap (λ (x : Float). v ⊖ x) (h bound refl)
 
-same-plus : (b : Side) (l l' v : Float) → ((bound : Float) → b ≡ At bound → l ≡ l') → plus_upper b l v ≡ plus_upper b l' v
-same-plus Open l l' v h = refl
-same-plus (At bound) l l' v h = ap (λ (x : Float). v ⊕ x) (h bound refl)
+same-plus : (b : Option Float) (l l' v : Float) → ((bound : Float) → b ≡ Some bound → l ≡ l') → plus_upper b l v ≡ plus_upper b l' v
+same-plus None l l' v h = refl
+same-plus (Some bound) l l' v h = ap (λ (x : Float). v ⊕ x) (h bound refl)
 
-same_low : (b : Side) (d l l' : List Float) (i : ℕ) → ((bound : Float) → b ≡ At bound → at l i ≡ at l' i) → lower_row b d l i ≡ lower_row b d l' i
-same_low Open d l l' i h = refl
-same_low (At bound) d l l' i h = ap (λ (x : Float). margin_of part.Lower i x (at d i ⊖ bound) ∷ []) (h bound refl)
+same_low : (b : Option Float) (d l l' : List Float) (i : ℕ) → ((bound : Float) → b ≡ Some bound → at l i ≡ at l' i) → lower_row b d l i ≡ lower_row b d l' i
+same_low None d l l' i h = refl
+same_low (Some bound) d l l' i h = ap (λ (x : Float). margin_of part.Lower i x (at d i ⊖ bound) ∷ []) (h bound refl)
 
-same_up : (b : Side) (d l l' : List Float) (i : ℕ) → ((bound : Float) → b ≡ At bound → at l i ≡ at l' i) → upper_row b d l i ≡ upper_row b d l' i
-same_up Open d l l' i h = refl
-same_up (At bound) d l l' i h = ap (λ (x : Float). margin_of part.Upper i x (bound ⊖ at d i) ∷ []) (h bound refl)
+same_up : (b : Option Float) (d l l' : List Float) (i : ℕ) → ((bound : Float) → b ≡ Some bound → at l i ≡ at l' i) → upper_row b d l i ≡ upper_row b d l' i
+same_up None d l l' i h = refl
+same_up (Some bound) d l l' i h = ap (λ (x : Float). margin_of part.Upper i x (bound ⊖ at d i) ∷ []) (h bound refl)
 
 module _ (p : Problem) (d multipliers lowers uppers lowers' uppers' : List Float)
-    (low : (i : ℕ) → i < p.n → (bound : Float) → side_of (at p.lower i) ≡ At bound → at lowers i ≡ at lowers' i)
-    (up : (i : ℕ) → i < p.n → (bound : Float) → side_of (at p.upper i) ≡ At bound → at uppers i ≡ at uppers' i) where
+    (low : (i : ℕ) → i < p.n → (bound : Float) → side_of (at p.lower i) ≡ Some bound → at lowers i ≡ at lowers' i)
+    (up : (i : ℕ) → i < p.n → (bound : Float) → side_of (at p.upper i) ≡ Some bound → at uppers i ≡ at uppers' i) where
   abbrev one : Pasted
   one = record { d = d; multipliers = multipliers; lowers = lowers; uppers = uppers }
 

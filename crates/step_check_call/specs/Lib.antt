@@ -1,4 +1,3 @@
 -- What the public check promises, and what is shown of it. Definitions only.
 pub mod Promise
 pub mod Claims
-pub mod inner

@@ -1,13 +1,11 @@
 -- What a call of the public check answers and leaves. Definitions only.
-use Rattle.std.specs.Prelude.{ℕ, ◌≡◌, Bool, ◌&&◌, List, Float}
+use Rattle.std.specs.Prelude.{ℕ, ◌≡◌, Bool, ◌&&◌, List, Float, Result, Ok, Err}
+use Rattle.workspace.specs.declared.Refusal.{Refusal}
 use Rattle.workspace.specs.declared.Refusal.TheVariants.{Width, Tolerance}
 use Rattle.workspace.specs.Tables.{Answer, done, refused, call, test, floats, words, is_dimension, is_constraints, is_room, is_tolerance, has}
 use Rattle.step_rows.specs.Problem.{Problem}
 use Rattle.step_call.specs.Promise.{are_kinds, are_widths, are_lengths}
-use Rattle.step_check.specs.Check.{Pasted, verdict}
-use Rattle.step_check.specs.declared.Verdict.{Verdict}
-use Rattle.step_check_call.specs.declared.Outcome.{Outcome}
-use Rattle.step_check_call.specs.declared.Outcome.TheVariants.{Done, Refused}
+use Rattle.step_check.specs.Check.{Pasted, Verdict, verdict}
 
 -- those of the step, d and multipliers among them, and of the multipliers of both sides
 abbrev pub are_pasted : Problem → Pasted → Bool
@@ -20,9 +18,12 @@ check_call p s tol w iw =
     (test (are_widths p.kinds p.widths p.m) Width (test (is_tolerance tol) Tolerance (done (verdict p s tol))))
 
 -- what it tells: where it is done, the verdict
+abbrev pub Outcome : Type 0
+Outcome = Result Verdict Refusal
+
 abbrev pub outcome_of : Answer Verdict → Outcome
-outcome_of (done v) = Done v
-outcome_of (refused r) = Refused r
+outcome_of (done v) = Ok v
+outcome_of (refused r) = Err r
 
 -- From its answer c: the outcome o, and what the workspaces hold before and, primed, afterwards.
 pub record Checks (c : Answer Verdict) (o : Outcome) (w w' : List Float) (iw iw' : List ℕ) : Type 0 where

@@ -1,12 +1,12 @@
 -- How many rows the kinds of constraints become.
-use mathlib.Core.Path.{◌≡◌, refl, ap, ◌∙◌, subst}
-use mathlib.Core.List.{List, [], ◌∷◌, ◌++◌}
-use Prim.Native.Nat.{ℕ, zero, suc, ◌+◌, ◌≤◌}
+use mathlib.Core.Path.{◌≡◌, refl, subst}
+use mathlib.Core.List.{List, [], ◌∷◌}
+use Prim.Native.Nat.{ℕ, zero, suc, ◌≤◌}
 use native.Mathlib.Omega.{arith}
 use lib.ListN.{length, length-append}
 use lib.Ieee.{Float}
 use Rattle.numbers.specs.Numbers.{at, nth, row}
-use Rattle.step_rows.specs.Problem.{Problem, Row, constraint_of, constraint_at, each, bound_rows, equation_of, floors_of, equality_rows, inequality_rows, opposed_rows, loosened_row, relaxed_of, delta_rows, relaxed_rows}
+use Rattle.step_rows.specs.Problem.{Problem, Row, constraint_of, constraint_at, each, equation_of, floors_of, equality_rows, inequality_rows, opposed_rows, relaxed_of, relaxed_rows}
 use Rattle.step_rows.specs.inner.Work.{equalities_among, floors_among, relaxed_among}
 
 -- ---- the exact problem

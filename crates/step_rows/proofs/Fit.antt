@@ -1,13 +1,11 @@
 -- The solvers take all rows.
-use mathlib.Core.Path.{◌≡◌, refl}
-use mathlib.Core.List.{List, [], ◌∷◌, ◌++◌}
+use mathlib.Core.List.{List, ◌++◌}
 use Prim.Native.Nat.{ℕ, zero, suc, ◌+◌, ◌*◌, ◌≤◌}
 use native.Mathlib.Omega.{arith}
 use lib.ListN.{length, length-append}
 use lib.Ieee.{Float}
 use Rattle.numbers.specs.Numbers.{at, row}
-use Rattle.step_rows.specs.declared.Side.{Side}
-use Rattle.step_rows.specs.declared.Side.TheVariants.{Open, At}
+use Rattle.std.specs.Prelude.{Option, None, Some}
 use Rattle.step_rows.specs.declared.Constraint.{Constraint}
 use Rattle.step_rows.specs.declared.Constraint.TheVariants.{Equality, Floor, Band}
 use Rattle.step_rows.specs.Problem.{Problem, Row, constraint_at, each, side_of, lower_row, upper_row, bound_rows, floors_of, inequality_rows, opposed_rows, relaxed_of, delta_rows, relaxed_rows}
@@ -30,11 +28,11 @@ relaxed-most Equality a v = omega arith
 relaxed-most Floor a v = omega arith
 relaxed-most (Band w) a v = omega arith
 
-sides-most : (cols i : ℕ) (s t : Side) → length (lower_row cols i s ++ upper_row cols i t) ≤ 2
-sides-most cols i Open Open = omega arith
-sides-most cols i Open (At v) = omega arith
-sides-most cols i (At u) Open = omega arith
-sides-most cols i (At u) (At v) = omega arith
+sides-most : (cols i : ℕ) (s t : Option Float) → length (lower_row cols i s ++ upper_row cols i t) ≤ 2
+sides-most cols i None None = omega arith
+sides-most cols i None (Some v) = omega arith
+sides-most cols i (Some u) None = omega arith
+sides-most cols i (Some u) (Some v) = omega arith
 
 bounds-most : (cols : ℕ) (p : Problem) → length (bound_rows cols p) ≤ 2 * p.n
 unfolding bound_rows

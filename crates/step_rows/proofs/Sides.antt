@@ -3,7 +3,7 @@ use mathlib.Core.Path.{◌≡◌, refl, sym}
 use mathlib.Core.Bool.{true, false, true≢false}
 use lib.Ieee.{Float, nan, inf, fin, binary64, of_bits, neg, div, lt}
 use Rattle.step_rows.specs.Problem.{side_of}
-use Rattle.step_rows.specs.declared.Side.TheVariants.{Open, At}
+use Rattle.std.specs.Prelude.{None, Some}
 
 abbrev above : Float
 above = div binary64 (of_bits binary64 0x3ff0_0000_0000_0000) (of_bits binary64 0)
@@ -11,20 +11,20 @@ above = div binary64 (of_bits binary64 0x3ff0_0000_0000_0000) (of_bits binary64 
 abbrev below : Float
 below = div binary64 (neg (of_bits binary64 0x3ff0_0000_0000_0000)) (of_bits binary64 0)
 
-pub closed : (x : Float) → lt x above ≡ true → lt below x ≡ true → At x ≡ side_of x
+pub closed : (x : Float) → lt x above ≡ true → lt below x ≡ true → Some x ≡ side_of x
 unfolding lt div neg of_bits
 closed nan h l = absurd (true≢false (sym h))
 closed (inf true) h l = absurd (true≢false (sym l))
 closed (inf false) h l = absurd (true≢false (sym h))
 closed (fin s m e) h l = refl
 
-pub open_above : (x : Float) → lt x above ≡ false → Open ≡ side_of x
+pub open_above : (x : Float) → lt x above ≡ false → None ≡ side_of x
 unfolding lt div neg of_bits
 open_above nan h = refl
 open_above (inf s) h = refl
 open_above (fin s m e) h = absurd (true≢false h)
 
-pub open-below : (x : Float) → lt below x ≡ false → Open ≡ side_of x
+pub open-below : (x : Float) → lt below x ≡ false → None ≡ side_of x
 unfolding lt div neg of_bits
 open-below nan h = refl
 open-below (inf s) h = refl

@@ -1,5 +1,5 @@
 -- What is shown of the rows: the solvers take them all. Definitions only.
-use Rattle.std.specs.Prelude.{ℕ, ◌+◌, ◌*◌, ◌≤◌, length}
+use Rattle.std.specs.Prelude.{◌+◌, ◌*◌, ◌≤◌, length}
 use Rattle.step_rows.specs.Problem.{Problem, inequality_rows, relaxed_rows}
 
 -- two rows at most of each constraint and of each variable, and two of delta: of 16 and 16 that is 64 exact and 66 relaxed ones

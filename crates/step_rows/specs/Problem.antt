@@ -1,10 +1,8 @@
 -- The subproblem's data, and the rows that its constraints and bounds become (docs/RULES.md, "The step"; Kraft 1988). Definitions only.
-use Rattle.std.specs.Prelude.{ℕ, zero, suc, ◌+◌, cond, List, [], ◌∷◌, ◌++◌, map, eqb, Float}
+use Rattle.std.specs.Prelude.{Option, None, Some, ℕ, zero, suc, ◌+◌, cond, List, [], ◌∷◌, ◌++◌, map, eqb, Float}
 use Rattle.std.specs.Float.{nan, inf, fin}
 use Rattle.std.specs.Float.Ieee.{lt, neg}
 use Rattle.numbers.specs.Numbers.{+0, one, ◌⊖◌, at, nth, tab, row}
-use Rattle.step_rows.specs.declared.Side.{Side}
-use Rattle.step_rows.specs.declared.Side.TheVariants.{Open, At}
 use Rattle.step_rows.specs.declared.Constraint.{Constraint}
 use Rattle.step_rows.specs.declared.Constraint.TheVariants.{Equality, Floor, Band}
 
@@ -80,19 +78,19 @@ unit n i v = tab n (λ j. cond (eqb j i) v +0)
 -- ---- bounds
 
 -- a side is open, or closed at a number: any nonfinite bound is open
-abbrev pub side_of : Float → Side
-side_of nan = Open
-side_of (inf s) = Open
-side_of (fin s m e) = At (fin s m e)
+abbrev pub side_of : Float → Option Float
+side_of nan = None
+side_of (inf s) = None
+side_of (fin s m e) = Some (fin s m e)
 
 -- d_i >= lower_i, and -d_i >= -upper_i
-abbrev pub lower_row : ℕ → ℕ → Side → List Row
-lower_row cols i Open = []
-lower_row cols i (At v) = row_of (unit cols i one) v ∷ []
+abbrev pub lower_row : ℕ → ℕ → Option Float → List Row
+lower_row cols i None = []
+lower_row cols i (Some v) = row_of (unit cols i one) v ∷ []
 
-abbrev pub upper_row : ℕ → ℕ → Side → List Row
-upper_row cols i Open = []
-upper_row cols i (At v) = row_of (unit cols i (neg one)) (neg v) ∷ []
+abbrev pub upper_row : ℕ → ℕ → Option Float → List Row
+upper_row cols i None = []
+upper_row cols i (Some v) = row_of (unit cols i (neg one)) (neg v) ∷ []
 
 -- per variable lower, upper
 unfoldable pub bound_rows : ℕ → Problem → List Row

@@ -4,33 +4,28 @@
 #![tactic(auto)]
 
 mod relaxed;
+mod subproblem;
 
 ghost use Rattle.std.specs.Prelude.{◌≡◌, cond, [], ◌∷◌, ◌++◌, map, ℕ, ◌+◌, ◌*◌, ◌≤◌, ◌<◌, eqb, length};
 ghost use Rattle.std.specs.Float.Ieee.{neg};
-ghost use Rattle.numbers.specs.Numbers.{+0, ◌⊖◌, at, nth, row};
+ghost use Rattle.numbers.specs.Numbers.{+0, ◌⊖◌, at, row};
 ghost use Rattle.workspace.specs.Readings.{Block};
-ghost use Rattle.step_rows.specs.Problem.{problem_of, constraint_of, row_of, unit, side_of, lower_row, upper_row, each, equation_of, floors_of, delta_rows, inequality_rows, relaxed_rows};
-ghost use Rattle.step_rows.specs.inner.Work.{Pushed, Lengths};
+ghost use Rattle.step_rows.specs.Problem.{constraint_of, constraint_at, row_of, unit, side_of, lower_row, upper_row, each, bound_rows, equation_of, equality_rows, floors_of, delta_rows, inequality_rows, relaxed_rows};
+ghost use Rattle.step_rows.specs.Lent.{problem_in};
+ghost use Rattle.step_rows.specs.inner.Work.{Pushed};
 
-// A side of a step's bounds: open, or closed at a number.
-#[derive(Clone, Copy)]
-pub enum Side {
-    Open,
-    At(f64),
-}
+pub use crate::subproblem::Subproblem;
 
-impl Side {
-    // The side of a raw bound: any nonfinite one is open.
-    pub fn of(bound: f64) -> Self
-        ensures { result ≡ side_of bound }
-    {
-        if bound < 1.0 / 0.0 {
-            if -1.0 / 0.0 < bound {
-                return Side::At(bound);
-            }
+// The side of a raw bound: closed at a number, or open, as is any nonfinite one.
+pub fn side_of(bound: f64) -> Option<f64>
+    ensures { result ≡ side_of bound }
+{
+    if bound < 1.0 / 0.0 {
+        if -1.0 / 0.0 < bound {
+            return Some(bound);
         }
-        Side::Open
     }
+    None
 }
 
 // A constraint: an equality, a floor, or a band that carries its width.
@@ -46,13 +41,21 @@ impl Constraint {
     pub fn of(kind: u8, width: f64) -> Self
         ensures { result ≡ constraint_of kind width }
     {
-        if kind == 0 {
-            return Constraint::Equality;
+        match kind {
+            0 => Constraint::Equality,
+            1 => Constraint::Floor,
+            _ => Constraint::Band(width),
         }
-        if kind == 1 {
-            return Constraint::Floor;
-        }
-        Constraint::Band(width)
+    }
+}
+
+impl Subproblem<'_> {
+    // Constraint j.
+    pub fn constraint(&self, j: usize) -> Constraint
+        requires { j < self.now.m }
+        ensures { result ≡ constraint_at (problem_in self.now) j }
+    {
+        Constraint::of(self.kinds[j], self.widths[j])
     }
 }
 
@@ -141,13 +144,13 @@ fn push_wide_negated(
 // ---- bounds: how many rows there are afterwards
 
 // d_i >= lower_i, where that side is closed.
-fn push_lower(side: Side, w: &mut [f64], o: usize, k: usize, n: usize, i: usize) -> usize
+fn push_lower(side: Option<f64>, w: &mut [f64], o: usize, k: usize, n: usize, i: usize) -> usize
     requires { (i < n) × (n ≤ 17) × (o + k * 18 + 18 ≤ length w.old) }
     ensures { (result ≤ k + 1) × Pushed o n k result (lower_row n i side) w.old w.new }
 {
     match side {
-        Side::Open => k,
-        Side::At(v) => {
+        None => k,
+        Some(v) => {
             push_unit(w, o, k, n, i, 1.0, v);
             k + 1
         }
@@ -155,13 +158,13 @@ fn push_lower(side: Side, w: &mut [f64], o: usize, k: usize, n: usize, i: usize)
 }
 
 // -d_i >= -upper_i, where that side is closed.
-fn push_upper(side: Side, w: &mut [f64], o: usize, k: usize, n: usize, i: usize) -> usize
+fn push_upper(side: Option<f64>, w: &mut [f64], o: usize, k: usize, n: usize, i: usize) -> usize
     requires { (i < n) × (n ≤ 17) × (o + k * 18 + 18 ≤ length w.old) }
     ensures { (result ≤ k + 1) × Pushed o n k result (upper_row n i side) w.old w.new }
 {
     match side {
-        Side::Open => k,
-        Side::At(v) => {
+        None => k,
+        Some(v) => {
             push_unit(w, o, k, n, i, -1.0, -v);
             k + 1
         }
@@ -181,26 +184,18 @@ fn push_bound(
     requires { (i < n) × (n ≤ 17) × (o + k * 18 + 36 ≤ length w.old) }
     ensures { (result ≤ k + 2) × Pushed o n k result (lower_row n i (side_of lower) ++ upper_row n i (side_of upper)) w.old w.new }
 {
-    let c = push_lower(Side::of(lower), w, o, k, n, i);
-    push_upper(Side::of(upper), w, o, c, n, i)
+    let c = push_lower(side_of(lower), w, o, k, n, i);
+    push_upper(side_of(upper), w, o, c, n, i)
 }
 
-// The bounds of the first m variables, in rows of n coefficients.
-fn push_bounds(
-    lower: &[f64],
-    upper: &[f64],
-    w: &mut [f64],
-    o: usize,
-    k: usize,
-    n: usize,
-    m: usize,
-) -> usize
-    requires { (m ≤ n) × (n ≤ 17) × (length lower.now ≡ m) × (length upper.now ≡ m) × (o + k * 18 + m * 36 ≤ length w.old) }
-    ensures { (result ≤ k + 2 * m) × Pushed o n k result (each m (λ i. lower_row n i (side_of (at lower.now i)) ++ upper_row n i (side_of (at upper.now i)))) w.old w.new }
+// The bounds of all variables, in rows of `columns` coefficients.
+fn push_bounds(p: &Subproblem, w: &mut [f64], o: usize, k: usize, columns: usize) -> usize
+    requires { (p.now.n ≤ columns) × (columns ≤ 17) × (o + k * 18 + p.now.n * 36 ≤ length w.old) }
+    ensures { (result ≤ k + 2 * p.now.n) × Pushed o columns k result (bound_rows columns (problem_in p.now)) w.old w.new }
 {
     let mut c = k;
-    for i in 0..m {
-        c = push_bound(lower[i], upper[i], w, o, c, n, i);
+    for i in 0..p.n {
+        c = push_bound(p.lower[i], p.upper[i], w, o, c, columns, i);
     }
     c
 }
@@ -231,24 +226,15 @@ fn push_equation(
     }
 }
 
-// The equalities of m constraints.
-pub fn push_equalities(
-    kinds: &[u8],
-    values: &[f64],
-    widths: &[f64],
-    jacobian: &[f64],
-    w: &mut [f64],
-    o: usize,
-    n: usize,
-    m: usize,
-) -> usize
-    requires { (n ≤ 17) × (length kinds.now ≡ m) × (length values.now ≡ m) × (length widths.now ≡ m) × (length jacobian.now ≡ m * n) × (o + m * 18 ≤ length w.old) }
-    ensures { (result ≤ m) × Pushed o n 0 result (each m (λ j. equation_of (constraint_of (nth kinds.now j) (at widths.now j)) (row n j jacobian.now) (at values.now j))) w.old w.new }
+// The equalities.
+pub fn push_equalities(p: &Subproblem, w: &mut [f64], o: usize) -> usize
+    requires { o + p.now.m * 18 ≤ length w.old }
+    ensures { (result ≤ p.now.m) × Pushed o p.now.n 0 result (equality_rows (problem_in p.now)) w.old w.new }
 {
     let mut k = 0;
-    for j in 0..m {
-        let constraint = Constraint::of(kinds[j], widths[j]);
-        k = push_equation(constraint, jacobian, w, o, k, n, j, values[j]);
+    for j in 0..p.m {
+        let constraint = p.constraint(j);
+        k = push_equation(constraint, p.jacobian, w, o, k, p.n, j, p.values[j]);
     }
     k
 }
@@ -289,46 +275,26 @@ fn push_floor(
     }
 }
 
-// The floors and bands of m constraints.
-fn push_floors(
-    kinds: &[u8],
-    values: &[f64],
-    widths: &[f64],
-    jacobian: &[f64],
-    w: &mut [f64],
-    o: usize,
-    n: usize,
-    m: usize,
-) -> usize
-    requires { (n ≤ 17) × (length kinds.now ≡ m) × (length values.now ≡ m) × (length widths.now ≡ m) × (length jacobian.now ≡ m * n) × (o + m * 36 ≤ length w.old) }
-    ensures { (result ≤ 2 * m) × Pushed o n 0 result (each m (λ j. floors_of (constraint_of (nth kinds.now j) (at widths.now j)) (row n j jacobian.now) (at values.now j))) w.old w.new }
+// The floors and bands.
+fn push_floors(p: &Subproblem, w: &mut [f64], o: usize) -> usize
+    requires { o + p.now.m * 36 ≤ length w.old }
+    ensures { (result ≤ 2 * p.now.m) × Pushed o p.now.n 0 result (each p.now.m (λ j. floors_of (constraint_at (problem_in p.now) j) (row p.now.n j p.now.jacobian.now) (at p.now.values.now j))) w.old w.new }
 {
     let mut k = 0;
-    for j in 0..m {
-        let constraint = Constraint::of(kinds[j], widths[j]);
-        k = push_floor(constraint, jacobian, w, o, k, n, j, values[j]);
+    for j in 0..p.m {
+        let constraint = p.constraint(j);
+        k = push_floor(constraint, p.jacobian, w, o, k, p.n, j, p.values[j]);
     }
     k
 }
 
 // The inequalities of the exact problem: constraints, and then per variable lower, upper.
-pub fn push_inequalities(
-    kinds: &[u8],
-    values: &[f64],
-    widths: &[f64],
-    jacobian: &[f64],
-    lower: &[f64],
-    upper: &[f64],
-    w: &mut [f64],
-    o: usize,
-    n: usize,
-    m: usize,
-) -> usize
-    requires { Lengths n m kinds.now values.now widths.now jacobian.now lower.now upper.now × (o + 1152 ≤ length w.old) }
-    ensures { (result ≤ 64) × Pushed o n 0 result (inequality_rows (problem_of n m [] [] kinds.now values.now widths.now jacobian.now lower.now upper.now)) w.old w.new }
+pub fn push_inequalities(p: &Subproblem, w: &mut [f64], o: usize) -> usize
+    requires { o + 1152 ≤ length w.old }
+    ensures { (result ≤ 64) × Pushed o p.now.n 0 result (inequality_rows (problem_in p.now)) w.old w.new }
 {
-    let k = push_floors(kinds, values, widths, jacobian, w, o, n, m);
-    push_bounds(lower, upper, w, o, k, n, n)
+    let k = push_floors(p, w, o);
+    push_bounds(p, w, o, k, p.n)
 }
 
 // ---- the relaxed problem, in one column more
@@ -343,23 +309,12 @@ fn push_delta(w: &mut [f64], o: usize, k: usize, n: usize)
 }
 
 // The rows of the relaxed problem: constraints, then per variable lower, upper, and last those of delta.
-pub fn push_relaxed_rows(
-    kinds: &[u8],
-    values: &[f64],
-    widths: &[f64],
-    jacobian: &[f64],
-    lower: &[f64],
-    upper: &[f64],
-    w: &mut [f64],
-    o: usize,
-    n: usize,
-    m: usize,
-) -> usize
-    requires { Lengths n m kinds.now values.now widths.now jacobian.now lower.now upper.now × (o + 1188 ≤ length w.old) }
-    ensures { (result ≤ 66) × Pushed o (n + 1) 0 result (relaxed_rows (problem_of n m [] [] kinds.now values.now widths.now jacobian.now lower.now upper.now)) w.old w.new }
+pub fn push_relaxed_rows(p: &Subproblem, w: &mut [f64], o: usize) -> usize
+    requires { o + 1188 ≤ length w.old }
+    ensures { (result ≤ 66) × Pushed o (p.now.n + 1) 0 result (relaxed_rows (problem_in p.now)) w.old w.new }
 {
-    let k = relaxed::push_all_relaxed(kinds, values, widths, jacobian, w, o, n, m);
-    let c = push_bounds(lower, upper, w, o, k, n + 1, n);
-    push_delta(w, o, c, n);
+    let k = relaxed::push_all_relaxed(p, w, o);
+    let c = push_bounds(p, w, o, k, p.n + 1);
+    push_delta(w, o, c, p.n);
     c + 2
 }

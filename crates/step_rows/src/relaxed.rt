@@ -1,8 +1,9 @@
 // The constraints of the relaxed problem, in one column more.
 ghost use Rattle.std.specs.Prelude.{◌≡◌, cond, [], ◌∷◌, map, ℕ, ◌+◌, ◌*◌, ◌≤◌, length};
 ghost use Rattle.std.specs.Float.Ieee.{neg, lt};
-ghost use Rattle.numbers.specs.Numbers.{+0, ◌⊖◌, at, nth, row};
-ghost use Rattle.step_rows.specs.Problem.{constraint_of, each, opposed_rows, loosened_row, relaxed_of};
+ghost use Rattle.numbers.specs.Numbers.{+0, ◌⊖◌, at, row};
+ghost use Rattle.step_rows.specs.Problem.{constraint_at, each, opposed_rows, loosened_row, relaxed_of};
+ghost use Rattle.step_rows.specs.Lent.{problem_in};
 ghost use Rattle.step_rows.specs.inner.Work.{Pushed};
 
 // What an inequality has in the last column: -c, only if c < 0.
@@ -85,24 +86,15 @@ fn push_relaxed(
     }
 }
 
-// All m constraints.
-pub fn push_all_relaxed(
-    kinds: &[u8],
-    values: &[f64],
-    widths: &[f64],
-    jacobian: &[f64],
-    w: &mut [f64],
-    o: usize,
-    n: usize,
-    m: usize,
-) -> usize
-    requires { (n ≤ 16) × (length kinds.now ≡ m) × (length values.now ≡ m) × (length widths.now ≡ m) × (length jacobian.now ≡ m * n) × (o + m * 36 ≤ length w.old) }
-    ensures { (result ≤ 2 * m) × Pushed o (n + 1) 0 result (each m (λ j. relaxed_of (constraint_of (nth kinds.now j) (at widths.now j)) (row n j jacobian.now) (at values.now j))) w.old w.new }
+// All constraints.
+pub fn push_all_relaxed(p: &crate::Subproblem, w: &mut [f64], o: usize) -> usize
+    requires { o + p.now.m * 36 ≤ length w.old }
+    ensures { (result ≤ 2 * p.now.m) × Pushed o (p.now.n + 1) 0 result (each p.now.m (λ j. relaxed_of (constraint_at (problem_in p.now) j) (row p.now.n j p.now.jacobian.now) (at p.now.values.now j))) w.old w.new }
 {
     let mut k = 0;
-    for j in 0..m {
-        let constraint = crate::Constraint::of(kinds[j], widths[j]);
-        k = push_relaxed(constraint, jacobian, w, o, k, n, j, values[j]);
+    for j in 0..p.m {
+        let constraint = p.constraint(j);
+        k = push_relaxed(constraint, p.jacobian, w, o, k, p.n, j, p.values[j]);
     }
     k
 }

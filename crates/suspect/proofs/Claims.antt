@@ -3,13 +3,13 @@ use mathlib.Core.Path.{◌≡◌, refl, sym, ap, ◌∙◌}
 use mathlib.Core.Bool.{Bool, true, false, cond, ◌&&◌}
 use mathlib.Core.List.{List}
 use mathlib.Core.Logic.{⊎_elim}
-use Prim.Native.Nat.{ℕ, zero, suc, ◌+◌, ◌-◌, ◌≤◌, ◌<◌}
+use Prim.Native.Nat.{ℕ, zero, suc, ◌≤◌, ◌<◌}
 use native.Mathlib.Omega.{arith}
 use lib.Dec.{ltb}
 use lib.Ieee.{Float, nan, inf, fin, add, mul, lt, eq, le, units, odd, round, size, span, climb}
 use lib.Count.{count_trailing_zeros}
 use borrow.Author.Tests.{eq-eqb, le-ltb}
-use Rattle.numbers.specs.Numbers.{+0, near, at, nth, tab, dot, entry, Σ, ◌⊕◌, ◌⊖◌, ◌⊗◌, ◌⊘◌}
+use Rattle.numbers.specs.Numbers.{+0, near, at, nth, tab, dot, entry, Σ, ◌⊕◌, ◌⊗◌}
 use Rattle.numbers.proofs.Cases.{last-or-before}
 use Rattle.numbers.proofs.Lists.{get_d-tab}
 use Rattle.householder.specs.Qr.{factor}

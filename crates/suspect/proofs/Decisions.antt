@@ -8,7 +8,7 @@ use native.Mathlib.Omega.{arith}
 use lib.Count.{count_trailing_zeros}
 use lib.ListN.{get_or}
 use lib.Ieee.{Float, nan, inf, binary64, neg, div, of_bits, of_fields, units, odd, round, size, span, climb, lt, eq}
-use Rattle.numbers.specs.Numbers.{+0, -1, near, at, nth, entry, dot}
+use Rattle.numbers.specs.Numbers.{+0, near, at, nth, entry, dot}
 use Rattle.householder.proofs.Leading.{lit--1}
 use Rattle.suspect.specs.declared.Lead.{Lead}
 use Rattle.suspect.specs.declared.Finding.{Finding}

@@ -1,6 +1,6 @@
 -- The claims of marks and of the meter named first.
-use mathlib.Core.Path.{◌≡◌, refl, sym, ap, ◌∙◌, subst}
-use mathlib.Core.Bool.{Bool, true, false, cond, ◌&&◌}
+use mathlib.Core.Path.{◌≡◌, refl, sym, ◌∙◌, subst}
+use mathlib.Core.Bool.{Bool, true, false, cond}
 use mathlib.Core.List.{List}
 use mathlib.Core.Logic.{⊎_elim}
 use Prim.Native.Nat.{ℕ, zero, suc, ◌<◌}
@@ -15,7 +15,7 @@ use Rattle.numbers.proofs.Order.{not-lt-trans, lt-asym, lt_irrefl}
 use Rattle.householder.specs.Qr.{factor}
 use Rattle.suspect.specs.declared.Lead.{Lead}
 use Rattle.suspect.specs.declared.Finding.{Finding}
-use Rattle.suspect.specs.Suspect.{weights, scaled_gaps, directions, overlap, tiny, is_outside, share, shares, square_of, mark_unless, marks, better, largest, lead_of, agrees, finding_of, tests_from, suspect}
+use Rattle.suspect.specs.Suspect.{weights, directions, overlap, tiny, is_outside, share, shares, square_of, mark_unless, marks, largest, lead_of, finding_of, tests_from, suspect}
 use Rattle.suspect.specs.Claims.{NoFreedom, AgreedUnmarked, LargestFirst}
 use Rattle.suspect.proofs.Claims.{unmarked}
 

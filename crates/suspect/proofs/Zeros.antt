@@ -2,7 +2,7 @@
 use mathlib.Core.Path.{◌≡◌, refl}
 use mathlib.Core.Bool.{Bool, true, false, cond}
 use mathlib.Core.Logic.{⊎_elim}
-use Prim.Native.Nat.{ℕ, zero, suc, ◌+◌, ◌*◌, zero-le, compare, Ordering}
+use Prim.Native.Nat.{ℕ, zero, suc, ◌*◌, zero-le, compare, Ordering}
 use native.Mathlib.Nat.{zero-div, zero-mod, zero-mul, mul-zero}
 use native.Mathlib.Bridge.{IsLe}
 use native.Mathlib.Decide.{compare_of_le}

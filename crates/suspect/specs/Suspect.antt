@@ -1,9 +1,9 @@
 -- The tests of meters (measurement test and global test, VDI 2048): which meter may be wrong, from the values, the spreads and the balances of a day. Definitions only.
 -- v are the n values, s their spreads, c the m balances, a row of n coefficients each, and z marks the meters that stand still by 1.
-use Rattle.std.specs.Prelude.{ℕ, zero, suc, ◌+◌, ◌-◌, ◌*◌, ◌^◌, Bool, true, false, cond, ◌&&◌, ◌||◌, List, [], ◌∷◌, ltb, eqb, Float}
+use Rattle.std.specs.Prelude.{ℕ, zero, suc, ◌+◌, ◌-◌, ◌^◌, Bool, true, false, cond, ◌&&◌, ◌||◌, List, [], ◌∷◌, ltb, eqb, Float}
 use Rattle.std.specs.Float.{inf}
 use Rattle.std.specs.Float.Ieee.{eq, lt, le, neg}
-use Rattle.numbers.specs.Numbers.{+0, -1, near, one, ◌⊕◌, ◌⊖◌, ◌⊗◌, ◌⊘◌, Σ, at, nth, tab, dot, entry, rows, grid}
+use Rattle.numbers.specs.Numbers.{+0, -1, near, one, ◌⊖◌, ◌⊗◌, ◌⊘◌, Σ, at, nth, tab, dot, entry, rows, grid}
 use Rattle.numbers.specs.Root.{sqrt_of}
 use Rattle.householder.specs.Qr.{Factors, factor, apply_qt, solve_rt}
 use Rattle.suspect.specs.declared.Lead.{Lead}

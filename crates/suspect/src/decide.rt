@@ -1,10 +1,7 @@
 // Decisions on numbers, each by value.
-ghost use Rattle.std.specs.Prelude.{◌≡◌, cond, ◌&&◌, ◌≤◌};
-ghost use Rattle.std.specs.Float.Ieee.{eq};
-ghost use Rattle.numbers.specs.Numbers.{+0, at};
-ghost use Rattle.suspect.specs.Suspect.{weight, is_finite, new_spread, test_of, square_of, tie_of, better, is_within, mark_of, limits, agrees, explains, still_of};
-
-use crate::Lead;
+ghost use Rattle.std.specs.Prelude.{◌≡◌, ◌&&◌, ◌≤◌};
+ghost use Rattle.numbers.specs.Numbers.{at};
+ghost use Rattle.suspect.specs.Suspect.{weight, is_finite, new_spread, test_of, square_of, tie_of, mark_of, limits, agrees, explains, still_of};
 
 // The 95 % limits of chi-square, from 0 to 16 degrees of freedom.
 const LIMITS: [f64; 17] = [
@@ -38,28 +35,6 @@ pub fn is_finite(x: f64) -> bool
     ensures { result ≡ is_finite x }
 {
     -1.0 / 0.0 < x && x < 1.0 / 0.0
-}
-
-// Balance after balance: this gap is finite too.
-pub fn finite_too(gap: f64, old: bool) -> bool
-    ensures { result ≡ (old && is_finite gap) }
-{
-    let finite = is_finite(gap);
-    if old {
-        return finite;
-    }
-    false
-}
-
-// Balance after balance: the coefficient is zero too.
-pub fn outside_too(z: u8, s: f64, c: f64, old: bool) -> bool
-    ensures { result ≡ (old && eq (weight z s c) +0) }
-{
-    let x = weight_of(z, s, c);
-    if old {
-        return x == 0.0;
-    }
-    false
 }
 
 // The spread of the corrected value, where t is what no balance sees of the meter.
@@ -110,47 +85,12 @@ pub fn tie_of(h: f64, g: f64, p: f64) -> bool
     0.99 * (h * g) <= p * p
 }
 
-// Meter i against the lead.
-pub fn lead_of(old: Lead, i: usize, h: f64, t: f64) -> Lead
-    ensures { result ≡ better old i h t }
-{
-    let s = square_of(h, t);
-    if old.square < s {
-        return Lead {
-            index: i,
-            square: s,
-        };
-    }
-    old
-}
-
-// Meter after meter: this test is within 3 too.
-pub fn within_too(h: f64, t: f64, old: bool) -> bool
-    ensures { result ≡ (old && is_within h t) }
-{
-    let s = square_of(h, t);
-    if old {
-        return s <= 9.0;
-    }
-    false
-}
-
 // All meters agree; within says whether every test is within 3, finite whether every gap is finite.
 pub fn agree_of(r: usize, misfit: f64, within: bool, finite: bool) -> bool
     requires { r ≤ 16 }
     ensures { result ≡ agrees r misfit within finite }
 {
-    let most = limit(r);
-    if 0 < r {
-        if misfit <= most {
-            if within {
-                return finite;
-            }
-            return false;
-        }
-        return false;
-    }
-    false
+    0 < r && misfit <= limit(r) && within && finite
 }
 
 // One meter explains the misfit, where its test has this square.
@@ -158,25 +98,7 @@ pub fn explained_of(r: usize, misfit: f64, square: f64) -> bool
     requires { r ≤ 16 }
     ensures { result ≡ explains r misfit square }
 {
-    if r == 1 {
-        return true;
-    }
-    if r == 0 {
-        let none = limit(0);
-        return misfit - square <= none;
-    }
-    let most = limit(r - 1);
-    misfit - square <= most
-}
-
-// The group so far, or a lower meter that is not told apart.
-pub fn joined(old: usize, j: usize, same: bool) -> usize
-    ensures { result ≡ cond same j old }
-{
-    if same {
-        return j;
-    }
-    old
+    r == 1 || misfit - square <= limit(r.saturating_sub(1))
 }
 
 // The mark of a meter where the meters disagree.

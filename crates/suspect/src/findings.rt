@@ -4,7 +4,7 @@ ghost use Rattle.workspace.specs.Readings.{vec, stack, Span};
 ghost use Rattle.suspect.specs.Suspect.{largest, are_within, is_tied, group_of, mark_unless, finding_of};
 ghost use Rattle.suspect.specs.inner.Places.{SUSPECT_GAPS, SUSPECT_DIRECTIONS, SUSPECT_SHARES, SUSPECT_TESTS, SUSPECT_GROUPS, SUSPECT_MARKS, SUSPECT_ROOM, SUSPECT_WORDS};
 
-use crate::decide::{agree_of, explained_of, joined, lead_of, mark_of, tie_of, within_too};
+use crate::decide::{agree_of, explained_of, mark_of, square_of, tie_of};
 use crate::measure::overlap_of;
 use crate::{
     Finding, Lead, SUSPECT_GAPS, SUSPECT_GROUPS, SUSPECT_MARKS, SUSPECT_SHARES, SUSPECT_TESTS,
@@ -20,7 +20,13 @@ fn find_lead(w: &[f64], n: usize) -> Lead
         square: -1.0,
     };
     for i in 0..n {
-        best = lead_of(best, i, w[SUSPECT_SHARES + i], w[SUSPECT_TESTS + i]);
+        let s = square_of(w[SUSPECT_SHARES + i], w[SUSPECT_TESTS + i]);
+        if best.square < s {
+            best = Lead {
+                index: i,
+                square: s,
+            };
+        }
     }
     best
 }
@@ -32,7 +38,8 @@ fn all_within(w: &[f64], n: usize) -> bool
 {
     let mut all = true;
     for i in 0..n {
-        all = within_too(w[SUSPECT_SHARES + i], w[SUSPECT_TESTS + i], all);
+        let s = square_of(w[SUSPECT_SHARES + i], w[SUSPECT_TESTS + i]);
+        all = all && s <= 9.0;
     }
     all
 }
@@ -76,8 +83,9 @@ fn group_of(w: &[f64], n: usize, r: usize, i: usize) -> usize
     let mut l = i;
     for d in 0..i {
         let j = i - (d + 1);
-        let same = tied(w, n, r, i, j);
-        l = joined(l, j, same);
+        if tied(w, n, r, i, j) {
+            l = j;
+        }
     }
     l
 }

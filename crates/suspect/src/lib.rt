@@ -2,16 +2,19 @@
 #![tactic(auto)]
 
 mod balances;
+mod day;
 mod decide;
 mod findings;
 mod measure;
 
 ghost use Rattle.std.specs.Prelude.{◌≡◌, ◌≤◌, length};
-ghost use Rattle.suspect.specs.Suspect.{suspect, stills};
+ghost use Rattle.suspect.specs.Suspect.{stills};
+ghost use Rattle.suspect.specs.Lent.{tested_in};
 ghost use Rattle.suspect.specs.inner.Places.{SUSPECT_ROOM, SUSPECT_WORDS};
-ghost use Rattle.suspect.specs.inner.Work.{Sized, tests_in};
+ghost use Rattle.suspect.specs.inner.Work.{tests_in};
 
 use crate::balances::{all_finite, prepare};
+pub use crate::day::MeteredDay;
 use crate::decide::still_of;
 use crate::findings::{judge, write_groups, write_marks};
 use crate::measure::measure_all;
@@ -70,23 +73,15 @@ pub fn mark_still(values: &[f64], corrected: &[f64], spreads: &[f64], still: &mu
     }
 }
 
-// The tests of n meters under m balances, in their places, and what is found of all together.
-pub fn test_meters(
-    values: &[f64],
-    spreads: &[f64],
-    balances: &[f64],
-    still: &[u8],
-    w: &mut [f64],
-    iw: &mut [u32],
-    n: usize,
-    m: usize,
-) -> Finding
-    requires { Sized n m values.now spreads.now balances.now still.now × (SUSPECT_ROOM ≤ length w.old) × (SUSPECT_WORDS ≤ length iw.old) }
-    ensures { tests_in n result w.new iw.new ≡ suspect n m values.now spreads.now balances.now still.now }
+// The tests of a day's meters under its balances, in their places, and what is found of all together.
+pub fn test_meters(day: &MeteredDay, w: &mut [f64], iw: &mut [u32]) -> Finding
+    requires { (SUSPECT_ROOM ≤ length w.old) × (SUSPECT_WORDS ≤ length iw.old) }
+    ensures { tests_in day.now.n result w.new iw.new ≡ tested_in day.now }
 {
-    let r = prepare(values, spreads, balances, still, w, iw, n, m);
-    measure_all(spreads, balances, still, w, n, m, r);
-    let finite = all_finite(values, balances, n, m);
+    let n = day.n;
+    let r = prepare(day, w, iw);
+    measure_all(day, w, r);
+    let finite = all_finite(day);
     let d = judge(w, n, r, finite);
     let first = d.first as usize;
     let best = Lead {

@@ -1,11 +1,12 @@
 // Numbers of each meter: its share, its new spread and its test.
-ghost use Rattle.std.specs.Prelude.{◌≡◌, ◌*◌, ◌<◌, ◌≤◌, length};
+ghost use Rattle.std.specs.Prelude.{◌≡◌, ◌<◌, ◌≤◌, length};
 ghost use Rattle.workspace.specs.Readings.{vec, stack};
 ghost use Rattle.suspect.specs.Suspect.{overlap, is_outside, share, unseen, correction, shares, new_spreads, tests};
 ghost use Rattle.suspect.specs.inner.Places.{SUSPECT_GAPS, SUSPECT_DIRECTIONS, SUSPECT_SHARES, SUSPECT_SPREADS, SUSPECT_TESTS, SUSPECT_ROOM};
 ghost use Rattle.suspect.specs.inner.Work.{VectorWritten, Measured};
 
-use crate::decide::{new_spread, outside_too, test_of};
+use crate::day::MeteredDay;
+use crate::decide::{new_spread, test_of, weight_of};
 use crate::{SUSPECT_DIRECTIONS, SUSPECT_GAPS, SUSPECT_SHARES, SUSPECT_SPREADS, SUSPECT_TESTS};
 
 // What the balances see of meters i and j together.
@@ -39,67 +40,48 @@ fn correction_of(w: &[f64], n: usize, r: usize, i: usize) -> f64
 }
 
 // No balance has meter i.
-fn is_outside(spreads: &[f64], balances: &[f64], still: &[u8], n: usize, m: usize, i: usize) -> bool
-    requires { (n ≤ 16) × (m ≤ 16) × (i < n) × (length spreads.now ≡ n) × (length balances.now ≡ m * n) × (length still.now ≡ n) }
-    ensures { result ≡ is_outside n spreads.now balances.now still.now i m }
+fn is_outside(day: &MeteredDay, i: usize) -> bool
+    requires { i < day.now.n }
+    ensures { result ≡ is_outside day.now.n day.now.spreads.now day.now.balances.now day.now.still.now i day.now.m }
 {
     let mut all = true;
-    for k in 0..m {
-        all = outside_too(still[i], spreads[i], balances[k * n + i], all);
+    for k in 0..day.m {
+        let x = weight_of(day.still[i], day.spreads[i], day.balances[k * day.n + i]);
+        all = all && x == 0.0;
     }
     all
 }
 
 // What the balances see of meter i.
-fn share_of(
-    spreads: &[f64],
-    balances: &[f64],
-    still: &[u8],
-    w: &[f64],
-    n: usize,
-    m: usize,
-    r: usize,
-    i: usize,
-) -> f64
-    requires n_bound { (n ≤ 16) × (m ≤ 16) × (i < n) × (length spreads.now ≡ n) × (length balances.now ≡ m * n) × (length still.now ≡ n) }
-    requires r_le_n { (r ≤ n) × (SUSPECT_ROOM ≤ length w.now) }
-    ensures { result ≡ share n m r spreads.now balances.now still.now (stack SUSPECT_DIRECTIONS n n w.now) i }
+fn share_of(day: &MeteredDay, w: &[f64], r: usize, i: usize) -> f64
+    requires { (i < day.now.n) × (r ≤ day.now.n) × (SUSPECT_ROOM ≤ length w.now) }
+    ensures { result ≡ share day.now.n day.now.m r day.now.spreads.now day.now.balances.now day.now.still.now (stack SUSPECT_DIRECTIONS day.now.n day.now.n w.now) i }
 {
-    let none = is_outside(spreads, balances, still, n, m, i);
-    if none {
+    if is_outside(day, i) {
         return 0.0;
     }
-    overlap_of(w, n, r, i, i)
+    overlap_of(w, day.n, r, i, i)
 }
 
 // The shares.
-fn write_shares(
-    spreads: &[f64],
-    balances: &[f64],
-    still: &[u8],
-    w: &mut [f64],
-    n: usize,
-    m: usize,
-    r: usize,
-)
-    requires n_bound { (n ≤ 16) × (m ≤ 16) × (length spreads.now ≡ n) × (length balances.now ≡ m * n) × (length still.now ≡ n) }
-    requires r_le_n { (r ≤ n) × (SUSPECT_ROOM ≤ length w.old) }
-    ensures { VectorWritten SUSPECT_SHARES n (shares n m r spreads.now balances.now still.now (stack SUSPECT_DIRECTIONS n n w.old)) w.old w.new }
+fn write_shares(day: &MeteredDay, w: &mut [f64], r: usize)
+    requires { (r ≤ day.now.n) × (SUSPECT_ROOM ≤ length w.old) }
+    ensures { VectorWritten SUSPECT_SHARES day.now.n (shares day.now.n day.now.m r day.now.spreads.now day.now.balances.now day.now.still.now (stack SUSPECT_DIRECTIONS day.now.n day.now.n w.old)) w.old w.new }
 {
-    for i in 0..n {
-        let h = share_of(spreads, balances, still, w, n, m, r, i);
+    for i in 0..day.n {
+        let h = share_of(day, w, r, i);
         w[SUSPECT_SHARES + i] = h;
     }
 }
 
 // The new spreads.
-fn write_spreads(spreads: &[f64], still: &[u8], w: &mut [f64], n: usize, r: usize)
-    requires { (n ≤ 16) × (r ≤ n) × (length spreads.now ≡ n) × (length still.now ≡ n) × (SUSPECT_ROOM ≤ length w.old) }
-    ensures { VectorWritten SUSPECT_SPREADS n (new_spreads n r spreads.now still.now (stack SUSPECT_DIRECTIONS n n w.old)) w.old w.new }
+fn write_spreads(day: &MeteredDay, w: &mut [f64], r: usize)
+    requires { (r ≤ day.now.n) × (SUSPECT_ROOM ≤ length w.old) }
+    ensures { VectorWritten SUSPECT_SPREADS day.now.n (new_spreads day.now.n r day.now.spreads.now day.now.still.now (stack SUSPECT_DIRECTIONS day.now.n day.now.n w.old)) w.old w.new }
 {
-    for i in 0..n {
-        let t = unseen_of(w, n, r, i);
-        w[SUSPECT_SPREADS + i] = new_spread(still[i], spreads[i], t);
+    for i in 0..day.n {
+        let t = unseen_of(w, day.n, r, i);
+        w[SUSPECT_SPREADS + i] = new_spread(day.still[i], day.spreads[i], t);
     }
 }
 
@@ -115,20 +97,11 @@ fn write_tests(w: &mut [f64], n: usize, r: usize)
 }
 
 // Shares, new spreads and tests.
-pub fn measure_all(
-    spreads: &[f64],
-    balances: &[f64],
-    still: &[u8],
-    w: &mut [f64],
-    n: usize,
-    m: usize,
-    r: usize,
-)
-    requires n_bound { (n ≤ 16) × (m ≤ 16) × (length spreads.now ≡ n) × (length balances.now ≡ m * n) × (length still.now ≡ n) }
-    requires r_le_n { (r ≤ n) × (SUSPECT_ROOM ≤ length w.old) }
-    ensures { Measured n m r spreads.now balances.now still.now w.old w.new }
+pub fn measure_all(day: &MeteredDay, w: &mut [f64], r: usize)
+    requires { (r ≤ day.now.n) × (SUSPECT_ROOM ≤ length w.old) }
+    ensures { Measured day.now.n day.now.m r day.now.spreads.now day.now.balances.now day.now.still.now w.old w.new }
 {
-    write_shares(spreads, balances, still, w, n, m, r);
-    write_spreads(spreads, still, w, n, r);
-    write_tests(w, n, r);
+    write_shares(day, w, r);
+    write_spreads(day, w, r);
+    write_tests(w, day.n, r);
 }

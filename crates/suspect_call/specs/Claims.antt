@@ -5,7 +5,7 @@ use Rattle.workspace.specs.Tables.{Answer, refused}
 use Rattle.workspace.specs.declared.Refusal.TheVariants.{Reading, Spread}
 use Rattle.reconcile_call.specs.Promise.{is_spread}
 use Rattle.suspect.specs.Suspect.{is_finite, Tests}
-use Rattle.suspect_call.specs.declared.Tested.{Tested}
+use Rattle.suspect_call.specs.Promise.{Tested}
 use Rattle.suspect_call.specs.Promise.{meters, Suspects}
 
 -- ---- the tests of the meters

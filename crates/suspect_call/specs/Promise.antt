@@ -2,11 +2,12 @@
 use Rattle.std.specs.Prelude.{ℕ, zero, suc, ◌*◌, ◌≡◌, Bool, true, ◌&&◌, List, [], ◌++◌, Float}
 use Rattle.numbers.specs.Numbers.{at}
 use Rattle.workspace.specs.Tables.{Answer, done, refused, call, test, output, floats, words, is_equalities, is_room, has}
+use Rattle.workspace.specs.declared.Refusal.{Refusal}
 use Rattle.workspace.specs.declared.Refusal.TheVariants.{Reading, Spread}
 use Rattle.reconcile_call.specs.Promise.{is_meters, is_spread}
+use Rattle.suspect.specs.declared.Finding.{Finding}
 use Rattle.suspect.specs.Suspect.{is_finite, Tests, suspect}
-use Rattle.suspect_call.specs.declared.Tested.{Tested}
-use Rattle.suspect_call.specs.declared.Tested.TheVariants as T
+use Rattle.std.specs.Prelude.{Result, Ok, Err}
 
 -- ---- tests
 
@@ -32,9 +33,12 @@ suspect_call n m v s c z x groups marks w iw =
     call (is_meters n && is_equalities m) (are_inputs n m v s c z && are_outputs n x groups marks) (is_room w iw) true (meters v s n 0 (done (suspect n m v s c z)))
 
 -- what is told
+abbrev pub Tested : Type 0
+Tested = Result Finding Refusal
+
 abbrev pub tested_of : Answer Tests → Tested
-tested_of (done t) = T.Done t.finding
-tested_of (refused r) = T.Refused r
+tested_of (done t) = Ok t.finding
+tested_of (refused r) = Err r
 
 -- the shares, the new spreads and the tests, one after the other
 abbrev pub numbers_of : Tests → List Float

@@ -6,7 +6,7 @@ ghost use Rattle.reconcile_call.specs.Promise.{is_spread};
 ghost use Rattle.suspect.specs.Suspect.{is_finite};
 ghost use Rattle.suspect_call.specs.inner.Work.{tested_outcome};
 
-use workspace::{Outcome, Refusal};
+use workspace::Refusal;
 
 // The lengths of values, spreads, balances and marks of the still.
 pub fn are_inputs(
@@ -47,30 +47,27 @@ pub fn are_outputs(n: usize, numbers: usize, groups: usize, marks: usize) -> boo
 }
 
 // One meter: a wrong value is told before a wrong spread.
-fn test_meter(value: f64, spread: f64, i: u32) -> Outcome
+fn test_meter(value: f64, spread: f64, i: u32) -> Result<(), Refusal>
     ensures { result ≡ outcome_of {A = Unit} (test (is_finite value) (Reading i) (test (is_spread spread) (Spread i) (done tt))) }
 {
     let read = suspect::is_finite(value);
     let spreads = reconcile_call::is_spread(spread);
     if !read {
-        return Outcome::Refused(Refusal::Reading(i));
+        return Err(Refusal::Reading(i));
     }
     if !spreads {
-        return Outcome::Refused(Refusal::Spread(i));
+        return Err(Refusal::Spread(i));
     }
-    Outcome::Done
+    Ok(())
 }
 
 // All meters, the lowest first.
-pub fn test_all(values: &[f64], spreads: &[f64], n: usize) -> Outcome
+pub fn test_all(values: &[f64], spreads: &[f64], n: usize) -> Result<(), Refusal>
     requires { (n ≤ 16) × (length values.now ≡ n) × (length spreads.now ≡ n) }
     ensures { result ≡ tested_outcome values.now spreads.now n 0 }
 {
     for i in 0..n {
-        let told = test_meter(values[i], spreads[i], i as u32);
-        let Outcome::Done = told else {
-            return told;
-        };
+        test_meter(values[i], spreads[i], i as u32)?;
     }
-    Outcome::Done
+    Ok(())
 }

@@ -5,21 +5,14 @@ mod arguments;
 
 ghost use Rattle.std.specs.Prelude.{◌≡◌, ◌+◌, ◌*◌, ◌≤◌, length};
 ghost use Rattle.workspace.specs.Readings.{nums, stack};
-ghost use Rattle.suspect.specs.Suspect.{suspect};
-ghost use Rattle.suspect.specs.inner.Work.{Sized};
+ghost use Rattle.suspect.specs.Lent.{tested_in};
 ghost use Rattle.suspect.specs.inner.Places.{SUSPECT_SHARES, SUSPECT_GROUPS, SUSPECT_MARKS, SUSPECT_ROOM, SUSPECT_WORDS};
 ghost use Rattle.suspect_call.specs.Promise.{suspect_call, Suspects};
 ghost use Rattle.suspect_call.specs.inner.Work.{Given, Left};
 
 use crate::arguments::{are_inputs, are_outputs, test_all};
-use workspace::{Outcome, Refusal};
-
-// What a call tells: what is found of all meters together, or why it is refused.
-#[derive(Clone, Copy)]
-pub enum Tested {
-    Done(suspect::Finding),
-    Refused(Refusal),
-}
+use suspect::MeteredDay;
+use workspace::Refusal;
 
 // The n shares, new spreads and tests, the groups and the marks that the kernel left.
 fn give(w: &[f64], iw: &[u32], numbers: &mut [f64], groups: &mut [u32], marks: &mut [u32], n: usize)
@@ -33,32 +26,18 @@ fn give(w: &[f64], iw: &[u32], numbers: &mut [f64], groups: &mut [u32], marks: &
 
 // The call where no test refuses.
 pub fn solve_all(
-    values: &[f64],
-    spreads: &[f64],
-    balances: &[f64],
-    still: &[u8],
+    day: &MeteredDay,
     numbers: &mut [f64],
     groups: &mut [u32],
     marks: &mut [u32],
     w: &mut [f64],
     iw: &mut [u32],
-    n: usize,
-    m: usize,
 ) -> suspect::Finding
-    requires { Sized n m values.now spreads.now balances.now still.now × (length numbers.old ≡ 3 * n) × (length groups.old ≡ n) × (length marks.old ≡ n) × (8192 ≤ length w.old) × (512 ≤ length iw.old) }
-    ensures { Left (suspect n m values.now spreads.now balances.now still.now) result numbers.new groups.new marks.new w.old w.new iw.old iw.new }
+    requires { (length numbers.old ≡ 3 * day.now.n) × (length groups.old ≡ day.now.n) × (length marks.old ≡ day.now.n) × (8192 ≤ length w.old) × (512 ≤ length iw.old) }
+    ensures { Left (tested_in day.now) result numbers.new groups.new marks.new w.old w.new iw.old iw.new }
 {
-    let d = suspect::test_meters(
-        values,
-        spreads,
-        balances,
-        still,
-        &mut w[..8192],
-        &mut iw[..512],
-        n,
-        m,
-    );
-    give(w, iw, numbers, groups, marks, n);
+    let d = suspect::test_meters(day, &mut w[..8192], &mut iw[..512]);
+    give(w, iw, numbers, groups, marks, day.n);
     workspace::clear(w, iw);
     d
 }
@@ -81,11 +60,11 @@ impl Meters {
         marks: &mut [u32],
         w: &mut [f64],
         iw: &mut [u32],
-    ) -> Tested
+    ) -> Result<suspect::Finding, Refusal>
         ensures { Suspects (suspect_call n m values.now spreads.now balances.now still.now numbers.old groups.old marks.old w.old iw.old) result numbers.old numbers.new groups.old groups.new marks.old marks.new w.old w.new iw.old iw.new }
     {
         if !reconcile_call::are_sizes(n, m) {
-            return Tested::Refused(Refusal::Size);
+            return Err(Refusal::Size);
         }
         if !are_inputs(
             n,
@@ -95,21 +74,23 @@ impl Meters {
             balances.len(),
             still.len(),
         ) {
-            return Tested::Refused(Refusal::Length);
+            return Err(Refusal::Length);
         }
         if !are_outputs(n, numbers.len(), groups.len(), marks.len()) {
-            return Tested::Refused(Refusal::Length);
+            return Err(Refusal::Length);
         }
         if !workspace::is_room(w.len(), iw.len()) {
-            return Tested::Refused(Refusal::Room);
+            return Err(Refusal::Room);
         }
-        let told = test_all(values, spreads, n);
-        if let Outcome::Refused(k) = told {
-            return Tested::Refused(k);
-        }
-        let d = solve_all(
-            values, spreads, balances, still, numbers, groups, marks, w, iw, n, m,
-        );
-        Tested::Done(d)
+        test_all(values, spreads, n)?;
+        let day = MeteredDay {
+            n,
+            m,
+            values,
+            spreads,
+            balances,
+            still,
+        };
+        Ok(solve_all(&day, numbers, groups, marks, w, iw))
     }
 }

@@ -1,11 +1,10 @@
 -- What a tally holds after some steps.
 use mathlib.Core.Path.{◌≡◌, ◌∙◌}
-use mathlib.Core.List.{List, [], ◌∷◌}
+use mathlib.Core.List.{[], ◌∷◌}
 use Prim.Native.Nat.{ℕ, ◌+◌, ◌^◌, ◌<◌}
 use native.Mathlib.Omega.{arith}
-use Rattle.tally.specs.declared.Tally.{Tally}
 use Rattle.tally.specs.Tally.{saturated, raised}
-use Rattle.tally.specs.Claims.{Spent, raised_by, all_rounds, all_factorings, Saturates}
+use Rattle.tally.specs.Claims.{raised_by, all_rounds, all_factorings, Saturates}
 
 -- raised by nothing, and by one after another
 still : (a : ℕ) → a < 2 ^ 64 → a ≡ saturated a 0

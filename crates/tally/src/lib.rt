@@ -2,36 +2,23 @@
 #![tactic(auto)]
 
 ghost use Rattle.std.specs.Prelude.{◌≡◌};
-ghost use Rattle.tally.specs.Tally.{saturated, raised};
+ghost use Rattle.tally.specs.Tally.{raised};
 
 // Rounds and factorings.
-#[derive(Clone, Copy)]
+#[derive(Clone, Copy, Debug, PartialEq, Eq)]
 pub struct Tally {
     pub rounds: u64,
     pub factorings: u64,
 }
 
-// The sum, or the largest u64 where it would pass that.
-fn saturating(a: u64, b: u64) -> u64
-    ensures { result ≡ saturated a b }
-{
-    let room = 18446744073709551615 - a;
-    if b > room {
-        return 18446744073709551615;
-    }
-    a + b
-}
-
 impl Tally {
-    // The tally raised by what a step took.
+    // The tally raised by what a step took; a count that would pass the range stays at its largest value.
     pub fn plus(self, rounds: u64, factorings: u64) -> Self
         ensures { result ≡ raised self rounds factorings }
     {
-        let r = saturating(self.rounds, rounds);
-        let f = saturating(self.factorings, factorings);
         Self {
-            rounds: r,
-            factorings: f,
+            rounds: self.rounds.saturating_add(rounds),
+            factorings: self.factorings.saturating_add(factorings),
         }
     }
 }
@@ -40,5 +27,5 @@ impl Tally {
 pub fn raise(t: &mut Tally, rounds: u64, factorings: u64)
     ensures { t.new ≡ raised t.old rounds factorings }
 {
-    *t = Tally::plus(*t, rounds, factorings);
+    *t = t.plus(rounds, factorings);
 }

@@ -5,11 +5,11 @@ use mathlib.Core.List.{List}
 use Prim.Native.Nat.{ℕ, ◌+◌, ◌*◌, ◌≤◌, ◌<◌}
 use native.Mathlib.Omega.{arith}
 use lib.ListN.{length}
-use lib.Ieee.{Float, nan}
-use Rattle.numbers.specs.Numbers.{at, entry, grid}
+use lib.Ieee.{Float}
+use Rattle.numbers.specs.Numbers.{at, entry}
 use Rattle.numbers.proofs.Cases.{lt-or-ge}
 use Rattle.numbers.proofs.Lists.{grid-of, matrix-same, index-lt, row_fits}
-use Rattle.workspace.specs.Readings.{vec, mat, stack, Block, Loaded, Stacked}
+use Rattle.workspace.specs.Readings.{mat, stack, Block, Loaded, Stacked}
 use Rattle.workspace.proofs.Readings.{mat-is, length-mat, entry-mat, length-stack, entry_stack}
 
 -- ---- columns of height 18: after t turns the first t columns at o, of m entries each, are f 0, f 1, ..

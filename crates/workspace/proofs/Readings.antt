@@ -5,13 +5,13 @@ use mathlib.Core.List.{List}
 use Prim.Native.Nat.{ℕ, ◌+◌, ◌*◌, ◌≤◌, ◌<◌}
 use native.Mathlib.Nat.{add_assoc, zero-add}
 use native.Mathlib.Omega.{arith}
-use lib.ListN.{length, get_or, set, drop, length-set}
+use lib.ListN.{length, set, drop, length-set}
 use lib.Seq.{get_or-set_same, get_or-set_other, get_or-drop}
 use lib.Count.{count_trailing_zeros}
 use lib.Ieee.{Float, nan, binary64, neg, of_bits, of_fields, units, odd, round, size, span, climb}
 use Rattle.numbers.specs.Numbers.{+0, -0, one, at, nth, tab, entry, rows, grid, row, column, transposed}
 use Rattle.numbers.proofs.Cases.{eq-or-ne}
-use Rattle.numbers.proofs.Lists.{length-tab, get_d-tab, tab-same, tab-of, rows_same, grid-same, length-rows, length-grid, entry-rows, entry-grid, entry-transposed}
+use Rattle.numbers.proofs.Lists.{length-tab, get_d-tab, tab-same, tab-of, rows_same, grid-same, length-rows, length-grid, entry-rows, entry-grid}
 use Rattle.workspace.specs.Readings.{vec, mat, stack, nums}
 
 -- ---- the code's literals

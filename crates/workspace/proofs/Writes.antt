@@ -7,8 +7,8 @@ use native.Mathlib.Nat.{zero-add}
 use native.Mathlib.Omega.{arith}
 use lib.ListN.{length, get_or, set}
 use lib.Seq.{get_or-set_same, get_or-set_other}
-use lib.Ieee.{Float, nan}
-use Rattle.numbers.specs.Numbers.{at, nth, tab}
+use lib.Ieee.{Float}
+use Rattle.numbers.specs.Numbers.{tab}
 use Rattle.numbers.proofs.Cases.{lt-or-ge}
 use Rattle.numbers.proofs.Lists.{tab-of}
 use Rattle.workspace.specs.Readings.{vec, nums, Written, Block, Span}

@@ -12,7 +12,7 @@ ghost use Rattle.workspace.specs.Readings.{vec, mat, stack, nums, Block, Span, L
 pub const NOWHERE: u32 = 4294967295;
 
 // Why a call is refused, some with a place: a column, an equality, a meter or a variable.
-#[derive(Clone, Copy)]
+#[derive(Clone, Copy, Debug, PartialEq, Eq)]
 pub enum Refusal {
     Size,
     Length,
@@ -91,22 +91,13 @@ impl Refusal {
     }
 }
 
-// What an operation answers that tells nothing beside its outputs.
-#[derive(Clone, Copy)]
-pub enum Outcome {
-    Done,
-    Refused(Refusal),
-}
-
-impl Outcome {
-    // 0 where it is done, else the refusal's number.
-    pub fn number(self) -> u32
-        ensures { result ≡ outcome_number self }
-    {
-        match self {
-            Outcome::Done => 0,
-            Outcome::Refused(r) => r.number(),
-        }
+// 0 where an operation is done, else the refusal's number.
+pub fn outcome_number(answer: Result<(), Refusal>) -> u32
+    ensures { result ≡ outcome_number answer }
+{
+    match answer {
+        Ok(()) => 0,
+        Err(why) => why.number(),
     }
 }
 

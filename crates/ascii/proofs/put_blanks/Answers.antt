@@ -1,37 +1,12 @@
--- `put_blanks`: after i turns i blanks are written.
-use mathlib.Core.Path.{refl}
+-- `put_blanks`: the blanks in one piece.
+use mathlib.Core.Path.{◌≡◌}
+use Prim.Native.Nat.{◌+◌, ◌-◌}
 use native.Mathlib.Omega.{arith}
-use lib.ListN.{length-set}
-use Rattle.ascii.proofs.Writing.{text-none, row_more, row-end}
+use lib.ListN.{length, length-replicate, length-drop, length-take, replicate, take, drop}
+use Rattle.ascii.proofs.Writing.{wrote_part}
 use Rattle.ascii.proofs.put_blanks.Goals as goal
 
-pub loop-i-init : goal.loop-i-init
-loop-i-init c = (omega arith, text-none _ _ _, refl)
-
-pub overflow_add-out : goal.overflow_add-out
-overflow_add-out c = omega arith
-
-pub bounds-out-at : goal.bounds-out-at
-bounds-out-at c = omega (arith, c.loop-i.invariant.2)
-
-pub overflow_step-i : goal.overflow_step-i
-overflow_step-i c = omega arith
-
-pub loop-i-smaller : goal.loop-i-smaller
-loop-i-smaller c = omega arith
-
-pub loop-i-preserved : goal.loop-i-preserved
-loop-i-preserved c = let l = c.loop-i in
-    let a = c.args in
-    (omega arith, row_more a.at a.n 32 l.i (omega arith) (omega (arith, l.invariant.2)) l.invariant.1, simp length-set l.invariant.2)
-
-pub overflow_add-result : goal.overflow_add-result
-overflow_add-result c = omega arith
-
-pub shape_of-out : goal.shape_of-out
-shape_of-out c = c.loop-i.invariant.2
-
 pub returns : goal.returns
-returns c = let l = c.loop-i in
-    let a = c.args in
-    row-end a.at a.n 32 l.i (omega arith) (omega arith) (omega arith) l.invariant.1
+returns c = let a = c.args in
+    let n : length (take (a.at + a.n - a.at) (drop a.at a.out.now)) ≡ a.n = rw (length-take (a.at + a.n - a.at) (drop a.at a.out.now), length-drop a.at a.out.now) (omega arith) in
+    rw (c.fill.ensures.after (λ y e. e), n) (wrote_part a.out.now (replicate a.n 32) a.at a.n c.requires (length-replicate a.n 32))

@@ -1,9 +1,9 @@
--- `answer_all`: each turn takes a case off the bundle.
-use Rattle.std.proofs.Common.{◌≤◌, ◌-◌, length}
+-- `answer_all`: each turn leaves less of the bundle.
+use lib.ListN.{length}
 use Rattle.cases.proofs.answer_all.Given as goal
 
-abbrev pub invariant-loop-at : goal.invariant-loop-at
-invariant-loop-at l = l.at ≤ length l.bundle
+abbrev pub invariant-loop-rest : goal.invariant-loop-rest
+invariant-loop-rest l = Unit
 
-abbrev pub decreases-loop-at : goal.decreases-loop-at
-decreases-loop-at l = length l.bundle - l.at
+abbrev pub decreases-loop-rest : goal.decreases-loop-rest
+decreases-loop-rest l = length l.rest

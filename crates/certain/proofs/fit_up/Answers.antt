@@ -5,7 +5,7 @@ use mathlib.Core.Path.{◌≡◌, ap, ◌∙◌}
 use Rattle.certain.proofs.fit_up.Goals as goal
 
 pub loop-i-init : goal.loop-i-init
-loop-i-init c = (omega arith, up_none _)
+loop-i-init c = up_none _
 
 pub pull_within-g-requires : goal.pull_within-g-requires
 pull_within-g-requires c = (c.loop-i-test.true, c.requires.1)
@@ -28,15 +28,9 @@ offset_bounds-spreads-i c = omega arith
 pub bounds-spreads-i : goal.bounds-spreads-i
 bounds-spreads-i c = omega (arith, c.requires.0.spreads_long)
 
-pub overflow_add-i : goal.overflow_add-i
-overflow_add-i c = omega arith
-
-pub loop-i-smaller : goal.loop-i-smaller
-loop-i-smaller c = omega arith
-
 pub loop-i-preserved : goal.loop-i-preserved
-loop-i-preserved c = (omega arith, up_more _ _ _ c.fit_term.result _ c.add_up-sum.ensures (c.fit_term.ensures ∙ ap (fit_term _ _ _) c.pull_within-g.ensures) c.loop-i.invariant.1)
+loop-i-preserved c = up_more _ _ _ c.fit_term.result _ c.add_up-sum.ensures (c.fit_term.ensures ∙ ap (fit_term _ _ _) c.pull_within-g.ensures) c.loop-i.invariant
 
 pub returns : goal.returns
 unfolding fit_up
-returns c = let e : c.loop-i.i ≡ c.args.n = omega arith in up_done _ _ _ _ e c.loop-i.invariant.1
+returns c = let e : c.loop-i.i ≡ c.args.n = omega arith in up_done _ _ _ _ e c.loop-i.invariant

@@ -6,7 +6,7 @@ use mathlib.Core.Path.{◌≡◌, ap, ◌∙◌}
 use Rattle.certain.proofs.open_up.Goals as goal
 
 pub loop-j-init : goal.loop-j-init
-loop-j-init c = (omega arith, up_none _)
+loop-j-init c = up_none _
 
 pub row_within-c-requires : goal.row_within-c-requires
 row_within-c-requires c = (λ i l. row_in i _ _ _ _ l c.loop-j-test.true c.requires.0, c.requires.1, row-starts _ _ _ _ c.loop-j-test.true c.requires.0)
@@ -17,15 +17,9 @@ offset_bounds-y-j c = omega arith
 pub bounds-y-j : goal.bounds-y-j
 bounds-y-j c = omega (arith, c.requires.2)
 
-pub overflow_add-j : goal.overflow_add-j
-overflow_add-j c = omega arith
-
-pub loop-j-smaller : goal.loop-j-smaller
-loop-j-smaller c = omega arith
-
 pub loop-j-preserved : goal.loop-j-preserved
-loop-j-preserved c = (omega arith, up_more _ _ _ c.open_term.result _ c.add_up-sum.ensures (c.open_term.ensures ∙ ap (open_term _) c.row_within-c.ensures) c.loop-j.invariant.1)
+loop-j-preserved c = up_more _ _ _ c.open_term.result _ c.add_up-sum.ensures (c.open_term.ensures ∙ ap (open_term _) c.row_within-c.ensures) c.loop-j.invariant
 
 pub returns : goal.returns
 unfolding open_up
-returns c = let e : c.loop-j.j ≡ c.args.m = omega arith in up_done _ _ _ _ e c.loop-j.invariant.1
+returns c = let e : c.loop-j.j ≡ c.args.m = omega arith in up_done _ _ _ _ e c.loop-j.invariant

@@ -3,12 +3,10 @@ use Rattle.std.specs.Prelude.{ℕ, ◌+◌, ◌-◌, ◌*◌, ◌≤◌, ◌≡�
 use Rattle.std.specs.Float.{nan}
 use Rattle.numbers.specs.Numbers.{at, nth, tab}
 use Rattle.workspace.specs.Tables.{Answer, outcome_of, output}
-use Rattle.workspace.specs.declared.Outcome.{Outcome}
-use Rattle.workspace.specs.declared.Outcome.TheVariants.{Done, Refused}
+use Rattle.workspace.specs.Tables.{Outcome}
 use Rattle.settle.specs.Settle.{Measured, Settled, settled}
 use Rattle.settle_call.specs.Promise.{bound_of}
-use Rattle.settle_call.specs.declared.Bounded.{Bounded}
-use Rattle.settle_call.specs.declared.Bounded.TheVariants as bounded
+use Rattle.settle_call.specs.Promise.{Bounded}
 use Rattle.suspect.specs.Suspect.{Tests, still_of, suspect}
 use Rattle.suspect.specs.declared.Finding.{Finding}
 use Rattle.suspect_call.specs.Promise.{numbers_of}
@@ -27,11 +25,6 @@ pub record Counts (n m q : ℕ) : Type 0 where
   pub n16 : n ≤ 16
   pub m16 : m ≤ 16
   pub q16 : q ≤ 16
-
--- p rows of limits, and what each is at least
-pub record Limited (n p : ℕ) (limits least : List Float) : Type 0 where
-  pub ll : length limits ≡ p * n
-  pub lf : length least ≡ p
 
 -- ---- the limits in
 
@@ -98,10 +91,6 @@ pub record Blank (figures : List Float) (signs : List ℕ) : Type 0 where
   pub bs : signs ≡ no_signs
 
 -- ---- volumes and tests together
-
-abbrev pub bounded_outcome : Bounded → Outcome
-bounded_outcome (bounded.Done far) = Done
-bounded_outcome (bounded.Refused r) = Refused r
 
 abbrev pub stills_of : (n : ℕ) → List ℕ → (values x spreads : List Float) → List ℕ
 stills_of n z values x spreads = tab n (λ i. cond (is_stock z i) 0 (still_of (at values i) (at x i) (at spreads i)))

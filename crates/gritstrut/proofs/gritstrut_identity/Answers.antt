@@ -3,20 +3,5 @@ use native.Mathlib.Omega.{arith}
 use Rattle.gritstrut.proofs.Leaves.{write-leaves}
 use Rattle.gritstrut.proofs.gritstrut_identity.Goals as goal
 
-pub identity-answer-requires : goal.identity-answer-requires
-identity-answer-requires c = tt
-
-pub number-requires : goal.number-requires
-number-requires c = tt
-
-pub shape_of-b : goal.shape_of-b
-shape_of-b c = omega arith
-
-pub shape_of-w : goal.shape_of-w
-shape_of-w c = omega arith
-
-pub shape_of-iw : goal.shape_of-iw
-shape_of-iw c = omega arith
-
 pub returns : goal.returns
-returns c = write-leaves _ _ _ _ _ _ _ _ _ c.identity-answer.ensures c.number.ensures
+returns c = write-leaves _ _ _ _ _ _ _ _ _ c.identity-answer.ensures c.outcome_number.ensures

@@ -5,19 +5,13 @@ use Rattle.workspace.specs.Tables.{outcome_number}
 use Rattle.gritstrut.proofs.Leaves.{some-place, no_place}
 use Rattle.gritstrut.proofs.number_with_place.Goals as goal
 
-pub number-number-requires : goal.number-number-requires
-number-number-requires c = tt
-
-pub place-at-requires : goal.place-at-requires
-place-at-requires c = tt
-
-pub returns-in-Done : goal.returns-in-Done
-returns-in-Done c = rw c.in-Done.is (refl, refl)
+pub returns-in-Ok : goal.returns-in-Ok
+returns-in-Ok c = rw c.in-Ok.is (refl, refl)
 
 pub returns-then-at : goal.returns-then-at
-returns-then-at c = let q = c.in-Refused.is in
+returns-then-at c = let q = c.in-Err.is in
     (c.number-number.ensures ∙ ap outcome_number (sym q), some-place _ _ _ _ q c.place-at.ensures (ne_eqb _ _ c.if-at.true))
 
 pub returns-else-at : goal.returns-else-at
-returns-else-at c = let q = c.in-Refused.is in
+returns-else-at c = let q = c.in-Err.is in
     (c.number-number.ensures ∙ ap outcome_number (sym q), no_place _ _ _ _ q c.place-at.ensures (eq-eqb _ _ c.if-at.false))

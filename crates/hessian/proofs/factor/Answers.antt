@@ -1,4 +1,5 @@
 -- `factor`: after i turns L has its first i rows.
+use mathlib.Core.Path.{refl}
 use native.Mathlib.Omega.{arith}
 use borrow.Author.Tests.{not-true, not-false}
 use Rattle.hessian.proofs.Turns.{rows_start, rows_more, rows-bad, rows-good}
@@ -23,7 +24,7 @@ pub returns-then-not-next_row : goal.returns-then-not-next_row
 returns-then-not-next_row c = let a = c.args in
     let l = c.loop-i in
     let k = c.next_row in
-    rows-bad a.n a.b.now l.i l.l k.new.l k.result (omega arith) l.invariant.1 k.ensures (not-true _ c.if-not-next_row.true-raw)
+    record { made = rows-bad a.n a.b.now l.i l.l k.new.l k.result (omega arith) l.invariant.1 k.ensures (not-true _ c.if-not-next_row.true-raw); why = refl }
 
 pub overflow_step-i : goal.overflow_step-i
 overflow_step-i c = omega arith
@@ -41,4 +42,4 @@ pub shape_of-l : goal.shape_of-l
 shape_of-l c = omega arith
 
 pub returns : goal.returns
-returns c = let a = c.args in rows-good a.n a.b.now _ _ (omega arith) c.loop-i.invariant.1
+returns c = let a = c.args in record { made = rows-good a.n a.b.now _ _ (omega arith) c.loop-i.invariant.1; why = tt }

@@ -1,38 +1,16 @@
 -- `factor_into`: L is copied out where all pivots were good.
-use mathlib.Core.Path.{ap, ◌∙◌}
+use mathlib.Core.Path.{◌∙◌}
 use Prim.Native.Nat.{◌*◌}
 use native.Mathlib.Omega.{arith}
-use Rattle.hessian.specs.Hessian.{cholesky}
-use Rattle.hessian.specs.inner.Work.{is_whole}
+use Rattle.std.proofs.lemmas.Result.{err_from_is_err_and}
 use Rattle.hessian.proofs.Parts.{vec-whole}
 use Rattle.hessian.proofs.Turns.{made-bad, made-good}
 use Rattle.hessian.proofs.factor_into.Goals as goal
 
-pub factor-made-requires : goal.factor-made-requires
-factor-made-requires c = (omega arith, omega arith, omega arith)
-
-pub shape_of-l-in_default : goal.shape_of-l-in_default
-shape_of-l-in_default c = omega arith
-
-pub returns-in_default : goal.returns-in_default
-returns-in_default c = let a = c.args in
-    let k = c.factor-made in
-    made-bad (cholesky a.n a.b.now) k.new.l a.out.now (is_whole k.result) k.ensures (ap is_whole c.in_default.is)
-
-pub overflow_mul-n : goal.overflow_mul-n
-overflow_mul-n c = omega arith
-
-pub unload-requires : goal.unload-requires
-unload-requires c = (omega arith, omega arith)
-
-pub shape_of-out : goal.shape_of-out
-shape_of-out c = omega arith
-
-pub shape_of-l : goal.shape_of-l
-shape_of-l c = omega arith
+pub returns-in_err-factor : goal.returns-in_err-factor
+returns-in_err-factor c = let p = err_from_is_err_and c.from_residual.result c.from_residual.ensures.1 in
+    let k = c.in_err-factor.ensures in
+    rw (p.1, p.2) (made-bad _ c.args.out.now _ k.made k.why)
 
 pub returns : goal.returns
-returns c = let a = c.args in
-    let k = c.factor-made in
-    made-good (cholesky a.n a.b.now) k.new.l a.out.now _ (is_whole k.result) k.ensures (ap is_whole c.in-Whole.is)
-    (c.unload.ensures ∙ vec-whole (a.n * a.n) k.new.l (omega arith))
+returns c = let a = c.args in made-good _ c.factor.new.l a.out.now _ c.in_ok-factor.ensures.made (c.unload.ensures ∙ vec-whole (a.n * a.n) c.factor.new.l (omega arith))

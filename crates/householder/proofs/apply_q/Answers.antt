@@ -5,26 +5,20 @@ use Rattle.householder.proofs.Solving.{applying-none, applying-more, applying-do
 use Rattle.householder.proofs.apply_q.Goals as goal
 
 pub loop-i-init : goal.loop-i-init
-loop-i-init c = (omega arith, refl, applying-none _ _ _ _)
-
-pub overflow_sub-i : goal.overflow_sub-i
-overflow_sub-i c = omega arith
+loop-i-init c = (refl, applying-none _ _ _ _)
 
 pub reflect-requires : goal.reflect-requires
 reflect-requires c = omega arith
-
-pub loop-i-smaller : goal.loop-i-smaller
-loop-i-smaller c = omega arith
 
 pub loop-i-preserved : goal.loop-i-preserved
 loop-i-preserved c = let a = c.args in
     let l = c.loop-i in
     let r = c.reflect in
-    (omega arith, r.auto.w ∙ l.invariant.1, applying-more a.m a.k l.i a.o a.w.now l.w _ (omega arith) (omega arith) (omega arith) (omega arith) (omega arith) r.ensures l.invariant.2)
+    (r.auto.w ∙ l.invariant.0, applying-more a.m a.k l.i a.o a.w.now l.w _ (omega arith) (omega arith) (omega arith) (omega arith) (omega arith) r.ensures l.invariant.1)
 
 pub shape_of-w : goal.shape_of-w
-shape_of-w c = c.loop-i.invariant.1
+shape_of-w c = c.loop-i.invariant.0
 
 pub returns : goal.returns
 returns c = let l = c.loop-i in
-    applying-done _ _ l.i _ _ _ (omega arith) l.invariant.2
+    applying-done _ _ l.i _ _ _ (omega arith) l.invariant.1

@@ -1,15 +1,13 @@
 -- `solve_r`: the first i rows are still to be solved.
-use mathlib.Core.Path.{refl}
+use mathlib.Core.Path.{◌≡◌, refl}
+use Prim.Native.Nat.{◌+◌, ◌-◌}
 use native.Mathlib.Omega.{arith}
 use lib.ListN.{length-set}
 use Rattle.householder.proofs.Solving.{solving-none, solving-more, solving-done}
 use Rattle.householder.proofs.solve_r.Goals as goal
 
 pub loop-i-init : goal.loop-i-init
-loop-i-init c = (omega arith, refl, solving-none _ _)
-
-pub overflow_sub-i : goal.overflow_sub-i
-overflow_sub-i c = omega arith
+loop-i-init c = (refl, solving-none _ _)
 
 pub overflow_mul-o : goal.overflow_mul-o
 overflow_mul-o c = omega arith
@@ -56,18 +54,16 @@ offset_bounds-w-i-in-loop-i c = omega arith
 pub bounds-w-i-in-loop-i : goal.bounds-w-i-in-loop-i
 bounds-w-i-in-loop-i c = omega arith
 
-pub loop-i-smaller : goal.loop-i-smaller
-loop-i-smaller c = omega arith
-
 pub loop-i-preserved : goal.loop-i-preserved
 loop-i-preserved c = let a = c.args in
     let l = c.loop-i in
     let d = c.dot_strided-tail in
-    (omega arith, simp length-set l.invariant.1, solving-more a.k l.i a.w.now l.w d.result (omega arith) (omega arith) (omega arith) (omega arith) l.invariant.2 d.ensures)
+    let e : l.i - 1 + 1 ≡ l.i = omega arith in
+    (simp length-set l.invariant.0, solving-more a.k l.i a.w.now l.w d.result (omega arith) (omega arith) (omega arith) (omega arith) l.invariant.1 (rw e at d.ensures))
 
 pub shape_of-w : goal.shape_of-w
-shape_of-w c = c.loop-i.invariant.1
+shape_of-w c = c.loop-i.invariant.0
 
 pub returns : goal.returns
 returns c = let l = c.loop-i in
-    solving-done _ l.i _ _ (omega arith) l.invariant.2
+    solving-done _ l.i _ _ (omega arith) l.invariant.1

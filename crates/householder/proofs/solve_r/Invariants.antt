@@ -1,12 +1,8 @@
 -- `solve_r`: the first i rows are still to be solved.
 use mathlib.Core.Path.{◌≡◌}
-use Prim.Native.Nat.{◌≤◌}
 use lib.ListN.{length}
 use Rattle.householder.proofs.Solving.{SolvingR}
 use Rattle.householder.proofs.solve_r.Given as goal
 
 abbrev pub invariant-loop-i : goal.invariant-loop-i
-invariant-loop-i l = (l.i ≤ l.k) × (length l.w ≡ length l.initial.w) × SolvingR l.k l.i l.initial.w l.w
-
-abbrev pub decreases-loop-i : goal.decreases-loop-i
-decreases-loop-i l = l.i
+invariant-loop-i l = (length l.w ≡ length l.initial.w) × SolvingR l.k l.i l.initial.w l.w

@@ -1,7 +1,7 @@
 -- The products that the kernel sums four at a time, and what its search for the pivot carries from column to column, so that it takes one root for all of them but for near ties.
 -- No promise rests on it: the search is `pivot`.
 -- Definitions only.
-use Rattle.std.specs.Prelude.{◌≡◌, true, false, cond, List, ℕ, ◌+◌, ◌*◌, negsuc, Float}
+use Rattle.std.specs.Prelude.{◌≡◌, true, false, cond, List, ℕ, ◌+◌, ◌*◌, negsuc, Float, Option, None, Some, ⊤}
 use Rattle.std.specs.Float.{binary64, fin}
 use Rattle.std.specs.Float.Ieee.{lt, le, eq, of_bits}
 use Rattle.numbers.specs.Numbers.{+0, -1, ◌⊗◌, Σ, at}
@@ -12,6 +12,7 @@ use Rattle.workspace.specs.Readings.{mat}
 use Rattle.householder.specs.Qr.{pivot, better, column_norm}
 use Rattle.householder.specs.declared.Candidate.{Candidate}
 use Rattle.householder.specs.declared.search.Lead.{Lead}
+use Rattle.householder.specs.declared.search.Lead.TheVariants.{Squares, Norm}
 use Rattle.householder.specs.declared.Four.{Four}
 use Rattle.householder.specs.inner.Places.{QR_MATRIX}
 
@@ -41,44 +42,54 @@ pub record SureFour (f : Float) (s : Four) : Type 0 where
 abbrev pub squares : (n p : ℕ) → List Float → Float
 squares n p w = product n p p w
 
--- the candidate: its norm is the root of the lead's sum of squares, or is in the sum's place where the root is taken already; and -1 while there is no lead
-abbrev pub shown : Lead → Candidate
-shown l = record { index = l.index; norm = cond l.any (cond l.rooted l.sum (sqrt_of l.sum)) -1 }
+-- the candidate: its norm is the root of the lead's sum of squares, or what the lead holds; and of column k -1 while there is no lead
+abbrev pub shown : ℕ → Option Lead → Candidate
+shown k None = record { index = k; norm = -1 }
+shown k (Some (Squares i s)) = record { index = i; norm = sqrt_of s }
+shown k (Some (Norm c)) = c
 
 -- Column j with the sum of squares s, whose root is its norm, against the lead. A sum that is not above the lead's has no larger root, one that is clearly above has one, and between the two
 -- the roots decide; they do, too, where the lead's is taken already. The first column leads that has a root at all.
-abbrev pub taken : ℕ → Float → Lead
-taken j s = record { index = j; sum = s; any = true; rooted = false }
+abbrev pub taken : ℕ → Float → Option Lead
+taken j s = Some (Squares j s)
 
-abbrev pub weighed : Lead → ℕ → Float → Lead
-weighed old j s =
-    let near-tie = cond (lt (sqrt_of old.sum) (sqrt_of s)) (taken j s) old in
-    let above = cond (lt (old.sum ⊗ gap) s) (taken j s) near-tie in
-    let by-sum = cond (lt old.sum s) above old in
-    let by-root = cond (lt old.sum (sqrt_of s)) (taken j s) old in
-    cond old.any (cond old.rooted by-root by-sum) (cond (le +0 s) (taken j s) old)
+abbrev pub weighed : Option Lead → ℕ → Float → Option Lead
+weighed None j s = cond (le +0 s) (taken j s) None
+weighed (Some (Norm c)) j s = cond (lt c.norm (sqrt_of s)) (taken j s) (Some (Norm c))
+weighed (Some (Squares i v)) j s =
+    let old = taken i v in
+    let near-tie = cond (lt (sqrt_of v) (sqrt_of s)) (taken j s) old in
+    let above = cond (lt (v ⊗ gap) s) (taken j s) near-tie in
+    cond (lt v s) above old
 
--- column j with the norm y, against the lead
-abbrev pub compared : Lead → ℕ → Float → Lead
-compared old j y = cond (lt (shown old).norm y) (record { index = j; sum = y; any = true; rooted = true }) old
+-- column j with the norm y, against the lead of those from k on
+abbrev pub compared : ℕ → Option Lead → ℕ → Float → Option Lead
+compared k old j y = cond (lt (shown k old).norm y) (Some (Norm (record { index = j; norm = y }))) old
 
 -- a lead whose root is not taken has one
-abbrev pub Rooted : Lead → Type 0
-Rooted l = l.any ≡ true → l.rooted ≡ false → lt -1 (sqrt_of l.sum) ≡ true
+abbrev pub Rooted : Option Lead → Type 0
+Rooted None = ⊤
+Rooted (Some (Squares i v)) = lt -1 (sqrt_of v) ≡ true
+Rooted (Some (Norm c)) = ⊤
 
 -- 2 ^ -60: a lead whose sum is that at least is ahead of a column whose sum is at most 2 ^ -80, whatever vanished in it
 abbrev pub clear : Float
 clear = fin false 1 (negsuc 59)
 
+abbrev pub IsAhead : Option Lead → Type 0
+IsAhead None = ⊥
+IsAhead (Some (Squares i v)) = le clear v ≡ true
+IsAhead (Some (Norm c)) = ⊥
+
 -- column j of the kernel's matrix against the lead
-abbrev pub Judged : (m n k j : ℕ) → List Float → Lead → Lead → Type 0
-Judged m n k j w old new = Rooted old → Rooted new × (shown new ≡ better (shown old) (record { index = j; norm = column_norm m n k (mat QR_MATRIX m n w) j }))
+abbrev pub Judged : (m n k j : ℕ) → List Float → Option Lead → Option Lead → Type 0
+Judged m n k j w old new = Rooted old → Rooted new × (shown k new ≡ better (shown k old) (record { index = j; norm = column_norm m n k (mat QR_MATRIX m n w) j }))
 
 -- after t columns from k on the lead is the definition's candidate
-pub record Leads (m n k t : ℕ) (w : List Float) (l : Lead) : Type 0 where
+pub record Leads (m n k t : ℕ) (w : List Float) (l : Option Lead) : Type 0 where
   pub rooted : Rooted l
-  pub best : shown l ≡ pivot m n k (mat QR_MATRIX m n w) t
+  pub best : shown k l ≡ pivot m n k (mat QR_MATRIX m n w) t
 
 -- columns j to j + 3 against the lead
-abbrev pub JudgedFour : (m n k j : ℕ) → List Float → Lead → Lead → Type 0
+abbrev pub JudgedFour : (m n k j : ℕ) → List Float → Option Lead → Option Lead → Type 0
 JudgedFour m n k j w old new = (q : ℕ) → j ≡ k + q * 4 → Leads m n k (q * 4) w old → Leads m n k ((q + 1) * 4) w new

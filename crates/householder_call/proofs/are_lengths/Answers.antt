@@ -20,11 +20,11 @@ pub returns-then-perm-n : goal.returns-then-perm-n
 returns-then-perm-n c = rw (eq-eqb _ _ c.if-a-m.false, eq-eqb _ _ c.if-r-m.false, ne_eqb _ _ c.if-perm-n.true)
 
 pub overflow_mul-c : goal.overflow_mul-c
-overflow_mul-c c = let h : c.smaller-c.result ≤ 18 = omega arith in
+overflow_mul-c c = let h : c.min-c.result ≤ 18 = omega arith in
     omega (arith, mul-le-mul h c.requires.0)
 
 pub returns-then-u-c : goal.returns-then-u-c
-returns-then-u-c c = rw (eq-eqb _ _ c.if-a-m.false, eq-eqb _ _ c.if-r-m.false, eq-eqb _ _ c.if-perm-n.false, ← c.smaller-c.ensures, ne_eqb _ _ c.if-u-c.true)
+returns-then-u-c c = rw (eq-eqb _ _ c.if-a-m.false, eq-eqb _ _ c.if-r-m.false, eq-eqb _ _ c.if-perm-n.false, ← c.min-c.ensures, ne_eqb _ _ c.if-u-c.true)
 
 pub returns : goal.returns
-returns c = rw (eq-eqb _ _ c.if-a-m.false, eq-eqb _ _ c.if-r-m.false, eq-eqb _ _ c.if-perm-n.false, ← c.smaller-c.ensures, eq-eqb _ _ c.if-u-c.false)
+returns c = rw (eq-eqb _ _ c.if-a-m.false, eq-eqb _ _ c.if-r-m.false, eq-eqb _ _ c.if-perm-n.false, ← c.min-c.ensures, eq-eqb _ _ c.if-u-c.false)

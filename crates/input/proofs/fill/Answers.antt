@@ -23,9 +23,9 @@ loop-done-preserved g c =
     let from = c.loop-done.done in
     let room = length c.loop-done.buf - from in
     let within = c.loop-done.invariant.within in
-    let part = slice_range-put_mid from room c.in-Ok.more c.loop-done.buf c.read_some.new.buf within c.in-Ok.ensures.bound.0 in
-    let joined = take_split from (from + c.in-Ok.more) c.loop-done.buf (put_mid from room c.loop-done.buf c.read_some.new.buf) (omega arith) (take-put_mid_below _ _ _ _ _ (le_refl _) within) in
+    let part = slice_range-put_mid from room c.in_ok-more.more c.loop-done.buf c.read_some.new.buf within c.in_ok-more.ensures.bound.0 in
+    let joined = take_split from (from + c.in_ok-more.more) c.loop-done.buf (put_mid from room c.loop-done.buf c.read_some.new.buf) (omega arith) (take-put_mid_below _ _ _ _ _ (le_refl _) within) in
     record {
-      within = omega (arith, c.in-Ok.ensures.bound.0);
-      taken = subst (Consumes _ _) (ap (λ l. take from c.loop-done.buf ++ l) (sym part) ∙ joined) (Consumes-trans _ _ _ _ _ c.loop-done.invariant.taken c.in-Ok.ensures.bytes.0);
+      within = omega (arith, c.in_ok-more.ensures.bound.0);
+      taken = subst (Consumes _ _) (ap (λ l. take from c.loop-done.buf ++ l) (sym part) ∙ joined) (Consumes-trans _ _ _ _ _ c.loop-done.invariant.taken c.in_ok-more.ensures.bytes.0);
     }

@@ -23,29 +23,29 @@ finish-ending-requires c = let a = c.args in
     let N = c.solve_in-e in
     (c.requires.0, c.requires.1, omega (arith, N.auto.w, B.auto.w, c.requires), side₂ a.m a.n a.w.now B.new.w N.new.w a.iw.now N.new.iw N.result c.requires.0 c.requires.1 B.ensures N.ensures)
 
-pub shape_of-w-in-Capped : goal.shape_of-w-in-Capped
-shape_of-w-in-Capped c = c.solve_in-e.auto.w ∙ c.write_side.auto.w
+pub shape_of-w-in-Err : goal.shape_of-w-in-Err
+shape_of-w-in-Err c = c.solve_in-e.auto.w ∙ c.write_side.auto.w
 
-pub shape_of-iw-in-Capped : goal.shape_of-iw-in-Capped
-shape_of-iw-in-Capped c = c.solve_in-e.auto.iw
+pub shape_of-iw-in-Err : goal.shape_of-iw-in-Err
+shape_of-iw-in-Err c = c.solve_in-e.auto.iw
 
-pub returns-in-Capped : goal.returns-in-Capped
-returns-in-Capped c = let a = c.args in
+pub returns-in-Err : goal.returns-in-Err
+returns-in-Err c = let a = c.args in
     let B = c.write_side in
     let N = c.solve_in-e in
     ldp-capped a.m a.n a.w.now B.new.w N.new.w a.iw.now N.new.iw N.result c.requires.0 c.requires.1 B.ensures N.ensures
-    _ _ c.in-Capped.is (distance_in a.m a.n N.new.w)
+    _ c.in-Err.is (distance_in a.m a.n N.new.w)
 
-pub shape_of-w-in-Accepted : goal.shape_of-w-in-Accepted
-shape_of-w-in-Accepted c = c.finish-ending.auto.w ∙ c.solve_in-e.auto.w ∙ c.write_side.auto.w
+pub shape_of-w-in-Ok : goal.shape_of-w-in-Ok
+shape_of-w-in-Ok c = c.finish-ending.auto.w ∙ c.solve_in-e.auto.w ∙ c.write_side.auto.w
 
-pub shape_of-iw-in-Accepted : goal.shape_of-iw-in-Accepted
-shape_of-iw-in-Accepted c = c.solve_in-e.auto.iw
+pub shape_of-iw-in-Ok : goal.shape_of-iw-in-Ok
+shape_of-iw-in-Ok c = c.solve_in-e.auto.iw
 
-pub returns-in-Accepted : goal.returns-in-Accepted
-returns-in-Accepted c = let a = c.args in
+pub returns-in-Ok : goal.returns-in-Ok
+returns-in-Ok c = let a = c.args in
     let B = c.write_side in
     let N = c.solve_in-e in
     let F = c.finish-ending in
     ldp-ended a.m a.n a.w.now B.new.w N.new.w a.iw.now N.new.iw N.result c.requires.0 c.requires.1 B.ensures N.ensures
-    _ _ c.in-Accepted.is F.result (distance_in a.m a.n F.new.w) F.ensures
+    _ c.in-Ok.is F.result (distance_in a.m a.n F.new.w) F.ensures

@@ -8,7 +8,6 @@ use Rattle.lsei.specs.inner.Work.{squares_in}
 use Rattle.workspace.proofs.Parts.{back-get}
 use Rattle.lsei.proofs.Kept.{perm-below}
 use Rattle.lsei.proofs.Together.{ldp-few, deficient-is, columns-most, refused-is, done-is}
-use borrow.Enum.Refused.{opened}
 use Rattle.lsei.proofs.solve_lsi.Goals as goal
 
 pub factor_front-rank-requires : goal.factor_front-rank-requires
@@ -78,9 +77,6 @@ overflow_add-total c = let a = c.args in
     let D = c.solve_ldp-e in
     omega (arith, ldp-few a.n a.mg R.new.w D.new.w D.result (omega (arith, R.auto.w, F.auto.w, c.requires)) D.ensures c.requires.2)
 
-pub enum_told-1 : goal.enum_told-1
-enum_told-1 c = omega arith
-
 pub shape_of-w-in_default : goal.shape_of-w-in_default
 shape_of-w-in_default c = omega arith
 
@@ -92,7 +88,7 @@ returns-in_default c = let a = c.args in
     let F = c.factor_front-rank in
     let R = c.reduce in
     let D = c.solve_ldp-e in
-    refused-is a.n a.me a.mg F.result a.w.now F.new.w F.new.iw c.requires.0 c.requires.1 F.ensures c.if-rank-n.false R.new.w D.new.w D.result (omega (arith, R.auto.w, F.auto.w, c.requires)) R.ensures D.ensures (squares_in a.n a.mg _) (opened c.in_default.in_default-own.keys2)
+    refused-is a.n a.me a.mg F.result a.w.now F.new.w F.new.iw c.requires.0 c.requires.1 F.ensures c.if-rank-n.false R.new.w D.new.w D.result (omega (arith, R.auto.w, F.auto.w, c.requires)) R.ensures D.ensures (squares_in a.n a.mg _) c.in_default.is
 
 pub restore-requires : goal.restore-requires
 restore-requires c = let a = c.args in
@@ -121,4 +117,4 @@ returns c = let a = c.args in
     let D = c.solve_ldp-e in
     let X = c.restore in
     done-is a.n a.me a.mg F.result a.w.now F.new.w F.new.iw c.requires.0 c.requires.1 F.ensures c.if-rank-n.false R.new.w D.new.w D.result (omega (arith, R.auto.w, F.auto.w, c.requires)) R.ensures D.ensures
-    D.new.iw (omega (arith, F.auto.iw, c.requires)) X.new.w X.ensures c.in-Done.is
+    D.new.iw (omega (arith, F.auto.iw, c.requires)) X.new.w X.ensures c.in-Ok.is

@@ -1,14 +1,15 @@
 -- Where the inputs and answers of LDP and LSI stand in the workspace, and what their functions do to it, for the contracts of the kernels. No promise of a public operation rests on these.
-use Rattle.std.specs.Prelude.{◌≡◌, List, ℕ, ◌+◌, ◌*◌, ◌<◌, ◌≤◌, Float}
-use Rattle.numbers.specs.Numbers.{at, nth, tab, gather, Σ, ◌⊖◌, ◌⊗◌}
-use Rattle.workspace.specs.Tables.{Answer, done, rank_deficient, dependent, infeasible, iteration_cap}
-use Rattle.workspace.specs.Readings.{vec, mat, stack, nums}
-use Rattle.householder.specs.Qr.{Factors, factor, apply_qt, solve_rt}
+use Rattle.std.specs.Prelude.{◌≡◌, List, ℕ, ◌+◌, ◌*◌, ◌<◌, ◌≤◌, Float, Result, Ok, Err, ⊤}
+use Rattle.numbers.specs.Numbers.{at, nth, tab, Σ, ◌⊖◌, ◌⊗◌}
+use Rattle.workspace.specs.Tables.{Answer, done, refused}
+use Rattle.workspace.specs.Readings.{vec, mat, stack}
+use Rattle.householder.specs.Qr.{factor, apply_qt, solve_rt}
 use Rattle.householder.specs.inner.Work.{held}
 use Rattle.nnls.specs.Counted.{Counted}
 use Rattle.lsei.specs.Lsei.{Solution, reduced_rows, reduced_sides, restored}
-use Rattle.lsei.specs.declared.Ending.{Ending}
-use Rattle.lsei.specs.declared.Ending.TheVariants.{Done, Deficient, Dependent, Infeasible, Capped}
+use Rattle.workspace.specs.declared.Refusal.{Refusal}
+use Rattle.lsei.specs.declared.Unsolved.{Unsolved}
+use Rattle.lsei.specs.declared.Unsolved.TheVariants.{Deficient, Dependent, Infeasible, Capped}
 use Rattle.lsei.specs.declared.Ended.{Ended}
 use Rattle.householder.specs.inner.Places.{QR_MATRIX, QR_SOLUTION}
 use Rattle.lsei.specs.inner.Places.{LDP_MULTIPLIERS, LDP_SIDE, LDP_U, LDP_X, LSI_F, LSI_G, LSI_LDP_X, LSI_MULTIPLIERS, LSI_X}
@@ -17,13 +18,17 @@ use Rattle.lsei.specs.inner.Places.{LDP_MULTIPLIERS, LDP_SIDE, LDP_U, LDP_X, LSI
 abbrev pub residual_in : (m j : ℕ) → List Float → Float
 residual_in m j w = Σ m (λ i. at w (j + i * 18) ⊗ at w (LDP_U + i * 1)) ⊖ at w (LDP_SIDE + j)
 
+-- what a caller is told of it
+abbrev pub refusal_of : Unsolved → Refusal
+refusal_of (Deficient place) = Refusal.Deficient place
+refusal_of (Dependent place) = Refusal.Dependent place
+refusal_of Infeasible = Refusal.Infeasible
+refusal_of Capped = Refusal.Capped
+
 -- an ending, with the solution that it left
-abbrev pub ending_answer : Ending → Solution → Answer Solution
-ending_answer Done s = done s
-ending_answer (Deficient place) s = rank_deficient place
-ending_answer (Dependent place) s = dependent place
-ending_answer Infeasible s = infeasible
-ending_answer Capped s = iteration_cap
+abbrev pub ending_answer : Result ⊤ Unsolved → Solution → Answer Solution
+ending_answer (Ok v) s = done s
+ending_answer (Err u) s = refused (refusal_of u)
 
 abbrev pub ended_solution : Ended → Solution → Counted Solution
 ended_solution e s = record { answer = ending_answer e.ending s; rounds = e.rounds; factorings = e.factorings }

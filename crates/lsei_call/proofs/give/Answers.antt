@@ -2,13 +2,13 @@
 use mathlib.Core.List.{◌++◌}
 use Rattle.workspace.specs.Readings.{vec}
 use Rattle.lsei_call.proofs.Giving.{given-none, given-all}
-use borrow.Enum.Refused.{opened}
+use Rattle.std.proofs.lemmas.Result.{err_from_is_err_and}
 use Rattle.lsei_call.proofs.give.Goals as goal
 
-pub returns-in_default : goal.returns-in_default
-returns-in_default c = let a = c.args in
-    let O = c.outcome in
-    given-none a.ending (record { x = vec a.p a.n a.w.now; multipliers = vec a.q a.c a.w.now ++ vec a.r a.m a.w.now }) O.result a.x.now a.l.now (opened c.in_default.in_default-own.keys2) (O.ensures _)
+pub returns-in_err-ending : goal.returns-in_err-ending
+returns-in_err-ending c = let a = c.args in
+    let p = err_from_is_err_and c.from_residual.result c.from_residual.ensures.1 in
+    rw (p.1, p.2) (given-none a.ending (record { x = vec a.p a.n a.w.now; multipliers = vec a.q a.c a.w.now ++ vec a.r a.m a.w.now }) _ a.x.now a.l.now c.in_err-ending.was)
 
 pub unload-requires : goal.unload-requires
 unload-requires c = let p = c.requires in (p.0, p.3)
@@ -24,4 +24,4 @@ shape_of-l c = c.give_multipliers.auto.l
 
 pub returns : goal.returns
 returns c = let a = c.args in
-    given-all a.ending (record { x = vec a.p a.n a.w.now; multipliers = vec a.q a.c a.w.now ++ vec a.r a.m a.w.now }) a.x.now _ a.l.now _ c.in-Done.is c.unload.ensures c.give_multipliers.ensures
+    given-all a.ending (record { x = vec a.p a.n a.w.now; multipliers = vec a.q a.c a.w.now ++ vec a.r a.m a.w.now }) a.x.now _ a.l.now _ c.in_ok-ending.was c.unload.ensures c.give_multipliers.ensures

@@ -8,7 +8,6 @@ use Rattle.workspace.proofs.Parts.{back-get}
 use Rattle.lsei.proofs.Kept.{perm-below}
 use Rattle.lsei_nullspace.specs.inner.Work.{solution_in}
 use Rattle.lsei_nullspace.proofs.Together.{lsi-few, dependent-is, equalities-most, refused-is, done-is}
-use borrow.Enum.Refused.{opened}
 use Rattle.lsei_nullspace.proofs.solve_lsei.Goals as goal
 
 pub factor_front-rank-requires : goal.factor_front-rank-requires
@@ -86,9 +85,6 @@ overflow_add-total c = let a = c.args in
     let D = c.solve_lsi-e in
     omega (arith, lsi-few (a.n - a.mc) a.me a.mg R.new.w D.new.w D.result (omega (arith, R.auto.w, F.auto.w, c.requires)) D.ensures c.requires.3)
 
-pub enum_told-1 : goal.enum_told-1
-enum_told-1 c = omega arith
-
 pub shape_of-w-in_default : goal.shape_of-w-in_default
 shape_of-w-in_default c = omega arith
 
@@ -101,7 +97,7 @@ returns-in_default c = let a = c.args in
     let R = c.reduce in
     let D = c.solve_lsi-e in
     refused-is a.n a.mc a.me a.mg F.result a.w.now F.new.w F.new.iw c.requires.0 c.requires.1 c.requires.2 c.requires.3 F.ensures
-    c.if-rank-mc.false R.new.w D.new.w D.result (omega (arith, R.auto.w, F.auto.w, c.requires)) R.ensures D.ensures (solution_in a.n a.mc a.mg _) (opened c.in_default.in_default-own.keys2)
+    c.if-rank-mc.false R.new.w D.new.w D.result (omega (arith, R.auto.w, F.auto.w, c.requires)) R.ensures D.ensures (solution_in a.n a.mc a.mg _) c.in_default.is
 
 pub complete-requires : goal.complete-requires
 complete-requires c = let a = c.args in
@@ -135,4 +131,4 @@ returns c = let a = c.args in
     let D = c.solve_lsi-e in
     let X = c.complete in
     done-is a.n a.mc a.me a.mg F.result a.w.now F.new.w F.new.iw c.requires.0 c.requires.1 c.requires.2 c.requires.3 F.ensures
-    c.if-rank-mc.false R.new.w D.new.w D.result (omega (arith, R.auto.w, F.auto.w, c.requires)) R.ensures D.ensures D.new.iw (omega (arith, F.auto.iw, c.requires)) X.new.w X.ensures c.in-Done.is
+    c.if-rank-mc.false R.new.w D.new.w D.result (omega (arith, R.auto.w, F.auto.w, c.requires)) R.ensures D.ensures D.new.iw (omega (arith, F.auto.iw, c.requires)) X.new.w X.ensures c.in-Ok.is

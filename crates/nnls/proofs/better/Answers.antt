@@ -1,12 +1,11 @@
 -- `better`, each way out by its tests.
-use mathlib.Core.Logic.{inl, inr}
+use mathlib.Core.Path.{sym, ◌∙◌}
 use lib.Ieee.{of_bits}
-use Rattle.nnls.proofs.Choosing.{stays-passive, stays-rejected, stays-not-above, stays-above, wins-over}
-use Rattle.nnls.proofs.better.Goals.{then-best+else-dual-best, else-best}
+use Rattle.nnls.proofs.Choosing.{stays-passive, stays-rejected, stays-not-above, stays-above, wins}
 use Rattle.nnls.proofs.better.Goals as goal
 
-pub returns-then-dual-best : goal.returns-then-dual-best
-returns-then-dual-best c = stays-above _ _ _ _ _ c.if-best.true c.if-dual-best.true
+pub returns-then-behind : goal.returns-then-behind
+returns-then-behind c = stays-above _ _ _ _ _ (sym c.leads-behind.ensures ∙ c.if-behind.true)
 
 pub returns-then-not-dual : goal.returns-then-not-dual
 unfolding of_bits
@@ -20,5 +19,4 @@ returns-then-rejected-ne0 c = stays-rejected _ _ _ _ _ c.if-rejected-ne0.true
 
 pub returns : goal.returns
 unfolding of_bits
-returns c = wins-over _ _ _ _ _ c.if-passive-ne0.false c.if-rejected-ne0.false c.if-not-dual.false
-    (elim c.if-best.branch [ then-best+else-dual-best w ↦ inr w.if-dual-best.false | else-best w ↦ inl w.if-best.false ])
+returns c = wins _ _ _ _ _ c.if-passive-ne0.false c.if-rejected-ne0.false c.if-not-dual.false (sym c.leads-behind.ensures ∙ c.if-behind.false)

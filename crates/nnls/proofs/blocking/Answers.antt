@@ -1,10 +1,10 @@
 -- `blocking`: after j turns the nearest is the blocking one of the first j columns.
 use native.Mathlib.Omega.{arith}
-use Rattle.nnls.proofs.Blockers.{nearest-none, nearest-more, nearest-some, nearest-free}
+use Rattle.nnls.proofs.Blockers.{nearest-none, nearest-more}
 use Rattle.nnls.proofs.blocking.Goals as goal
 
 pub loop-j-init : goal.loop-j-init
-loop-j-init c = (omega arith, nearest-none _ _ _)
+loop-j-init c = nearest-none _ _ _
 
 pub overflow_add-j : goal.overflow_add-j
 overflow_add-j c = omega arith
@@ -30,19 +30,7 @@ offset_bounds-iw-j c = omega arith
 pub bounds-iw-j : goal.bounds-iw-j
 bounds-iw-j c = omega arith
 
-pub overflow_step-j : goal.overflow_step-j
-overflow_step-j c = omega arith
-
-pub loop-j-smaller : goal.loop-j-smaller
-loop-j-smaller c = omega arith
-
 pub loop-j-preserved : goal.loop-j-preserved
 loop-j-preserved c = let a = c.args in
     let l = c.loop-j in
-    (omega arith, nearest-more a.n a.w.now a.iw.now l.j l.best _ (omega arith) l.invariant.1 c.nearer-best.ensures)
-
-pub returns-then-best : goal.returns-then-best
-returns-then-best c = nearest-some _ _ _ _ _ _ c.loop-j.invariant.1 (omega arith) c.if-best.true
-
-pub returns-else-best : goal.returns-else-best
-returns-else-best c = nearest-free _ _ _ _ _ _ c.loop-j.invariant.1 (omega arith) c.if-best.false
+    nearest-more a.n a.w.now a.iw.now l.j l.best _ (omega arith) l.invariant c.nearer-best.ensures

@@ -1,4 +1,5 @@
 -- `nearer`, each way out by its tests.
+use mathlib.Core.Path.{sym, ◌∙◌}
 use lib.Ieee.{of_bits}
 use Rattle.nnls.proofs.Blockers.{stays_out, stays_up, stays-later, takes-sooner, takes_first}
 use Rattle.nnls.proofs.nearer.Goals as goal
@@ -11,14 +12,14 @@ unfolding of_bits
 returns-then-not-z c = stays_up _ _ _ _ _ c.if-not-z.true
 
 pub returns-then-not-sooner : goal.returns-then-not-sooner
-returns-then-not-sooner c = stays-later _ _ _ _ _ _ c.ratio_of-ratio.ensures c.if-best.true _ c.ranks_before-sooner.ensures
+returns-then-not-sooner c = sym c.in-Some.is ∙ stays-later _ _ _ _ _ _ c.ratio_of-ratio.ensures _ c.in-Some.is _ c.ranks_before-sooner.ensures
     c.if-not-sooner.true
 
 pub returns-else-not-sooner : goal.returns-else-not-sooner
 unfolding of_bits
-returns-else-not-sooner c = takes-sooner _ _ _ _ _ _ c.ratio_of-ratio.ensures c.if-passive-eq0.false c.if-not-z.false _
+returns-else-not-sooner c = takes-sooner _ _ _ _ _ _ c.ratio_of-ratio.ensures c.if-passive-eq0.false c.if-not-z.false _ c.in-Some.is _
     c.ranks_before-sooner.ensures c.if-not-sooner.false
 
-pub returns-else-best : goal.returns-else-best
+pub returns-in_default : goal.returns-in_default
 unfolding of_bits
-returns-else-best c = takes_first _ _ _ _ _ _ c.ratio_of-ratio.ensures c.if-passive-eq0.false c.if-not-z.false c.if-best.false
+returns-in_default c = takes_first _ _ _ _ _ _ c.ratio_of-ratio.ensures c.if-passive-eq0.false c.if-not-z.false c.in_default.is

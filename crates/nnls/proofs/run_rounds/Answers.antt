@@ -5,6 +5,7 @@ use Rattle.nnls.specs.inner.State.{read}
 use Rattle.nnls.proofs.States.{read-copied}
 use Rattle.nnls.proofs.Rounding.{running_none, round-accept, round-capped, look-asked, look-ended, look-again, look-further}
 use borrow.Author.Tests.{not-true, not-false}
+use Rattle.std.proofs.lemmas.Result.{err_from_is_err_and}
 use Rattle.nnls.proofs.run_rounds.Goals as goal
 
 pub loop-c-init : goal.loop-c-init
@@ -46,8 +47,8 @@ copy_down-requires c = let g = c.loop-c.invariant in
 pub slice_bounds-look_back-end : goal.slice_bounds-look_back-end
 slice_bounds-look_back-end c = sym c.loop-c.invariant.3
 
-pub look_back-c-requires : goal.look_back-c-requires
-look_back-c-requires c = let a = c.args in
+pub look_back-requires : goal.look_back-requires
+look_back-requires c = let a = c.args in
     let l = c.loop-c in
     let p = c.one_pass-pass in
     let t = c.turn_all-f in
@@ -58,36 +59,38 @@ look_back-c-requires c = let a = c.args in
     t.result (read a.m a.n t.new.w t.new.iw) (read a.m a.n z.new.w t.new.iw) t.ensures
     (read-copied a.m a.n t.new.w z.new.w c.requires.0 c.requires.1 t.new.iw z.ensures) t.new.iw (omega (arith, t.auto.iw, p.auto.iw, l.invariant.1, c.requires.3)) c.requires.4 refl (omega (arith, l.invariant.3))
 
-pub shape_of-w-then-c : goal.shape_of-w-then-c
-shape_of-w-then-c c = let a = c.args in
+pub shape_of-w-in_err-c : goal.shape_of-w-in_err-c
+shape_of-w-in_err-c c = let a = c.args in
     let l = c.loop-c in
     let p = c.one_pass-pass in
     let t = c.turn_all-f in
     let z = c.copy_down in
     z.auto.w ∙ t.auto.w ∙ p.auto.w ∙ l.invariant.0
 
-pub shape_of-iw-then-c : goal.shape_of-iw-then-c
-shape_of-iw-then-c c = let a = c.args in
+pub shape_of-iw-in_err-c : goal.shape_of-iw-in_err-c
+shape_of-iw-in_err-c c = let a = c.args in
     let l = c.loop-c in
     let p = c.one_pass-pass in
     let t = c.turn_all-f in
     let z = c.copy_down in
     t.auto.iw ∙ p.auto.iw ∙ l.invariant.1
 
-pub returns-then-c : goal.returns-then-c
-returns-then-c c = let a = c.args in
+pub returns-in_err-c : goal.returns-in_err-c
+returns-in_err-c c = let a = c.args in
     let l = c.loop-c in
     let p = c.one_pass-pass in
     let t = c.turn_all-f in
     let z = c.copy_down in
-    look-ended a.m a.n a.k (read a.m a.n a.w.now a.iw.now) (read a.m a.n l.w l.iw)
+    let p₁ = err_from_is_err_and c.from_residual.result c.from_residual.ensures.1 in
+    rw (p₁.1, p₁.2)
+    (look-ended a.m a.n a.k (read a.m a.n a.w.now a.iw.now) (read a.m a.n l.w l.iw)
     l.memory l.c c.requires.1 l.invariant.2 p.result (read a.m a.n p.new.w p.new.iw) p.ensures
     (not-false _ c.if-not-pass.false) c.loop-c-test.true
     t.result (read a.m a.n t.new.w t.new.iw) (read a.m a.n z.new.w t.new.iw) t.ensures
-    (read-copied a.m a.n t.new.w z.new.w c.requires.0 c.requires.1 t.new.iw z.ensures) c.look_back-c.new.memory c.look_back-c.result c.look_back-c.ensures c.if-c.true
+    (read-copied a.m a.n t.new.w z.new.w c.requires.0 c.requires.1 t.new.iw z.ensures) c.look_back.new.memory _ c.in_err-c.ensures)
 
 pub loop-c-smaller : goal.loop-c-smaller
-loop-c-smaller c = let v = look-further _ _ _ _ _ _ _ _ _ c.look_back-c.ensures c.if-c.false in
+loop-c-smaller c = let v = look-further _ _ _ _ _ _ _ _ _ c.in_ok-c.ensures in
     let l = c.loop-c-test.true in
     omega (arith, v, l)
 
@@ -103,8 +106,8 @@ loop-c-preserved c = let a = c.args in
           l.memory l.c c.requires.1 l.invariant.2 p.result (read a.m a.n p.new.w p.new.iw) p.ensures
           (not-false _ c.if-not-pass.false) c.loop-c-test.true
           t.result (read a.m a.n t.new.w t.new.iw) (read a.m a.n z.new.w t.new.iw) t.ensures
-          (read-copied a.m a.n t.new.w z.new.w c.requires.0 c.requires.1 t.new.iw z.ensures) c.look_back-c.new.memory c.look_back-c.result c.look_back-c.ensures c.if-c.false,
-      c.look_back-c.auto.memory ∙ l.invariant.3,
+          (read-copied a.m a.n t.new.w z.new.w c.requires.0 c.requires.1 t.new.iw z.ensures) c.look_back.new.memory _ c.in_ok-c.ensures,
+      c.look_back.auto.memory ∙ l.invariant.3,
     )
 
 pub one_pass-pass-requires-2 : goal.one_pass-pass-requires-2

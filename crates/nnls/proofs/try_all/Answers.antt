@@ -1,9 +1,8 @@
 -- `try_all`: after `count` tries what is left of the pass gives the answer.
-use mathlib.Core.Path.{refl, sym, ap, ◌∙◌}
+use mathlib.Core.Path.{refl, sym, ◌∙◌}
 use native.Mathlib.Omega.{arith}
 use Rattle.workspace.specs.Readings.{vec, nums}
 use Rattle.nnls.specs.inner.State.{read}
-use Rattle.nnls.specs.inner.Work.{trial_of}
 use Rattle.workspace.proofs.Readings.{nth-front}
 use Rattle.nnls.proofs.Passing.{can-try, trying-none, pass-nothing, pass-out, pass-keep, pass-again}
 use Rattle.nnls.proofs.try_all.Goals as goal
@@ -27,16 +26,13 @@ pub returns-in_default : goal.returns-in_default
 returns-in_default c = let a = c.args in
     let l = c.loop-count in
     pass-nothing a.m a.n a.f (read a.m a.n a.w.now a.iw.now) (read a.m a.n l.w l.iw)
-    l.count l.invariant.2 (sym c.choose-trial.ensures ∙ ap trial_of c.in_default.is)
+    l.count l.invariant.2 (sym c.choose-trial.ensures ∙ c.in_default.is)
 
 pub try_column-kept-requires : goal.try_column-kept-requires
 try_column-kept-requires c = let a = c.args in
     let l = c.loop-count in
-    let k = can-try (vec 1338 a.n l.w) (nums 0 a.n l.iw) (nums 66 a.n l.iw) a.n _ (sym c.choose-trial.ensures ∙ ap trial_of c.in-Column.is) in
+    let k = can-try (vec 1338 a.n l.w) (nums 0 a.n l.iw) (nums 66 a.n l.iw) a.n _ (sym c.choose-trial.ensures ∙ c.in-Some.is) in
     (c.requires.0, c.requires.1, k.0, omega (arith, l.invariant.0, c.requires.2), omega (arith, l.invariant.1, c.requires.3), sym (nth-front a.n _ l.iw k.0) ∙ k.1)
-
-pub overflow_add-count : goal.overflow_add-count
-overflow_add-count c = omega arith
 
 pub overflow_add-result-then-kept : goal.overflow_add-result-then-kept
 overflow_add-result-then-kept c = omega arith
@@ -52,12 +48,9 @@ returns-then-kept c = let a = c.args in
     let l = c.loop-count in
     let t = c.try_column-kept in
     pass-keep a.m a.n a.f (read a.m a.n a.w.now a.iw.now) (read a.m a.n l.w l.iw)
-    l.count l.invariant.2 _ (sym c.choose-trial.ensures ∙ ap trial_of c.in-Column.is)
+    l.count l.invariant.2 _ (sym c.choose-trial.ensures ∙ c.in-Some.is)
     c.loop-count-test.true
     t.result (read a.m a.n t.new.w t.new.iw) t.ensures c.if-kept.true
-
-pub loop-count-smaller : goal.loop-count-smaller
-loop-count-smaller c = omega arith
 
 pub loop-count-preserved : goal.loop-count-preserved
 loop-count-preserved c = let a = c.args in
@@ -66,7 +59,7 @@ loop-count-preserved c = let a = c.args in
       t.auto.w ∙ l.invariant.0,
       t.auto.iw ∙ l.invariant.1,
       pass-again a.m a.n a.f (read a.m a.n a.w.now a.iw.now) (read a.m a.n l.w l.iw)
-          l.count l.invariant.2 _ (sym c.choose-trial.ensures ∙ ap trial_of c.in-Column.is)
+          l.count l.invariant.2 _ (sym c.choose-trial.ensures ∙ c.in-Some.is)
           c.loop-count-test.true
           t.result (read a.m a.n t.new.w t.new.iw) t.ensures c.if-kept.false,
     )

@@ -35,12 +35,6 @@ move_all-requires c = omega arith
 pub solve_passive-full-requires : goal.solve_passive-full-requires
 solve_passive-full-requires c = omega arith
 
-pub overflow_add-count : goal.overflow_add-count
-overflow_add-count c = omega arith
-
-pub loop-count-smaller : goal.loop-count-smaller
-loop-count-smaller c = omega arith
-
 pub loop-count-preserved : goal.loop-count-preserved
 loop-count-preserved c = let a = c.args in
     let l = c.loop-count in
@@ -49,7 +43,7 @@ loop-count-preserved c = let a = c.args in
       t.auto.w ∙ v.auto.w ∙ l.invariant.0,
       t.auto.iw ∙ v.auto.iw ∙ l.invariant.1,
       turn-again a.m a.n a.f (read a.m a.n a.w.now a.iw.now) (read a.m a.n l.w l.iw) l.count l.invariant.2 _ _
-          (sym c.blocking-blocker.ensures ∙ ap obstacle_of c.in-At.is)
+          (sym c.blocking-blocker.ensures ∙ ap obstacle_of c.in-Some.is)
           c.loop-count-test.true
           (read a.m a.n v.new.w v.new.iw) (read a.m a.n t.new.w t.new.iw)
           (read-moved a.m a.n _ _ l.w v.new.w l.iw v.new.iw c.requires.0 c.requires.1 v.ensures)

@@ -1,7 +1,7 @@
 -- The residual and the dual, entry by entry, in the part of nonnegative least squares. Definitions only.
 use Rattle.std.specs.Prelude.{List, ℕ, ◌+◌, ◌*◌, set, Float}
 use Rattle.numbers.specs.Numbers.{Σ, at, ◌⊖◌, ◌⊗◌}
-use Rattle.nnls.specs.declared.dual.Four.{Four}
+use Rattle.householder.specs.declared.Four.{Four}
 use Rattle.nnls_passive.specs.inner.Places.{NNLS_RESIDUAL, NNLS_SIDE, NNLS_X}
 
 -- entry i of b - A x, and entry j of A' times the residual that stands there

@@ -1,5 +1,5 @@
 -- A passive set as two numbers, and what a look back at those that are remembered answers. Definitions only.
-use Rattle.std.specs.Prelude.{◌≡◌, true, false, List, ℕ, zero, suc, ◌+◌, ◌-◌, ◌*◌, ◌≤◌, ◌<◌, length}
+use Rattle.std.specs.Prelude.{◌≡◌, Result, Ok, Err, List, ℕ, zero, suc, ◌+◌, ◌-◌, ◌*◌, ◌≤◌, ◌<◌, length}
 use Rattle.numbers.specs.Numbers.{nth}
 use Rattle.nnls.specs.declared.memory.Course.{Course}
 use Rattle.nnls.specs.declared.memory.Counts.{Counts}
@@ -110,14 +110,14 @@ pub record MayFinish (h : List ℕ) (held i past f k : ℕ) : Type 0 where
   pub tried : (t : ℕ) → t < held → nth h (5 * t + 4) ≤ f + 66
 
 -- the set at place i is back: whole periods are counted; or all that is left
-pub data CameBack (h : List ℕ) (held i low high past f k : ℕ) : Course → Type 0 where
-  onward : (r : Counts) → Repeated (past - nth h (5 * i + 2)) (f - nth h (5 * i + 3)) past f k r → CameBack h held i low high past f k (record { past = r.past; factorings = r.factorings; held = 0; low = low; high = high; ended = false })
+pub data CameBack (h : List ℕ) (held i low high past f k : ℕ) : Result Course Counts → Type 0 where
+  onward : (r : Counts) → Repeated (past - nth h (5 * i + 2)) (f - nth h (5 * i + 3)) past f k r → CameBack h held i low high past f k (Ok (record { past = r.past; factorings = r.factorings; held = 0; low = low; high = high }))
   ended : (r : Counts) → Repeated (past - nth h (5 * i + 2)) (f - nth h (5 * i + 3)) past f k r → (t : ℕ) → t < held → nth h (5 * t + 2) ≡ nth h (5 * i + 2) + (k - r.past)
-      → CameBack h held i low high past f k (record { past = k; factorings = r.factorings + nth h (5 * t + 4) - nth h (5 * i + 3); held = 0; low = low; high = high; ended = true })
+      → CameBack h held i low high past f k (Err (record { past = k; factorings = r.factorings + nth h (5 * t + 4) - nth h (5 * i + 3) }))
 
 -- one round more: the set with which it began is remembered, and no more than that; or p is a remembered set
-pub data LookedBack (n k : ℕ) (p : List ℕ) (c : Course) (g f : ℕ) (h h' : List ℕ) : Course → Type 0 where
+pub data LookedBack (n k : ℕ) (p : List ℕ) (c : Course) (g f : ℕ) (h h' : List ℕ) : Result Course Counts → Type 0 where
   goes_on : (held : ℕ) → Recorded c.held c.low c.high c.past c.factorings g h h' held → (low high : ℕ) → (4 ≤ c.past + 1 → Digits n p low high)
-      → LookedBack n k p c g f h h' (record { past = c.past + 1; factorings = f; held = held; low = low; high = high; ended = false })
+      → LookedBack n k p c g f h h' (Ok (record { past = c.past + 1; factorings = f; held = held; low = low; high = high }))
   came_back : (held : ℕ) → Recorded c.held c.low c.high c.past c.factorings g h h' held → (i : ℕ) → i < held → Digits n p (nth h' (5 * i)) (nth h' (5 * i + 1)) → (low high : ℕ) → Digits n p low high
-      → (r : Course) → CameBack h' held i low high (c.past + 1) f k r → LookedBack n k p c g f h h' r
+      → (r : Result Course Counts) → CameBack h' held i low high (c.past + 1) f k r → LookedBack n k p c g f h h' r

@@ -1,47 +1,42 @@
 -- How the kernel's own types read, and what its inner functions do to the state: steps on the way to `Rounded`. Definitions only.
 use Rattle.std.specs.Prelude.{◌≡◌, Bool, true, false, not, cond, ◌&&◌, List, ℕ, ◌≤◌, ◌<◌, eqb, set, Float}
-use Rattle.std.proofs.Math.Option.{Option, none, some}
+use Rattle.std.specs.Prelude.{Option, None, Some}
 use Rattle.std.specs.Float.Ieee.{lt}
 use Rattle.numbers.specs.Numbers.{at, nth}
 use Rattle.workspace.specs.Readings.{vec, nums}
-use Rattle.nnls.specs.Nnls.{above0, up_to0, Obstacle, free, block, ratio_of, ranks_before, move_x, move_p, keeps, PassEnd, kept, ended, Settled}
+use Rattle.nnls.specs.Nnls.{above0, up_to0, Obstacle, free, block, ratio_of, sooner, move_x, move_p, keeps, PassEnd, kept, ended, Settled}
 use Rattle.nnls.specs.inner.State.{State, put, solve_in}
 use Rattle.nnls.specs.declared.Candidate.{Candidate}
-use Rattle.nnls.specs.declared.Trial.{Trial}
-use Rattle.nnls.specs.declared.Trial.TheVariants.{Column, Nothing}
 use Rattle.nnls.specs.declared.Nearest.{Nearest}
-use Rattle.nnls.specs.declared.Blocker.{Blocker}
-use Rattle.nnls.specs.declared.Blocker.TheVariants.{At, Free}
 use Rattle.nnls.specs.declared.Pass.{Pass}
 use Rattle.nnls_passive.specs.inner.Places.{NNLS_X, NNLS_Z}
 
 -- ---- the column to try
 
--- the column that a candidate stands for
-abbrev pub candidate_of : Candidate → Option ℕ
-candidate_of c = cond c.any (some c.index) none
+-- the column of the best so far
+abbrev pub column_of : Option Candidate → Option ℕ
+column_of None = None
+column_of (Some c) = Some c.index
 
-abbrev pub trial_of : Trial → Option ℕ
-trial_of (Column t) = some t
-trial_of Nothing = none
+-- its dual is above v
+abbrev pub leads : Option Candidate → Float → Bool
+leads None v = false
+leads (Some c) v = lt v c.dual
 
--- a candidate against column j, whose dual is v and whose marks are p and rej
-unfoldable pub better_of : Candidate → ℕ → Float → ℕ → ℕ → Candidate
-better_of c j v p rej = cond (eqb p 0 && (eqb rej 0 && (above0 v && not (c.any && lt v c.dual)))) (record { index = j; dual = v; any = true }) c
+-- the best so far against column j, whose dual is v and whose marks are p and rej
+unfoldable pub better_of : Option Candidate → ℕ → Float → ℕ → ℕ → Option Candidate
+better_of c j v p rej = cond (eqb p 0 && (eqb rej 0 && (above0 v && not (leads c v)))) (Some (record { index = j; dual = v })) c
 
 -- ---- the blocking column
 
-abbrev pub nearest_of : Nearest → Obstacle
-nearest_of c = cond c.any (block c.index c.ratio) free
-
-abbrev pub obstacle_of : Blocker → Obstacle
-obstacle_of (At q r) = block q r
-obstacle_of Free = free
+abbrev pub obstacle_of : Option Nearest → Obstacle
+obstacle_of None = free
+obstacle_of (Some c) = block c.index c.ratio
 
 -- the nearest so far against column j, at x and headed for z, with its mark
-unfoldable pub nearer_of : Nearest → ℕ → (x z : Float) → ℕ → Nearest
+unfoldable pub nearer_of : Option Nearest → ℕ → (x z : Float) → ℕ → Option Nearest
 nearer_of c j x z m =
-    cond (not (eqb m 0) && (up_to0 z && not (c.any && not (ranks_before (ratio_of x z) c.ratio)))) (record { index = j; ratio = ratio_of x z; any = true }) c
+    cond (not (eqb m 0) && (up_to0 z && sooner (ratio_of x z) (obstacle_of c))) (Some (record { index = j; ratio = ratio_of x z })) c
 
 -- ---- the state
 

@@ -32,7 +32,7 @@ returns-in_default c = let a = c.args in
     capped a.m a.n _ a.x.now a.w.now q.new.w c.clear.new.w
     a.iw.now q.new.iw c.clear.new.iw q.result c.requires.1
     (q.auto.w ∙ lw) (q.auto.iw ∙ ll)
-    q.ensures c.clear.ensures _ _ c.in_default.is
+    q.ensures c.clear.ensures _ c.in_default.is
 
 pub returns : goal.returns
 returns c = let a = c.args in
@@ -42,4 +42,4 @@ returns c = let a = c.args in
     accepted a.m a.n _ a.x.now a.w.now q.new.w c.clear-2.new.w
     a.iw.now q.new.iw c.clear-2.new.iw q.result c.requires.1
     (q.auto.w ∙ lw) (q.auto.iw ∙ ll)
-    q.ensures c.clear-2.ensures _ _ _ c.unload.ensures c.in-Accepted.is
+    q.ensures c.clear-2.ensures _ _ c.unload.ensures c.in-Ok.is

@@ -2,7 +2,7 @@
 use mathlib.Core.Path.{◌≡◌, sym, subst, ◌∙◌}
 use mathlib.Core.Bool.{false, not, true≢false}
 use lib.Dec.{T}
-use lib.Ieee.{Float, nan, inf, fin, binary64, fits, is_nan, ne}
+use lib.Ieee.{Float, nan, inf, fin, is_nan, ne}
 use lib.Ieee.Compare.{differs_from_itself, nan_differs}
 use Rattle.norms.specs.inner.Patterns.{PatternOf}
 use Rattle.norms.proofs.Patterns.{ranked, ranked-nan}

@@ -2,7 +2,6 @@
 use mathlib.Core.Path.{sym, subst}
 use native.Mathlib.Omega.{arith}
 use lib.Dec.{T}
-use lib.Ieee.{binary64, fits}
 use Rattle.norms.proofs.Powers.{scale_one, scale-two}
 use Rattle.norms.proofs.scale.Goals as goal
 

@@ -1,6 +1,5 @@
 -- `unit_digits` meets its contract: laws of `proofs/Patterns.antt`.
 use mathlib.Core.Path.{sym}
-use Prim.Native.Nat.{◌<◌}
 use native.Mathlib.Omega.{arith}
 use Rattle.norms.proofs.Patterns.{digits_low, digits-high}
 use Rattle.norms.proofs.unit_digits.Goals as goal

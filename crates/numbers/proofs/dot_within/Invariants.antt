@@ -1,11 +1,8 @@
 -- `dot_within`: after k turns t is the sum of the first k products.
 use mathlib.Core.Path.{◌≡◌}
-use Prim.Native.Nat.{◌+◌, ◌≤◌, ◌-◌}
+use Prim.Native.Nat.{◌+◌}
 use Rattle.numbers.specs.Numbers.{Σ, at, ◌⊗◌}
 use Rattle.numbers.proofs.dot_within.Given as goal
 
 abbrev pub invariant-loop-k : goal.invariant-loop-k
-invariant-loop-k l = (l.k ≤ l.n) × (l.t ≡ Σ l.k (λ i. at l.l (l.p + i) ⊗ at l.l (l.q + i)))
-
-abbrev pub decreases-loop-k : goal.decreases-loop-k
-decreases-loop-k l = l.n - l.k
+invariant-loop-k l = l.t ≡ Σ l.k (λ i. at l.l (l.p + i) ⊗ at l.l (l.q + i))

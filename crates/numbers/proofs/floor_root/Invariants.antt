@@ -1,6 +1,6 @@
 -- `floor_root` meets its contract. The loop's invariant is the definition: after pass k, a quarter of `trial` is `floor_root` of the first 2 * k digits.
 use mathlib.Core.Path.{◌≡◌}
-use Prim.Native.Nat.{ℕ, ◌+◌, ◌-◌, ◌*◌, ◌/◌, ◌%◌, ◌^◌, ◌≤◌, ◌<◌}
+use Prim.Native.Nat.{ℕ, ◌+◌, ◌*◌, ◌/◌, ◌%◌, ◌^◌, ◌≤◌, ◌<◌}
 use mir.Syntax.{w64}
 use mir.Val.{of_z}
 use Rattle.numbers.specs.Root.{floor_root}
@@ -16,8 +16,5 @@ Passed m k root rest below =
 abbrev pub Carried : (m k trial rest below : ℕ) → Type 0
 Carried m k trial rest below = (k ≤ 54) × ((trial % 4 ≡ 1) × Passed m k (trial / 4) rest below)
 
-abbrev pub invariant-loop-k : goal.invariant-loop-k
-invariant-loop-k l = Carried l.m l.k (of_z w64 l.trial) (of_z w64 l.rest) l.below
-
-abbrev pub decreases-loop-k : goal.decreases-loop-k
-decreases-loop-k l = 54 - l.k
+abbrev pub invariant-loop : goal.invariant-loop
+invariant-loop l = Carried l.m l.counter (of_z w64 l.trial) (of_z w64 l.rest) l.below

@@ -1,5 +1,5 @@
 -- `read_line`: a meter's by its first word, without its remark.
-use mathlib.Core.Path.{sym, ap, ◌∙◌}
+use mathlib.Core.Path.{sym, ap, ◌∙◌, subst}
 use mathlib.Core.Bool.{not}
 use mathlib.Core.List.{List}
 use Prim.Native.Nat.{ℕ, ◌+◌}
@@ -10,6 +10,10 @@ use Rattle.plant.specs.Lines.{meter_line}
 use Rattle.plant_lines.proofs.MeterLine.{as-text, line-copied, line-meter}
 use Rattle.plant_lines.proofs.Places.{front-told, front_fits, cut-rest}
 use Rattle.plant_lines.proofs.read_line.Goals as goal
+use Rattle.std.specs.Prelude.{Result}
+use Rattle.plant_lines.specs.declared.Given.{Given}
+use Rattle.plant_lines.specs.declared.Wrong.{Wrong}
+use Rattle.plant_lines.specs.Table.{given_told, GivenFits}
 
 pub find_word-w-requires : goal.find_word-w-requires
 find_word-w-requires c = omega arith
@@ -39,5 +43,14 @@ pub read_meter-requires : goal.read_meter-requires
 read_meter-requires c = let l = length-take-le (c.find_word-w.result.end + c.before_remark-n.result) c.args.line.now (cut_fits c.args.line.now c.find_word-w.result.end c.before_remark-n.result c.find_word-w.ensures.high c.before_remark-n.ensures.1) in
     (omega (arith, l), c.requires)
 
-pub returns : goal.returns
-returns c = let a = c.args in let f = c.find_word-w in let n = c.before_remark-n in let m = c.read_meter in record { result_value = (λ ms known. front-told (f.result.end + n.result) a.line.now m.result m.ensures.fits ∙ m.ensures.meter_read ms known ∙ ap (λ (t : List ℕ). meter_line t ms) (cut-rest a.line.now f.result.end n.result n.ensures.0) ∙ line-meter _ _ _ f.ensures.text f.ensures.left c.is_same.result (as-text _ _ c.is_same.ensures) ms (ap not c.if-not-is_same.false)); fits = front_fits (f.result.end + n.result) a.line.now m.result m.ensures.fits }
+pub returns-in-Ok : goal.returns-in-Ok
+returns-in-Ok c = let a = c.args in let f = c.find_word-w in let n = c.before_remark-n in let m = c.read_meter in record {
+  result_value = (λ ms known. ap (λ (q : Result Given Wrong). given_told a.line.now q) (sym c.in-Ok.is) ∙ (front-told (f.result.end + n.result) a.line.now m.result m.ensures.fits ∙ m.ensures.meter_read ms known ∙ ap (λ (t : List ℕ). meter_line t ms) (cut-rest a.line.now f.result.end n.result n.ensures.0) ∙ line-meter _ _ _ f.ensures.text f.ensures.left c.is_same.result (as-text _ _ c.is_same.ensures) ms (ap not c.if-not-is_same.false)));
+  fits = subst (λ (q : Result Given Wrong). GivenFits a.line.now q) c.in-Ok.is (front_fits (f.result.end + n.result) a.line.now m.result m.ensures.fits);
+}
+
+pub returns-in-Err : goal.returns-in-Err
+returns-in-Err c = let a = c.args in let f = c.find_word-w in let n = c.before_remark-n in let m = c.read_meter in record {
+  result_value = (λ ms known. ap (λ (q : Result Given Wrong). given_told a.line.now q) (sym c.in-Err.is) ∙ (front-told (f.result.end + n.result) a.line.now m.result m.ensures.fits ∙ m.ensures.meter_read ms known ∙ ap (λ (t : List ℕ). meter_line t ms) (cut-rest a.line.now f.result.end n.result n.ensures.0) ∙ line-meter _ _ _ f.ensures.text f.ensures.left c.is_same.result (as-text _ _ c.is_same.ensures) ms (ap not c.if-not-is_same.false)));
+  fits = subst (λ (q : Result Given Wrong). GivenFits a.line.now q) c.in-Err.is (front_fits (f.result.end + n.result) a.line.now m.result m.ensures.fits);
+}

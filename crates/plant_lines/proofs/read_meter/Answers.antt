@@ -16,15 +16,6 @@ slice_bounds-meter_number-start c = omega (arith, c.find_word-w.ensures.low, c.f
 pub slice_bounds-meter_number-end : goal.slice_bounds-meter_number-end
 slice_bounds-meter_number-end c = omega (arith, c.find_word-w.ensures.low, c.find_word-w.ensures.high)
 
-pub meter_number-requires : goal.meter_number-requires
-meter_number-requires c = tt
-
-pub enum_known-n : goal.enum_known-n
-enum_known-n c = omega arith
-
-pub enum_told-1 : goal.enum_told-1
-enum_told-1 c = omega arith
-
 pub returns-in_default : goal.returns-in_default
 returns-in_default c = let f = c.find_word-w.ensures in record { meter_read = (λ ms known. meter-not _ _ _ f.text f.left c.meter_number.result c.meter_number.ensures ms c.in_default.is); fits = (f.low, f.high) }
 
@@ -35,13 +26,13 @@ pub offset_bounds-table-n : goal.offset_bounds-table-n
 offset_bounds-table-n c = omega arith
 
 pub bounds-table-n : goal.bounds-table-n
-bounds-table-n c = omega (arith, number_low _ _ (sym c.in-Shows.is ∙ c.meter_number.ensures), c.requires.1)
+bounds-table-n c = omega (arith, number_low _ _ (sym c.in-Some.is ∙ c.meter_number.ensures), c.requires.1)
 
 pub returns-then-table-n-ne0 : goal.returns-then-table-n-ne0
-returns-then-table-n-ne0 c = let f = c.find_word-w.ensures in let l = number_low _ _ (sym c.in-Shows.is ∙ c.meter_number.ensures) in record { meter_read = (λ ms known. meter-given _ _ _ f.text f.left c.meter_number.result c.meter_number.ensures ms _ c.in-Shows.is l c.args.table.now known c.if-table-n-ne0.true); fits = (f.low, f.high) }
+returns-then-table-n-ne0 c = let f = c.find_word-w.ensures in let l = number_low _ _ (sym c.in-Some.is ∙ c.meter_number.ensures) in record { meter_read = (λ ms known. meter-given _ _ _ f.text f.left c.meter_number.result c.meter_number.ensures ms _ c.in-Some.is l c.args.table.now known c.if-table-n-ne0.true); fits = (f.low, f.high) }
 
 pub read_name-requires : goal.read_name-requires
-read_name-requires c = (number_low _ _ (sym c.in-Shows.is ∙ c.meter_number.ensures), c.find_word-w.ensures.high)
+read_name-requires c = (number_low _ _ (sym c.in-Some.is ∙ c.meter_number.ensures), c.find_word-w.ensures.high)
 
 pub returns : goal.returns
-returns c = let f = c.find_word-w.ensures in let l = number_low _ _ (sym c.in-Shows.is ∙ c.meter_number.ensures) in record { meter_read = (λ ms known. meter-new _ _ _ f.text f.left c.meter_number.result c.meter_number.ensures ms _ c.in-Shows.is l c.args.table.now known c.if-table-n-ne0.false _ c.read_name.ensures.name_read); fits = c.read_name.ensures.fits }
+returns c = let f = c.find_word-w.ensures in let l = number_low _ _ (sym c.in-Some.is ∙ c.meter_number.ensures) in record { meter_read = (λ ms known. meter-new _ _ _ f.text f.left c.meter_number.result c.meter_number.ensures ms _ c.in-Some.is l c.args.table.now known c.if-table-n-ne0.false _ c.read_name.ensures.name_read); fits = c.read_name.ensures.fits }

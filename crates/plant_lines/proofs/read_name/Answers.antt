@@ -19,23 +19,14 @@ slice_bounds-judge-start c = omega (arith, c.find_word-w.ensures.low, c.find_wor
 pub slice_bounds-judge-end : goal.slice_bounds-judge-end
 slice_bounds-judge-end c = omega (arith, c.find_word-w.ensures.low, c.find_word-w.ensures.high)
 
-pub judge-requires : goal.judge-requires
-judge-requires c = tt
-
-pub enum_told-1 : goal.enum_told-1
-enum_told-1 c = omega arith
-
-pub enum_told-in-Fine : goal.enum_told-in-Fine
-enum_told-in-Fine c = omega arith
-
 pub read_spread-requires : goal.read_spread-requires
 read_spread-requires c = let a = c.args in
     let f = c.find_word-w in
-    let s = short-fine c.judge.result _ c.judge.ensures.short_if c.in-Fine.is in
+    let s = short-fine c.judge.result _ c.judge.ensures.short_if c.in-Ok.is in
     (c.requires.0, (f.ensures.low, f.ensures.high), omega (arith, s, ap length f.ensures.text, word_size a.line.now a.from f.result f.ensures, f.ensures.low))
 
-pub returns-in-Not : goal.returns-in-Not
-returns-in-Not c = let f = c.find_word-w.ensures in record { name_read = name-not _ _ _ f.text f.left _ c.judge.result c.judge.ensures.value _ c.in-Not.is; fits = (f.low, f.high) }
+pub returns-in-Err : goal.returns-in-Err
+returns-in-Err c = let f = c.find_word-w.ensures in record { name_read = name-not _ _ _ f.text f.left _ c.judge.result c.judge.ensures.value _ c.in-Err.is; fits = (f.low, f.high) }
 
-pub returns-in-Fine : goal.returns-in-Fine
-returns-in-Fine c = let f = c.find_word-w.ensures in record { name_read = name_is _ _ _ f.text f.left _ c.judge.result c.judge.ensures.value c.in-Fine.is _ c.read_spread.ensures.spread_read; fits = c.read_spread.ensures.fits }
+pub returns-in-Ok : goal.returns-in-Ok
+returns-in-Ok c = let f = c.find_word-w.ensures in record { name_read = name_is _ _ _ f.text f.left _ c.judge.result c.judge.ensures.value _ c.in-Ok.is _ c.read_spread.ensures.spread_read; fits = c.read_spread.ensures.fits }

@@ -16,21 +16,12 @@ slice_bounds-above_zero-start c = omega (arith, c.find_word-w.ensures.low, c.fin
 pub slice_bounds-above_zero-end : goal.slice_bounds-above_zero-end
 slice_bounds-above_zero-end c = omega (arith, c.find_word-w.ensures.low, c.find_word-w.ensures.high)
 
-pub above_zero-requires : goal.above_zero-requires
-above_zero-requires c = tt
-
-pub enum_told-1 : goal.enum_told-1
-enum_told-1 c = omega arith
-
-pub enum_told-in_default : goal.enum_told-in_default
-enum_told-in_default c = omega arith
-
 pub returns-in_default : goal.returns-in_default
 returns-in_default c = let f = c.find_word-w.ensures in record { spread_read = spread-not _ _ _ f.text f.left _ _ c.above_zero.result c.above_zero.ensures c.in_default.is; fits = (f.low, f.high) }
 
 pub read_allowed-requires : goal.read_allowed-requires
 read_allowed-requires c = let f = c.find_word-w.ensures in
-    (record { number_low = c.requires.0; name_lies = c.requires.1; name_short = c.requires.2; spread_lies = (f.low, f.high); minutes_low = omega arith }, refl)
+    (record { number_low = c.requires.0; name_lies = c.requires.1; name_short = c.requires.2; spread_lies = (f.low, f.high); minutes_low = tt }, refl)
 
 pub returns : goal.returns
-returns c = let f = c.find_word-w.ensures in record { spread_read = spread-is _ _ _ f.text f.left _ _ c.above_zero.result c.above_zero.ensures _ c.in-Is.is _ c.read_allowed.ensures.allowed_read; fits = c.read_allowed.ensures.fits }
+returns c = let f = c.find_word-w.ensures in record { spread_read = spread-is _ _ _ f.text f.left _ _ c.above_zero.result c.above_zero.ensures _ c.in-Some.is _ c.read_allowed.ensures.allowed_read; fits = c.read_allowed.ensures.fits }

@@ -10,7 +10,7 @@ pub returns-in_default : goal.returns-in_default
 returns-in_default c = let a = c.args in record { wrote = as-text (behind-none a.at _ (still-ever a.allowed a.still c.in_default.is)) (wrote_none a.out.now a.at (omega arith)); upper_bound = omega arith }
 
 pub returns-then-still-longest : goal.returns-then-still-longest
-returns-then-still-longest c = let a = c.args in record { wrote = as-text (behind-none a.at _ (still-short a.allowed _ a.still c.in-Shows.is c.if-still-longest.true)) (wrote_none a.out.now a.at (omega arith)); upper_bound = omega arith }
+returns-then-still-longest c = let a = c.args in record { wrote = as-text (behind-none a.at _ (still-short a.allowed _ a.still c.in-Some.is c.if-still-longest.true)) (wrote_none a.out.now a.at (omega arith)); upper_bound = omega arith }
 
 pub put_also-a-requires : goal.put_also-a-requires
 put_also-a-requires c = (omega (arith, c.requires), omega arith)
@@ -26,4 +26,4 @@ shape_of-out c = omega arith
 
 pub returns : goal.returns
 unfolding ascii tab
-returns c = let a = c.args in record { wrote = as-text (still-long a.at a.allowed _ a.still c.in-Shows.is (omega (arith, c.if-still-longest.false))) (wrote_then c.put_also-a.ensures.wrote (wrote_then c.put_decimal-b.ensures.wrote c.put_text.ensures)); upper_bound = omega (arith, c.put_text.ensures.until, c.put_decimal-b.ensures.upper_bound, c.put_also-a.ensures.upper_bound) }
+returns c = let a = c.args in record { wrote = as-text (still-long a.at a.allowed _ a.still c.in-Some.is (omega (arith, c.if-still-longest.false))) (wrote_then c.put_also-a.ensures.wrote (wrote_then c.put_decimal-b.ensures.wrote c.put_text.ensures)); upper_bound = omega (arith, c.put_text.ensures.until, c.put_decimal-b.ensures.upper_bound, c.put_also-a.ensures.upper_bound) }

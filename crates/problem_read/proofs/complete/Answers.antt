@@ -1,6 +1,5 @@
 -- `complete`: after i turns the first i constraints are whole.
 use mathlib.Core.Path.{◌∙◌, sym}
-use mathlib.Core.Bool.{true}
 use native.Mathlib.Omega.{arith}
 use Rattle.problem_read.specs.inner.Spots.{whole_at}
 use Rattle.problem_read.proofs.Marks.{all_none, all_end, all-stop, all_more}

@@ -1,9 +1,10 @@
 -- `decode`: the first record, then the walk; the tables tell what the definition says.
-use mathlib.Core.Path.{refl, sym, ◌∙◌}
+use mathlib.Core.Path.{refl, sym}
 use native.Mathlib.Omega.{arith}
+use Rattle.std.proofs.lemmas.Result.{err_from_is_err_and}
 use lib.ListN.{take, length-take}
 use Rattle.problem_read.proofs.Heads.{head_in}
-use Rattle.problem_read.proofs.Walks.{decode-short, decode-unsound, decode-large, decode-from, decodes}
+use Rattle.problem_read.proofs.Walks.{decode-short, decode-unread, decode-from, decodes}
 use Rattle.problem_read.proofs.decode.Goals as goal
 
 pub returns-then-bytes-lt16 : goal.returns-then-bytes-lt16
@@ -15,35 +16,20 @@ slice_bounds-first-end c = simp length-take (omega arith)
 pub first-requires : goal.first-requires
 first-requires c = simp length-take (omega arith)
 
-pub enum_told-1 : goal.enum_told-1
-enum_told-1 c = omega arith
-
-pub enum_told-in-TooLarge : goal.enum_told-in-TooLarge
-enum_told-in-TooLarge c = omega arith
-
-pub enum_known-m : goal.enum_known-m
-enum_known-m c = omega arith
-
-pub unmark-requires : goal.unmark-requires
-unmark-requires c = omega arith
+pub returns-in_err-sizes : goal.returns-in_err-sizes
+returns-in_err-sizes c = let a = c.args in
+    let p = err_from_is_err_and c.from_residual.result c.from_residual.ensures.1 in
+    rw (p.1, p.2) (decodes _ _ _ _ _ _ (decode-unread a.bytes.now a.marks.now a.vals.now c.if-bytes-lt16.false _ (sym c.in_err-sizes.ensures)) refl refl)
 
 pub defaults-requires : goal.defaults-requires
-defaults-requires c = let t = head_in (take 16 c.args.bytes.now) _ _ (sym c.first.ensures ∙ c.in-Sizes.is) in (t.some, omega arith)
+defaults-requires c = let t = head_in (take 16 c.args.bytes.now) _ _ (sym c.in_ok-sizes.ensures) in (t.some, omega arith)
 
-pub walk-requires : goal.walk-requires
-walk-requires c = let t = head_in (take 16 c.args.bytes.now) _ _ (sym c.first.ensures ∙ c.in-Sizes.is) in record { in_bounds = (c.if-bytes-lt16.false, t.few, t.most); marks_len = (omega arith, omega arith) }
+pub walk-requires-clause-in_bounds : goal.walk-requires-clause-in_bounds
+walk-requires-clause-in_bounds c = let t = head_in (take 16 c.args.bytes.now) _ _ (sym c.in_ok-sizes.ensures) in (c.if-bytes-lt16.false, t.few, t.most)
 
-pub returns-in-Unsound : goal.returns-in-Unsound
-returns-in-Unsound c = let a = c.args in
-    decodes _ _ _ _ _ _ (decode-unsound a.bytes.now a.marks.now a.vals.now c.if-bytes-lt16.false (sym c.first.ensures ∙ c.in-Unsound.is)) refl refl
-
-pub returns-in-TooLarge : goal.returns-in-TooLarge
-returns-in-TooLarge c = let a = c.args in
-    decodes _ _ _ _ _ _ (decode-large a.bytes.now a.marks.now a.vals.now c.if-bytes-lt16.false (sym c.first.ensures ∙ c.in-TooLarge.is)) refl refl
-
-pub returns-in-Sizes : goal.returns-in-Sizes
-returns-in-Sizes c = let a = c.args in
+pub returns : goal.returns
+returns c = let a = c.args in
     decodes _ _ _ _ _ _
-    (decode-from a.bytes.now a.marks.now a.vals.now c.if-bytes-lt16.false _ _ (sym c.first.ensures ∙ c.in-Sizes.is) _ _ _
+    (decode-from a.bytes.now a.marks.now a.vals.now c.if-bytes-lt16.false _ _ (sym c.in_ok-sizes.ensures) _ _ _
     c.unmark.ensures c.defaults.ensures c.walk.ensures)
     (omega arith) (omega arith)

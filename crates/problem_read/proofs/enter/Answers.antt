@@ -30,10 +30,10 @@ enum_told-1 c = omega arith
 
 pub returns-in_default : goal.returns-in_default
 returns-in_default c = let a = c.args in
-    enter-bad a.m a.n a.r.now a.marks.now a.vals.now (sym c.entry.ensures ∙ c.in_default.is)
+    enter-bad a.sizes.constraints a.sizes.variables a.r.now a.marks.now a.vals.now (sym c.entry.ensures ∙ c.in_default.is)
 
 pub put-requires : goal.put-requires
-put-requires c = let h : c.in-At.p < 592 = entry_in c.args.m c.args.n c.args.r.now _ c.requires.r_len.1 c.requires.r_len.2 (sym c.entry.ensures ∙ c.in-At.is) in
+put-requires c = let h : c.in-Some.p < 592 = entry_in c.args.sizes.constraints c.args.sizes.variables c.args.r.now _ c.requires.r_len.1 c.requires.r_len.2 (sym c.entry.ensures ∙ c.in-Some.is) in
     omega (arith, c.requires, h)
 
 pub shape_of-marks : goal.shape_of-marks
@@ -45,5 +45,5 @@ shape_of-vals c = omega arith
 pub returns : goal.returns
 returns c = let a = c.args in
     c.put.ensures
-    ∙ enter-at a.m a.n a.r.now a.marks.now a.vals.now _ _ _ (sym c.entry.ensures ∙ c.in-At.is) c.mark-k.ensures
+    ∙ enter-at a.sizes.constraints a.sizes.variables a.r.now a.marks.now a.vals.now _ _ _ (sym c.entry.ensures ∙ c.in-Some.is) c.mark-k.ensures
     (c.value-v.ensures ∙ ap (of_bits binary64) c.read_u64.ensures)

@@ -11,7 +11,7 @@ spare_zero-requires c = omega arith
 
 pub returns-then-not-spare_zero : goal.returns-then-not-spare_zero
 returns-then-not-spare_zero c = let a = c.args in
-    entry-spare a.m a.n a.r.now (sym c.spare_zero.ensures ∙ c.if-not-spare_zero.true)
+    entry-spare a.sizes.constraints a.sizes.variables a.r.now (sym c.spare_zero.ensures ∙ c.if-not-spare_zero.true)
 
 pub read_u16-row-requires : goal.read_u16-row-requires
 read_u16-row-requires c = omega arith
@@ -34,4 +34,4 @@ spot_of-requires c = omega arith
 pub returns : goal.returns
 returns c = let a = c.args in
     let z : spare_zero a.r.now ≡ true = sym c.spare_zero.ensures ∙ c.if-not-spare_zero.false in
-    c.spot_of.ensures ∙ rw (c.read_u16-row.ensures, c.read_u16-col.ensures) (entry_at a.m a.n a.r.now z)
+    c.spot_of.ensures ∙ rw (c.read_u16-row.ensures, c.read_u16-col.ensures) (entry_at a.sizes.constraints a.sizes.variables a.r.now z)

@@ -35,11 +35,11 @@ read_u16-requires-2 c = omega arith
 pub overflow_cast-read_u16-2 : goal.overflow_cast-read_u16-2
 overflow_cast-read_u16-2 c = omega arith
 
-pub sizes-requires : goal.sizes-requires
-sizes-requires c = omega arith
+pub sized-requires : goal.sized-requires
+sized-requires c = omega arith
 
 pub returns : goal.returns
-returns c = c.sizes.ensures
+returns c = c.sized.ensures
     ∙ rw (c.read_u16.ensures, c.read_u16-2.ensures)
     (head-sound c.args.r.now c.if-r-ne68.false (sym c.spare_zero.ensures ∙ c.if-not-spare_zero.false)
     (sym c.read_u64.ensures ∙ c.if-read_u64-ne0.false))

@@ -1,6 +1,5 @@
 -- `spot_of`: above the diagonal, and in the area.
 use mathlib.Core.Path.{◌≡◌, sym, ◌∙◌}
-use mathlib.Core.Logic.{⊎_elim}
 use mathlib.Core.Bool.{false, ◌&&◌}
 use native.Mathlib.Omega.{arith}
 use borrow.Author.Tests.{eq-eqb, ne_eqb, lt-ltb, le-ltb}
@@ -20,7 +19,7 @@ area_of-requires c = omega arith
 
 pub within-requires : goal.within-requires
 within-requires c = let a = c.args in
-    let h : Room c.area_of.result = rw c.area_of.ensures (room a.m a.n a.tag c.requires.0 c.requires.1) in
+    let h : Room c.area_of.result = rw c.area_of.ensures (room a.sizes.constraints a.sizes.variables a.tag c.requires.0 c.requires.1) in
     (h.base, h.rows, h.cols)
 
 pub returns : goal.returns
@@ -30,4 +29,4 @@ returns c = let a = c.args in
       | then-tag-eq76+else-row-col w ↦ simp (le-ltb _ _ w.if-row-col.false) (and-false (eqb a.tag 76))
       | else-tag-eq76 w ↦ simp (ne_eqb _ _ w.if-tag-eq76.false)
     ] in
-    c.within.ensures ∙ rw c.area_of.ensures (sym (spot-rest a.m a.n a.tag a.row a.col k))
+    c.within.ensures ∙ rw c.area_of.ensures (sym (spot-rest a.sizes.constraints a.sizes.variables a.tag a.row a.col k))

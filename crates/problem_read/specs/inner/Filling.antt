@@ -1,23 +1,20 @@
 -- How the tables are filled, record by record. Definitions only.
-use Rattle.std.specs.Prelude.{◌≡◌, Bool, true, false, ◌&&◌, List, [], ◌∷◌, ℕ, zero, suc, ◌+◌, ◌-◌, ◌/◌, ◌%◌, ltb, eqb, length, get_or, take, drop, set, Float}
+use Rattle.std.specs.Prelude.{◌≡◌, Bool, true, false, ◌&&◌, List, ℕ, zero, suc, ◌+◌, ◌-◌, ◌/◌, ◌%◌, ltb, eqb, length, get_or, take, set, Float, Option, None, Some, Result, Ok, Err}
 use Rattle.workspace.specs.Tables.{is_dimension, is_constraints}
 use Rattle.step_rows.specs.Problem.{Problem}
-use Rattle.problem_read.specs.declared.Spot.{Spot}
-use Rattle.problem_read.specs.declared.Spot.TheVariants.{Outside, At}
-use Rattle.problem_read.specs.declared.Head.{Head}
-use Rattle.problem_read.specs.declared.Head.TheVariants.{Unsound, TooLarge, Sizes}
-use Rattle.problem_read.specs.declared.Input.{Input}
-use Rattle.problem_read.specs.declared.Input.TheVariants.{Fault, Large, Whole}
 use Rattle.problem_read.specs.Input.{record_tag, record_row, record_column, record_bits, spare_zero, record_at, is_head, all_below, Decoded}
 use Rattle.problem_read.specs.Bits.{number}
 use Rattle.problem_read.specs.Promise.{Decodes}
 use Rattle.problem_read.specs.Tables.{decoded_in}
 use Rattle.problem_read.specs.inner.Spots.{if_spot, spot_of, tag_mark, no_marks, default_values, whole_at}
+use Rattle.problem_read.specs.declared.Sizes.{Sizes}
+use Rattle.problem_read.specs.declared.Unread.{Unread}
+use Rattle.problem_read.specs.declared.Unread.TheVariants.{Fault, Large}
 
 -- ---- one record after the first
 
 -- the place that a record names: none if a spare byte is not zero
-unfoldable pub entry_of : (m n : ℕ) → List ℕ → Spot
+unfoldable pub entry_of : (m n : ℕ) → List ℕ → Option ℕ
 entry_of m n r = if_spot (spare_zero r) (spot_of m n (record_tag r) (record_row r) (record_column r))
 
 -- the tables after it: as they were if it is at fault, or with its entry
@@ -30,9 +27,9 @@ if_entered true a b = a
 if_entered false a b = b
 
 -- a place that is marked already is given already
-unfoldable pub put_at : Spot → ℕ → Float → List ℕ → List Float → Entered
-put_at Outside mark v marks vals = kept marks vals
-put_at (At p) mark v marks vals = if_entered (eqb (get_or marks p 0) 0) (added (set marks p mark) (set vals p v)) (kept marks vals)
+unfoldable pub put_at : Option ℕ → ℕ → Float → List ℕ → List Float → Entered
+put_at None mark v marks vals = kept marks vals
+put_at (Some p) mark v marks vals = if_entered (eqb (get_or marks p 0) 0) (added (set marks p mark) (set vals p v)) (kept marks vals)
 
 unfoldable pub entered : (m n : ℕ) → List ℕ → List ℕ → List Float → Entered
 entered m n r marks vals = put_at (entry_of m n r) (tag_mark (record_tag r)) (number (record_bits r)) marks vals
@@ -44,25 +41,28 @@ entered_by false marks vals = kept marks vals
 
 -- ---- the first record
 
-abbrev pub if_head : Bool → Head → Head → Head
+abbrev pub sized : (m n : ℕ) → Sizes
+sized m n = record { constraints = m; variables = n }
+
+abbrev pub if_head : Bool → Result Sizes Unread → Result Sizes Unread → Result Sizes Unread
 if_head true a b = a
 if_head false a b = b
 
-unfoldable pub sizes_of : (m n : ℕ) → Head
-sizes_of m n = if_head (is_dimension n && is_constraints m) (Sizes m n) TooLarge
+unfoldable pub sizes_of : (m n : ℕ) → Result Sizes Unread
+sizes_of m n = if_head (is_dimension n && is_constraints m) (Ok (sized m n)) (Err Large)
 
-unfoldable pub head_of : List ℕ → Head
-head_of r = if_head (is_head r) (sizes_of (record_row r) (record_column r)) Unsound
+unfoldable pub head_of : List ℕ → Result Sizes Unread
+head_of r = if_head (is_head r) (sizes_of (record_row r) (record_column r)) (Err (Fault 0))
 
 -- ---- the whole input
 
 -- what is answered, and the tables that are left
 pub record Filling : Type 0 where
-  pub answer : Input
+  pub answer : Result Sizes Unread
   pub marks : List ℕ
   pub vals : List Float
 
-abbrev pub filling : Input → List ℕ → List Float → Filling
+abbrev pub filling : Result Sizes Unread → List ℕ → List Float → Filling
 filling r marks vals = record { answer = r; marks = marks; vals = vals }
 
 -- what it says
@@ -74,18 +74,18 @@ if_filling true a b = a
 if_filling false a b = b
 
 abbrev pub on_entered : Entered → ℕ → (List ℕ → List Float → Filling) → Filling
-on_entered (kept marks vals) k f = filling (Fault k) marks vals
+on_entered (kept marks vals) k f = filling (Err (Fault k)) marks vals
 on_entered (added marks vals) k f = f marks vals
 
-abbrev pub on_head : Head → Filling → Filling → ((m n : ℕ) → Filling) → Filling
-on_head Unsound d e f = d
-on_head TooLarge d e f = e
-on_head (Sizes m n) d e f = f m n
+-- without sizes the tables stay as they were
+abbrev pub on_head : Result Sizes Unread → List ℕ → List Float → ((m n : ℕ) → Filling) → Filling
+on_head (Err e) marks vals f = filling (Err e) marks vals
+on_head (Ok s) marks vals f = f s.constraints s.variables
 
 -- after k whole records: a short record, a constraint with no value, or a width with no `I` is at fault at k
 unfoldable pub closing : (m n : ℕ) → List ℕ → ℕ → List ℕ → List Float → Filling
 closing m n bs k marks vals =
-    if_filling (eqb (length bs % 16) 0 && all_below m (whole_at marks)) (filling (Whole m n) marks vals) (filling (Fault k) marks vals)
+    if_filling (eqb (length bs % 16) 0 && all_below m (whole_at marks)) (filling (Ok (sized m n)) marks vals) (filling (Err (Fault k)) marks vals)
 
 -- the records from index k on, of which `left` are whole
 unfoldable pub walk_tables : (m n : ℕ) → List ℕ → (left k : ℕ) → List ℕ → List Float → Filling
@@ -96,11 +96,11 @@ walk_tables m n bs (suc left) k marks vals =
 -- Without a sound first record, or with sizes outside the table, the tables stay as they were.
 unfoldable pub decode_tables : List ℕ → List ℕ → List Float → Filling
 decode_tables bs marks vals =
-    if_filling (ltb (length bs) 16) (filling (Fault 0) marks vals)
-    (on_head (head_of (take 16 bs)) (filling (Fault 0) marks vals) (filling Large marks vals)
+    if_filling (ltb (length bs) 16) (filling (Err (Fault 0)) marks vals)
+    (on_head (head_of (take 16 bs)) marks vals
     (λ m n. walk_tables m n bs (length bs / 16 - 1) 1 no_marks (default_values n)))
 
 -- Nothing is left open: after a fault, too, the tables hold what the records before it gave.
-pub record Fills (bs : List ℕ) (r : Input) (marks marks' : List ℕ) (vals vals' : List Float) : Type 0 where
+pub record Fills (bs : List ℕ) (r : Result Sizes Unread) (marks marks' : List ℕ) (vals vals' : List Float) : Type 0 where
   pub promise : Decodes bs r marks marks' vals vals'
   pub tables : filling r marks' vals' ≡ decode_tables bs marks vals

@@ -1,11 +1,9 @@
 -- How records are told apart in the two tables: the place that each names, its mark, and what a place holds that no record gives.
 -- proofs/Agreement.antt shows that it is what specs/Input.antt says. Definitions only.
-use Rattle.std.specs.Prelude.{Bool, true, false, not, cond, ◌&&◌, ◌||◌, List, ℕ, ◌+◌, ◌*◌, ◌/◌, ◌%◌, ltb, eqb, get_or, replicate, Float}
+use Rattle.std.specs.Prelude.{Bool, true, false, not, cond, ◌&&◌, ◌||◌, List, ℕ, ◌+◌, ◌*◌, ◌/◌, ◌%◌, ltb, eqb, get_or, replicate, Float, Option, None, Some}
 use Rattle.std.specs.Float.{inf}
 use Rattle.numbers.specs.Numbers.{+0, one, tab}
 use Rattle.problem_read.specs.declared.Area.{Area}
-use Rattle.problem_read.specs.declared.Spot.{Spot}
-use Rattle.problem_read.specs.declared.Spot.TheVariants.{Outside, At}
 use Rattle.problem_read.specs.Input.{is}
 use Rattle.problem_read.specs.Tables.{GRADIENT, VALUES, JACOBIAN, LOWER, UPPER, WIDTHS, PLACES}
 
@@ -31,16 +29,16 @@ area_of m n tag =
     (either (is "T" tag) (area UPPER 1 n)
     (area 0 0 0))))))))
 
-abbrev pub if_spot : Bool → Spot → Spot
+abbrev pub if_spot : Bool → Option ℕ → Option ℕ
 if_spot true s = s
-if_spot false s = Outside
+if_spot false s = None
 
 -- the place of (row, column) in an area, or outside
-unfoldable pub spot_in : Area → (row column : ℕ) → Spot
-spot_in b row col = if_spot (ltb row b.rows) (if_spot (ltb col b.cols) (At (b.base + (row * b.cols + col))))
+unfoldable pub spot_in : Area → (row column : ℕ) → Option ℕ
+spot_in b row col = if_spot (ltb row b.rows) (if_spot (ltb col b.cols) (Some (b.base + (row * b.cols + col))))
 
 -- an `L` above the diagonal is outside too
-unfoldable pub spot_of : (m n tag row column : ℕ) → Spot
+unfoldable pub spot_of : (m n tag row column : ℕ) → Option ℕ
 spot_of m n tag row col = if_spot (not (is "L" tag && ltb row col)) (spot_in (area_of m n tag) row col)
 
 -- `I` marks a place with 2, and any other tag with 1

@@ -1,11 +1,7 @@
 -- `row_length`: by the tag.
-use native.Mathlib.Omega.{arith}
 use borrow.Author.Tests.{eq-eqb, ne_eqb}
 use Rattle.problem_write.specs.File.{row_length}
 use Rattle.problem_write.proofs.row_length.Goals as goal
-
-pub overflow_add-result : goal.overflow_add-result
-overflow_add-result c = omega arith
 
 pub returns-then-tag-eq76 : goal.returns-then-tag-eq76
 unfolding row_length

@@ -36,9 +36,6 @@ overflow_add-at c = let a = c.args in let r = band-room a.i a.kind a.value a.wid
 pub write_record-requires-3 : goal.write_record-requires-3
 write_record-requires-3 c = let a = c.args in ((let r = band-room a.i a.kind a.value a.width a.at a.out.now c.if-kind-eq0.false c.if-kind-eq1.false c.requires.0 in let k = c.write_record-2.auto.out in omega (arith, r, k)), c.requires.1, omega arith)
 
-pub overflow_mul-result : goal.overflow_mul-result
-overflow_mul-result c = omega arith
-
 pub overflow_add-result-2 : goal.overflow_add-result-2
 overflow_add-result-2 c = let a = c.args in let r = band-room a.i a.kind a.value a.width a.at a.out.now c.if-kind-eq0.false c.if-kind-eq1.false c.requires.0 in omega (arith, r)
 

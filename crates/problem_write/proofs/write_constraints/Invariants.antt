@@ -4,7 +4,7 @@ use Rattle.problem_write.specs.inner.Work.{Wrote, all_constraints}
 use Rattle.problem_write.proofs.write_constraints.Given as goal
 
 abbrev pub invariant-loop-i : goal.invariant-loop-i
-invariant-loop-i l = (l.i ≤ l.m) × Wrote l.at (all_constraints l.i l.kinds l.values l.widths) l.to l.initial.out l.out
+invariant-loop-i l = (l.i ≤ l.fn.p.m) × Wrote l.at (all_constraints l.i l.fn.p.kinds.now l.fn.p.values.now l.fn.p.widths.now) l.to l.initial.out l.out
 
 abbrev pub decreases-loop-i : goal.decreases-loop-i
-decreases-loop-i l = l.m - l.i
+decreases-loop-i l = l.fn.p.m - l.i

@@ -4,9 +4,6 @@ use native.Mathlib.Omega.{arith}
 use Rattle.problem_write.proofs.Entries.{entry-none, entry-one, entry-room}
 use Rattle.problem_write.proofs.write_entry.Goals as goal
 
-pub missing_bits-requires : goal.missing_bits-requires
-missing_bits-requires c = tt
-
 pub returns-then-bits-missing_bits : goal.returns-then-bits-missing_bits
 returns-then-bits-missing_bits c = let a = c.args in
     entry-none a.tag a.row a.column a.bits a.at a.out.now (c.if-bits-missing_bits.true ∙ c.missing_bits.ensures)

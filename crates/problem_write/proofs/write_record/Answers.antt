@@ -8,35 +8,14 @@ use Rattle.endian.specs.Little.{bytes, placed}
 use Rattle.problem_write.proofs.Writing.{set-set-length, placed-record}
 use Rattle.problem_write.proofs.write_record.Goals as goal
 
-pub bounds-out-at : goal.bounds-out-at
-bounds-out-at c = omega arith
-
-pub overflow_add-out : goal.overflow_add-out
-overflow_add-out c = omega arith
-
 pub bounds-out-at-2 : goal.bounds-out-at-2
 bounds-out-at-2 c = simp length-set (omega arith)
-
-pub overflow_add-at : goal.overflow_add-at
-overflow_add-at c = omega arith
-
-pub overflow_cast-row : goal.overflow_cast-row
-overflow_cast-row c = omega arith
 
 pub write_u16-requires : goal.write_u16-requires
 write_u16-requires c = let a = c.args in let e = set-set-length a.out.now a.at a.tag in omega (arith, e)
 
-pub overflow_add-at-2 : goal.overflow_add-at-2
-overflow_add-at-2 c = omega arith
-
-pub overflow_cast-column : goal.overflow_cast-column
-overflow_cast-column c = omega arith
-
 pub write_u16-requires-2 : goal.write_u16-requires-2
 write_u16-requires-2 c = let a = c.args in let e = set-set-length a.out.now a.at a.tag in let k = c.write_u16.auto.s in omega (arith, e, k)
-
-pub overflow_add-at-3 : goal.overflow_add-at-3
-overflow_add-at-3 c = omega arith
 
 pub write_u16-requires-3 : goal.write_u16-requires-3
 write_u16-requires-3 c = let a = c.args in
@@ -44,9 +23,6 @@ write_u16-requires-3 c = let a = c.args in
     let k = c.write_u16.auto.s in
     let l = c.write_u16-2.auto.s in
     omega (arith, e, k, l)
-
-pub overflow_add-at-4 : goal.overflow_add-at-4
-overflow_add-at-4 c = omega arith
 
 pub write_u64-requires : goal.write_u64-requires
 write_u64-requires c = let a = c.args in

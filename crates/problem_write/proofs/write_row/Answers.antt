@@ -6,25 +6,10 @@ use Rattle.problem_write.proofs.write_row.Goals as goal
 pub loop-j-init : goal.loop-j-init
 loop-j-init c = let a = c.args in (omega arith, row-none a.tag a.row a.from a.xs.now a.at a.out.now)
 
-pub overflow_add-from : goal.overflow_add-from
-overflow_add-from c = omega arith
-
-pub offset_bounds-xs-from : goal.offset_bounds-xs-from
-offset_bounds-xs-from c = omega arith
-
-pub bounds-xs-from : goal.bounds-xs-from
-bounds-xs-from c = omega arith
-
 pub write_entry-to-requires : goal.write_entry-to-requires
 write_entry-to-requires c = let a = c.args in
     let l = c.loop-j in
     (row_next a.tag a.row a.from a.xs.now a.at a.out.now a.k c.requires.0 l.j l.to l.out l.invariant.1 (omega arith), c.requires.1, omega arith)
-
-pub overflow_step-j : goal.overflow_step-j
-overflow_step-j c = omega arith
-
-pub loop-j-smaller : goal.loop-j-smaller
-loop-j-smaller c = omega arith
 
 pub loop-j-preserved : goal.loop-j-preserved
 loop-j-preserved c = let a = c.args in

@@ -32,12 +32,6 @@ write_row-to-requires c = let a = c.args in
       (let f = row_fits a.tag a.rows a.columns a.xs.now t l.i (omega arith) in omega (arith, e, f)),
     )
 
-pub overflow_step-i : goal.overflow_step-i
-overflow_step-i c = omega arith
-
-pub loop-i-smaller : goal.loop-i-smaller
-loop-i-smaller c = omega arith
-
 pub loop-i-preserved : goal.loop-i-preserved
 loop-i-preserved c = let a = c.args in
     let l = c.loop-i in

@@ -2,7 +2,7 @@
 use Rattle.std.specs.Prelude.{ℕ, ◌+◌, Bool, ◌&&◌, List, map, leb, length}
 use Rattle.numbers.specs.Numbers.{nth}
 use Rattle.workspace.specs.declared.Refusal.TheVariants.{Width, Output, Triangle}
-use Rattle.workspace.specs.declared.Outcome.{Outcome}
+use Rattle.workspace.specs.Tables.{Outcome}
 use Rattle.workspace.specs.Tables.{Answer, done, call, test, outcome_of, is_dimension, is_constraints}
 use Rattle.step_call.specs.Promise.{are_kinds, are_widths}
 use Rattle.step_call.specs.Strict.{bounds}

@@ -3,12 +3,13 @@ use mathlib.Core.Path.{◌∙◌}
 use native.Mathlib.Omega.{arith}
 use Rattle.lsei_nullspace.specs.inner.Work.{solution_in}
 use Rattle.reconcile_call.proofs.Answers.{given-none, given-all}
-use borrow.Enum.Refused.{opened}
+use Rattle.std.proofs.lemmas.Result.{err_from_is_err_and}
 use Rattle.reconcile_call.proofs.give.Goals as goal
 
-pub returns-in_default : goal.returns-in_default
-returns-in_default c = let a = c.args in
-    given-none a.n a.ending (solution_in a.n a.m a.n a.w.now) c.outcome.result a.volumes.now a.named.now (opened c.in_default.in_default-own.keys2) (c.outcome.ensures _)
+pub returns-in_err-ending : goal.returns-in_err-ending
+returns-in_err-ending c = let a = c.args in
+    let p = err_from_is_err_and c.from_residual.result c.from_residual.ensures.1 in
+    rw (p.1, p.2) (given-none a.n a.ending (solution_in a.n a.m a.n a.w.now) _ a.volumes.now a.named.now c.in_err-ending.was)
 
 pub unload-requires : goal.unload-requires
 unload-requires c = let p = c.requires in (omega (arith, p.0, p.1), p.2)
@@ -24,4 +25,4 @@ shape_of-named c = c.mark_all.auto.marks
 
 pub returns : goal.returns
 returns c = let a = c.args in
-    given-all a.n a.ending (solution_in a.n a.m a.n a.w.now) a.volumes.now c.unload.new.v a.named.now c.mark_all.new.marks c.in-Done.is c.unload.ensures c.mark_all.ensures
+    given-all a.n a.ending (solution_in a.n a.m a.n a.w.now) a.volumes.now c.unload.new.v a.named.now c.mark_all.new.marks c.in_ok-ending.was c.unload.ensures c.mark_all.ensures

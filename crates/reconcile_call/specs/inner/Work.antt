@@ -1,7 +1,7 @@
 -- What the functions behind the operation take and leave. No promise rests on these.
 use Rattle.std.specs.Prelude.{◌≡◌, List, ℕ, Float}
 use Rattle.workspace.specs.Tables.{Answer, done, outcome_of, output}
-use Rattle.workspace.specs.declared.Outcome.{Outcome}
+use Rattle.workspace.specs.Tables.{Outcome}
 use Rattle.lsei.specs.Lsei.{Solution}
 use Rattle.reconcile.specs.Day.{named}
 use Rattle.reconcile_call.specs.Promise.{meters}

@@ -3,8 +3,8 @@ use Rattle.std.specs.Prelude.{ℕ, suc, ◌≡◌, Bool, true, cond, ◌&&◌, L
 use Rattle.std.specs.Float.{nan}
 use Rattle.numbers.specs.Numbers.{at, nth, tab}
 use Rattle.workspace.specs.declared.Refusal.TheVariants.{Nonfinite}
-use Rattle.workspace.specs.declared.Outcome.{Outcome}
-use Rattle.workspace.specs.declared.Outcome.TheVariants.{Done, Refused}
+use Rattle.workspace.specs.Tables.{Outcome}
+use Rattle.std.specs.Prelude.{Ok, Err}
 use Rattle.search.specs.Places.{PHASE_LOWERED, PHASE_NONE, PHASE_NONFINITE, PHASE_START, SEARCH_ASKED, SEARCH_LEFT, SEARCH_MACHINE, SEARCH_NEW_X, SEARCH_POINT, SEARCH_VALUES, SEARCH_WORDS, SEARCH_X}
 use Rattle.search.specs.Setup.{Setup}
 use Rattle.search.specs.Turn.{clip}
@@ -57,4 +57,4 @@ is_told k n m t = cond (eqb k PHASE_NONE) true (eqb t (wanted_at k n m))
 
 -- the outcome of a state whose first word is k
 abbrev pub outcome_in : ℕ → Outcome
-outcome_in k = cond (eqb k PHASE_NONFINITE) (Refused Nonfinite) Done
+outcome_in k = cond (eqb k PHASE_NONFINITE) (Err Nonfinite) (Ok tt)

@@ -1,20 +1,7 @@
 -- `factor_turn`: the factor was made, or B is reset.
-use native.Mathlib.Omega.{arith}
 use mathlib.Core.Path.{◌∙◌}
 use Rattle.search_open.proofs.Factors.{made-whole, made_none, factors-as, b-fits, b-length, b-vec}
 use Rattle.search_open.proofs.factor_turn.Goals as goal
-
-pub overflow_mul-e : goal.overflow_mul-e
-overflow_mul-e c = omega arith
-
-pub overflow_add-e : goal.overflow_add-e
-overflow_add-e c = omega arith
-
-pub slice_bounds-factor_into-count : goal.slice_bounds-factor_into-count
-slice_bounds-factor_into-count c = omega arith
-
-pub slice_bounds-factor_into-start : goal.slice_bounds-factor_into-start
-slice_bounds-factor_into-start c = omega arith
 
 pub slice_bounds-factor_into-end : goal.slice_bounds-factor_into-end
 slice_bounds-factor_into-end c = b-fits c.args.n c.args.f.now c.requires.2 c.requires.0
@@ -25,18 +12,6 @@ factor_into-made-requires c = (c.requires.2, b-length c.args.n c.args.f.now c.re
 pub reset_turn-requires : goal.reset_turn-requires
 reset_turn-requires c = (c.requires.0, c.requires.1, c.requires.2, c.factor_into-made.auto.out ∙ c.requires.3)
 
-pub shape_of-f-in_default : goal.shape_of-f-in_default
-shape_of-f-in_default c = omega arith
-
-pub shape_of-u-in_default : goal.shape_of-u-in_default
-shape_of-u-in_default c = omega arith
-
-pub shape_of-factor-in_default : goal.shape_of-factor-in_default
-shape_of-factor-in_default c = omega arith
-
-pub shape_of-w-in_default : goal.shape_of-w-in_default
-shape_of-w-in_default c = omega arith
-
 pub returns-in_default : goal.returns-in_default
 returns-in_default c = let a = c.args in
     let k = c.factor_into-made in
@@ -44,17 +19,8 @@ returns-in_default c = let a = c.args in
     factors-as a.n _ _ a.f.now _ a.u.now _ _ (b-vec a.n a.f.now c.requires.2 c.requires.0)
     (made_none a.n _ k.result _ a.f.now _ a.u.now _ _ _ _ k.ensures c.in_default.is r.0 r.1 r.2)
 
-pub shape_of-f : goal.shape_of-f
-shape_of-f c = omega arith
-
-pub shape_of-factor : goal.shape_of-factor
-shape_of-factor c = omega arith
-
-pub shape_of-w : goal.shape_of-w
-shape_of-w c = omega arith
-
 pub returns : goal.returns
 returns c = let a = c.args in
     let k = c.factor_into-made in
     factors-as a.n _ _ a.f.now _ a.u.now _ _ (b-vec a.n a.f.now c.requires.2 c.requires.0)
-    (made-whole a.n _ k.result a.f.now a.u.now _ _ k.ensures c.in-Done.is)
+    (made-whole a.n _ k.result a.f.now a.u.now _ _ k.ensures c.in-Ok.is)

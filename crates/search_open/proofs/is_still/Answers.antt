@@ -7,35 +7,11 @@ use Rattle.search.proofs.Lent.{part_length}
 use Rattle.search_open.proofs.Lines.{still-in}
 use Rattle.search_open.proofs.is_still.Goals as goal
 
-pub overflow_add-e : goal.overflow_add-e
-overflow_add-e c = omega arith
-
-pub slice_bounds-v-count : goal.slice_bounds-v-count
-slice_bounds-v-count c = omega arith
-
-pub slice_bounds-v-start : goal.slice_bounds-v-start
-slice_bounds-v-start c = omega arith
-
-pub slice_bounds-v-end : goal.slice_bounds-v-end
-slice_bounds-v-end c = omega arith
-
-pub slice_bounds-g-count : goal.slice_bounds-g-count
-slice_bounds-g-count c = omega arith
-
-pub slice_bounds-g-start : goal.slice_bounds-g-start
-slice_bounds-g-start c = omega arith
-
-pub slice_bounds-g-end : goal.slice_bounds-g-end
-slice_bounds-g-end c = omega arith
-
 pub dot-requires : goal.dot-requires
 dot-requires c = let r = c.requires.0 in
     let a = c.args in
     let e = part_length 176 (length a.f.now - 176) (length a.f.now - 176) a.f.now refl (omega (arith, r.floats)) in
     (omega (arith, e, r.floats, r.few), omega (arith, c.requires.1))
-
-pub magnitude_of-change-requires : goal.magnitude_of-change-requires
-magnitude_of-change-requires c = tt
 
 pub complementarity_of-complementarity-requires : goal.complementarity_of-complementarity-requires
 complementarity_of-complementarity-requires c = let r = c.requires.0 in

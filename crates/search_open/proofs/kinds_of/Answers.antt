@@ -9,33 +9,12 @@ use Rattle.search_open.proofs.kinds_of.Goals as goal
 pub loop-j-init : goal.loop-j-init
 loop-j-init c = (omega arith, refl, written_none 0 0 _ _)
 
-pub overflow_add-j : goal.overflow_add-j
-overflow_add-j c = omega arith
-
-pub offset_bounds-u-j : goal.offset_bounds-u-j
-offset_bounds-u-j c = omega arith
-
-pub bounds-u-j : goal.bounds-u-j
-bounds-u-j c = omega arith
-
-pub kind_of-requires : goal.kind_of-requires
-kind_of-requires c = kind-in c.args.m c.args.u.now c.loop-j.j c.requires.3 (omega arith)
-
-pub bounds-kinds-j : goal.bounds-kinds-j
-bounds-kinds-j c = omega arith
-
-pub overflow_step-j : goal.overflow_step-j
-overflow_step-j c = omega arith
-
-pub loop-j-smaller : goal.loop-j-smaller
-loop-j-smaller c = omega arith
+pub overflow_cast-kinds : goal.overflow_cast-kinds
+overflow_cast-kinds c = let k = kind-in c.args.m c.args.u.now c.loop-j.j c.requires.3 (omega arith) in omega (arith, k)
 
 pub loop-j-preserved : goal.loop-j-preserved
 loop-j-preserved c = let l = c.loop-j in
-    (omega arith, simp length-set l.invariant.1, written-front 0 l.j _ _ _ _ (omega arith) c.kind_of.ensures l.invariant.2)
-
-pub shape_of-kinds : goal.shape_of-kinds
-shape_of-kinds c = c.loop-j.invariant.1
+    (omega arith, simp length-set l.invariant.1, written-front 0 l.j _ _ _ _ (omega arith) refl l.invariant.2)
 
 pub returns : goal.returns
 returns c = let l = c.loop-j in

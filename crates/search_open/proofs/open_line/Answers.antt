@@ -15,30 +15,6 @@ returns-then-t c = let a = c.args in
     (opens-relaxed a.n a.m a.f.now a.u.now h _ _ a.t (d-length a.n a.m a.f.now a.u.now h a.w.now c.requires.1) (l-length a.n a.m a.f.now a.u.now h a.w.now c.requires.1)
     (ap (λ (x : Float). le x a.t) (sym full_is) ∙ c.if-t.true))
 
-pub overflow_add-a : goal.overflow_add-a
-overflow_add-a c = omega arith
-
-pub overflow_add-e : goal.overflow_add-e
-overflow_add-e c = omega arith
-
-pub slice_bounds-d-count : goal.slice_bounds-d-count
-slice_bounds-d-count c = omega arith
-
-pub slice_bounds-d-start : goal.slice_bounds-d-start
-slice_bounds-d-start c = omega arith
-
-pub slice_bounds-d-end : goal.slice_bounds-d-end
-slice_bounds-d-end c = omega arith
-
-pub slice_bounds-multipliers-count : goal.slice_bounds-multipliers-count
-slice_bounds-multipliers-count c = omega arith
-
-pub slice_bounds-multipliers-start : goal.slice_bounds-multipliers-start
-slice_bounds-multipliers-start c = omega arith
-
-pub slice_bounds-multipliers-end : goal.slice_bounds-multipliers-end
-slice_bounds-multipliers-end c = omega arith
-
 pub is_still-still-requires : goal.is_still-still-requires
 is_still-still-requires c = let a = c.args in
     let h = c.requires.0 in
@@ -48,9 +24,6 @@ pub load-requires : goal.load-requires
 load-requires c = let a = c.args in
     let h = c.requires.0 in
     (omega (arith, l-length a.n a.m a.f.now a.u.now h a.w.now c.requires.1), omega (arith, h.floats, h.constraints))
-
-pub shape_of-f-then-still : goal.shape_of-f-then-still
-shape_of-f-then-still c = omega arith
 
 pub returns-then-still : goal.returns-then-still
 returns-then-still c = let a = c.args in
@@ -79,9 +52,6 @@ set_line-requires c = let a = c.args in
     let e₁ = loaded-laid 96 a.m (take (36 + a.m - 36) (drop 36 a.w.now)) a.f.now _ ll c.load.auto.w (omega (arith, h.floats, h.constraints)) c.load.ensures in
     let e₃ = loaded-laid 64 a.n (take (18 + a.n - 18) (drop 18 a.w.now)) _ _ ld c.load-2.auto.w (omega (arith, z, h.few)) c.load-2.ensures in
     line-ready a.n a.m a.f.now a.u.now h _ _ a.t ld ll _ (line-laid a.n a.m a.f.now a.u.now h _ _ a.t ld ll _ _ _ e₁ c.penalties_into.ensures e₃)
-
-pub shape_of-f : goal.shape_of-f
-shape_of-f c = omega arith
 
 pub returns : goal.returns
 returns c = let a = c.args in

@@ -8,9 +8,6 @@ use Rattle.search.proofs.Lent.{front-size}
 use Rattle.search_open.proofs.Openings.{opens-all, ready-again}
 use Rattle.search_open.proofs.open_turn.Goals as goal
 
-pub factor_room-room-requires : goal.factor_room-room-requires
-factor_room-room-requires c = tt
-
 pub overflow_mul-e : goal.overflow_mul-e
 overflow_mul-e c = omega (arith, (bounds c.args.n c.args.m c.requires.0.few c.requires.0.constraints).1)
 
@@ -58,18 +55,6 @@ open_step-requires c = let a = c.args in
     let lv = k.auto.w ∙ length-take-le (a.n * a.n) a.w.now (omega (arith, b, c.requires.1)) in
     let z = c.step_turn-answer.auto.w ∙ front-size (a.n * a.n) k.new.w a.w.now lv (omega (arith, b, c.requires.1)) in
     (ready-again a.n a.m a.f.now a.u.now h _ _ _ _ k.ensures, omega (arith, c.requires.1, z))
-
-pub shape_of-f : goal.shape_of-f
-shape_of-f c = omega arith
-
-pub shape_of-u : goal.shape_of-u
-shape_of-u c = omega arith
-
-pub shape_of-w : goal.shape_of-w
-shape_of-w c = omega arith
-
-pub shape_of-iw : goal.shape_of-iw
-shape_of-iw c = omega arith
 
 pub returns : goal.returns
 returns c = let a = c.args in

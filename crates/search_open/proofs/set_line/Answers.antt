@@ -12,25 +12,10 @@ use Rattle.search.proofs.Lent.{part_length}
 use Rattle.search_open.proofs.Lines.{accepted, line_set}
 use Rattle.search_open.proofs.set_line.Goals as goal
 
-pub overflow_add-e : goal.overflow_add-e
-overflow_add-e c = omega arith
-
-pub slice_bounds-v-count : goal.slice_bounds-v-count
-slice_bounds-v-count c = omega arith
-
-pub slice_bounds-v-start : goal.slice_bounds-v-start
-slice_bounds-v-start c = omega arith
-
-pub slice_bounds-v-end : goal.slice_bounds-v-end
-slice_bounds-v-end c = omega arith
-
 pub merit_of-merit-requires : goal.merit_of-merit-requires
 merit_of-merit-requires c = let r = c.requires in
     let a = c.args in
     (r.floats, r.words, part_length 128 (a.m + 1) (129 + a.m - 128) a.f.now (omega arith) (omega (arith, r.floats, r.constraints)), r.constraints, r.functions)
-
-pub slope_of-slope-requires : goal.slope_of-slope-requires
-slope_of-slope-requires c = c.requires
 
 pub bounds-f-1 : goal.bounds-f-1
 bounds-f-1 c = omega (arith, c.requires.floats)

@@ -7,36 +7,6 @@ use Rattle.search.proofs.Lent.{part_length}
 use Rattle.search_open.proofs.Lines.{slope-in}
 use Rattle.search_open.proofs.slope_of.Goals as goal
 
-pub overflow_add-e : goal.overflow_add-e
-overflow_add-e c = omega arith
-
-pub slice_bounds-v-count : goal.slice_bounds-v-count
-slice_bounds-v-count c = omega arith
-
-pub slice_bounds-v-start : goal.slice_bounds-v-start
-slice_bounds-v-start c = omega arith
-
-pub slice_bounds-v-end : goal.slice_bounds-v-end
-slice_bounds-v-end c = omega arith
-
-pub slice_bounds-g-count : goal.slice_bounds-g-count
-slice_bounds-g-count c = omega arith
-
-pub slice_bounds-g-start : goal.slice_bounds-g-start
-slice_bounds-g-start c = omega arith
-
-pub slice_bounds-g-end : goal.slice_bounds-g-end
-slice_bounds-g-end c = omega arith
-
-pub slice_bounds-d-count : goal.slice_bounds-d-count
-slice_bounds-d-count c = omega arith
-
-pub slice_bounds-d-start : goal.slice_bounds-d-start
-slice_bounds-d-start c = omega arith
-
-pub slice_bounds-d-end : goal.slice_bounds-d-end
-slice_bounds-d-end c = omega arith
-
 pub dot-along-requires : goal.dot-along-requires
 dot-along-requires c = let r = c.requires in
     let a = c.args in

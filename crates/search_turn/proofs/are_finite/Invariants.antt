@@ -1,11 +1,8 @@
+-- `are_finite`: the numbers that are left decide.
 use mathlib.Core.Path.{◌≡◌}
-use Prim.Native.Nat.{◌-◌, ◌≤◌}
-use lib.ListN.{length, drop}
+use lib.ListN.{drop}
 use Rattle.search.specs.Setup.{are_finite}
 use Rattle.search_turn.proofs.are_finite.Given as goal
 
-abbrev pub invariant-loop-i : goal.invariant-loop-i
-invariant-loop-i l = (l.i ≤ length l.v) × (l.i-end ≡ length l.v) × (are_finite l.v ≡ are_finite (drop l.i l.v))
-
-abbrev pub decreases-loop-i : goal.decreases-loop-i
-decreases-loop-i l = length l.v - l.i
+abbrev pub invariant-loop-x : goal.invariant-loop-x
+invariant-loop-x l = are_finite l.v ≡ are_finite (drop l.x-index l.v)

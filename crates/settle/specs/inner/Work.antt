@@ -1,32 +1,20 @@
 -- What the functions are handed and leave. No promise rests on these.
-use Rattle.std.specs.Prelude.{ℕ, suc, ◌+◌, ◌-◌, ◌*◌, ◌<◌, ◌≤◌, ◌≡◌, Bool, true, false, cond, List, [], leb, ltb, length, replicate, Float}
+use Rattle.std.specs.Prelude.{ℕ, suc, ◌+◌, ◌-◌, ◌*◌, ◌<◌, ◌≤◌, ◌≡◌, Bool, true, false, cond, List, leb, ltb, length, replicate, Float, Result, Ok, Err, ⊤}
 use Rattle.numbers.specs.Numbers.{+0, at, nth}
-use Rattle.workspace.specs.Tables.{Answer, done, rank_deficient, dependent, infeasible, iteration_cap}
+use Rattle.workspace.specs.Tables.{Answer, done, refused}
 use Rattle.workspace.specs.Readings.{vec, stack, nums}
-use Rattle.lsei.specs.Lsei.{Solution}
 use Rattle.lsei.specs.inner.Work.{sides}
-use Rattle.lsei.specs.declared.Ending.{Ending}
-use Rattle.lsei.specs.declared.Ending.TheVariants.{Done, Deficient, Dependent, Infeasible, Capped}
+use Rattle.lsei.specs.inner.Work.{refusal_of}
+use Rattle.lsei.specs.declared.Unsolved.{Unsolved}
+use Rattle.lsei.specs.declared.Unsolved.TheVariants.{Deficient, Dependent, Infeasible, Capped}
 use Rattle.reconcile.specs.Day.{scales}
-use Rattle.settle.specs.Settle.{Measured, Settled, Again, again, none, measured, certified, targets, positives, held_rows, held_sides, without, pinned, pinned_of, next, tries, second, is_kept, is_better, better}
+use Rattle.settle.specs.Settle.{Measured, Settled, Again, again, none, certified, targets, positives, held_rows, held_sides, pinned, pinned_of, next, tries, second, is_kept, is_better, better}
 use Rattle.lsei_nullspace.specs.inner.Places.{LSEI_C, LSEI_X, LSEI_E, LSEI_F, LSEI_G, LSEI_EQUALITY_MULTIPLIERS, LSEI_MULTIPLIERS}
 use Rattle.lsei_nullspace.specs.inner.Work.{solution_in}
-use Rattle.nnls.specs.Counted.{Counted}
 use Rattle.settle.specs.inner.Places.{SETTLE_X, SETTLE_Y, SETTLE_Z, SETTLE_AGAIN_X, SETTLE_AGAIN_Y, SETTLE_AGAIN_Z, SETTLE_HELD, SETTLE_WORDS}
 use Rattle.settle.specs.declared.Standing.{Standing}
 use Rattle.settle.specs.declared.Step.{Step}
 use Rattle.settle.specs.declared.Step.TheVariants.{Found, Let, Stop}
-
--- sizes and lengths are right
-pub record Input (n m p : ℕ) (values spreads balances limits least : List Float) : Type 0 where
-  pub n16 : n ≤ 16
-  pub m16 : m ≤ 16
-  pub p48 : p ≤ 48
-  pub lv : length values ≡ n
-  pub ls : length spreads ≡ n
-  pub lb : length balances ≡ m * n
-  pub ll : length limits ≡ p * n
-  pub lf : length least ≡ p
 
 -- c limits are held, each one of the p
 pub record Held (p c : ℕ) (iw : List ℕ) : Type 0 where
@@ -36,27 +24,27 @@ pub record Held (p c : ℕ) (iw : List ℕ) : Type 0 where
 
 -- ---- the problems in
 
-pub record FirstIn (n m p : ℕ) (values spreads balances limits least w' : List Float) : Type 0 where
-  pub the_c : stack LSEI_C m n w' ≡ balances
-  pub the_d : vec LSEI_X m w' ≡ replicate m +0
-  pub the_e : stack LSEI_E n n w' ≡ scales n spreads
-  pub the_f : vec LSEI_F n w' ≡ targets n values spreads
-  pub the_g : stack LSEI_G p n w' ≡ limits
-  pub the_h : sides LSEI_G p n w' ≡ least
+pub record FirstIn (d : Measured) (w' : List Float) : Type 0 where
+  pub the_c : stack LSEI_C d.m d.n w' ≡ d.balances
+  pub the_d : vec LSEI_X d.m w' ≡ replicate d.m +0
+  pub the_e : stack LSEI_E d.n d.n w' ≡ scales d.n d.spreads
+  pub the_f : vec LSEI_F d.n w' ≡ targets d.n d.values d.spreads
+  pub the_g : stack LSEI_G d.p d.n w' ≡ d.limits
+  pub the_h : sides LSEI_G d.p d.n w' ≡ d.least
 
 -- the rows and sides of those held, behind the m balances
-pub record HeldIn (n m c : ℕ) (limits least : List Float) (iw : List ℕ) (w w' : List Float) : Type 0 where
-  pub rows : (t j : ℕ) → t < c → j < n → at w' (LSEI_C + (m + t) * 18 + j) ≡ at limits (nth iw (SETTLE_HELD + t) * n + j)
-  pub bounds : (t : ℕ) → t < c → at w' (LSEI_X + (m + t)) ≡ at least (nth iw (SETTLE_HELD + t))
-  pub low : (x : ℕ) → x < LSEI_C + m * 18 → at w' x ≡ at w x
-  pub middle : (x : ℕ) → LSEI_X ≤ x → x < LSEI_X + m → at w' x ≡ at w x
+pub record HeldIn (d : Measured) (c : ℕ) (iw : List ℕ) (w w' : List Float) : Type 0 where
+  pub rows : (t j : ℕ) → t < c → j < d.n → at w' (LSEI_C + (d.m + t) * 18 + j) ≡ at d.limits (nth iw (SETTLE_HELD + t) * d.n + j)
+  pub bounds : (t : ℕ) → t < c → at w' (LSEI_X + (d.m + t)) ≡ at d.least (nth iw (SETTLE_HELD + t))
+  pub low : (x : ℕ) → x < LSEI_C + d.m * 18 → at w' x ≡ at w x
+  pub middle : (x : ℕ) → LSEI_X ≤ x → x < LSEI_X + d.m → at w' x ≡ at w x
   pub after : (x : ℕ) → LSEI_E ≤ x → at w' x ≡ at w x
 
-pub record PinnedIn (n m p c : ℕ) (values spreads balances limits least : List Float) (iw : List ℕ) (w w' : List Float) : Type 0 where
-  pub the_c : stack LSEI_C (m + c) n w' ≡ held_rows (measured n m p values spreads balances limits least) c (nums SETTLE_HELD c iw)
-  pub the_d : vec LSEI_X (m + c) w' ≡ held_sides (measured n m p values spreads balances limits least) c (nums SETTLE_HELD c iw)
-  pub the_e : stack LSEI_E n n w' ≡ scales n spreads
-  pub the_f : vec LSEI_F n w' ≡ targets n values spreads
+pub record PinnedIn (d : Measured) (c : ℕ) (iw : List ℕ) (w w' : List Float) : Type 0 where
+  pub the_c : stack LSEI_C (d.m + c) d.n w' ≡ held_rows d c (nums SETTLE_HELD c iw)
+  pub the_d : vec LSEI_X (d.m + c) w' ≡ held_sides d c (nums SETTLE_HELD c iw)
+  pub the_e : stack LSEI_E d.n d.n w' ≡ scales d.n d.spreads
+  pub the_f : vec LSEI_F d.n w' ≡ targets d.n d.values d.spreads
   pub behind : (x : ℕ) → SETTLE_X ≤ x → at w' x ≡ at w x
 
 -- ---- the answers, where they are stored
@@ -92,12 +80,10 @@ first_in d w = stored_at d SETTLE_X w
 abbrev pub again_in : Measured → List Float → Settled
 again_in d w = stored_at d SETTLE_AGAIN_X w
 
-abbrev pub ended_settled : Ending → Settled → Answer Settled
-ended_settled Done s = done s
-ended_settled (Deficient place) s = rank_deficient place
-ended_settled (Dependent place) s = dependent place
-ended_settled Infeasible s = infeasible
-ended_settled Capped s = iteration_cap
+-- the settled volumes by their bound, or the refusal
+abbrev pub settled_by : Result Float Unsolved → (Float → Settled) → Answer Settled
+settled_by (Ok far) s = done (s far)
+settled_by (Err u) s = refused (refusal_of u)
 
 -- LSEI's answer stays while it is worked again
 abbrev pub FirstStays : (w w' : List Float) → Type 0
@@ -109,12 +95,12 @@ pub record AgainStored (d : Measured) (c : ℕ) (iw : List ℕ) (w w' : List Flo
   pub first : FirstStays w w'
 
 -- what an ending comes to
-abbrev pub step_of : ℕ → Ending → Step
-step_of m Done = Found
-step_of m (Dependent place) = cond (leb m place) (Let (place - m)) Stop
-step_of m (Deficient place) = Stop
-step_of m Infeasible = Stop
-step_of m Capped = Stop
+abbrev pub step_of : ℕ → Result ⊤ Unsolved → Step
+step_of m (Ok tt) = Found
+step_of m (Err (Dependent place)) = cond (leb m place) (Let (place - m)) Stop
+step_of m (Err (Deficient place)) = Stop
+step_of m (Err Infeasible) = Stop
+step_of m (Err Capped) = Stop
 
 -- what is still to do gives the answer
 abbrev pub after : Step → Settled → (ℕ → Again) → Again

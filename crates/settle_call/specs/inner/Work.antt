@@ -3,12 +3,10 @@ use Rattle.std.specs.Prelude.{ℕ, ◌+◌, ◌*◌, ◌≡◌, Bool, true, ◌&
 use Rattle.numbers.specs.Numbers.{at}
 use Rattle.workspace.specs.Tables.{Answer, done, call, test, outcome_of, output, is_tolerance, has}
 use Rattle.workspace.specs.declared.Refusal.TheVariants.{Tolerance}
-use Rattle.workspace.specs.declared.Outcome.{Outcome}
-use Rattle.workspace.specs.declared.Outcome.TheVariants.{Done, Refused}
+use Rattle.workspace.specs.Tables.{Outcome}
 use Rattle.settle.specs.Settle.{Measured, Settled}
 use Rattle.settle_call.specs.Promise.{are_sizes, value_told, least_told, in_turn, numbers_tested, bound_of}
-use Rattle.settle_call.specs.declared.Bounded.{Bounded}
-use Rattle.settle_call.specs.declared.Bounded.TheVariants as bounded
+use Rattle.settle_call.specs.Promise.{Bounded}
 
 abbrev pub values_told : (values spreads : List Float) → ℕ → Outcome
 values_told values spreads i = value_told (at values i) (at spreads i) i
@@ -27,10 +25,6 @@ data_has d = has d.values d.n && has d.spreads d.n && has d.balances (d.m * d.n)
 abbrev pub called_on : {A : Type 0} → Measured → Float → (volumes multipliers w iw : ℕ) → Answer A → Answer A
 called_on d t x mu w iw a =
     call (are_sizes d) (data_has d && (eqb x d.n && eqb mu (d.m + d.p))) (leb 8192 w && leb 512 iw) true (test (is_tolerance t) Tolerance (numbers_tested d a))
-
-abbrev pub told_by : Outcome → Float → Bounded
-told_by Done far = bounded.Done far
-told_by (Refused r) far = bounded.Refused r
 
 -- the answer out: its outcome, the volumes and the multipliers
 pub record SettledGiven (a : Answer Settled) (o : Bounded) (x x' mu mu' : List Float) : Type 0 where

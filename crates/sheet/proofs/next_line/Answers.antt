@@ -6,7 +6,9 @@ use native.Mathlib.Omega.{arith}
 use lib.ListN.{take}
 use lib.Seq.{length-take-le}
 use Rattle.sheet_words.specs.Lines.{between}
-use Rattle.sheet_lines.specs.declared.Step.{Step}
+use Rattle.std.specs.Prelude.{Result}
+use Rattle.sheet_words.specs.declared.Wrong.{Wrong}
+use Rattle.sheet_lines.specs.declared.Counts.{Counts}
 use Rattle.sheet_lines.specs.Lines.{wrong}
 use Rattle.sheet_lines.specs.inner.Work.{state, line_told, Sound}
 use Rattle.sheet.specs.Sheet.{line_read}
@@ -31,48 +33,24 @@ slice_bounds-take_line-end c = sym (length-take-le _ _ c.trimmed-n.ensures.1)
 pub take_line-requires : goal.take_line-requires
 take_line-requires c = (c.requires.1, omega arith, omega arith, omega arith)
 
-pub enum_known-e : goal.enum_known-e
-enum_known-e c = omega arith
-
-pub overflow_add-result : goal.overflow_add-result
-overflow_add-result c = let a = c.args in
+pub overflow_add-start : goal.overflow_add-start
+overflow_add-start c = let a = c.args in
     let k = c.take_line in
     let l = take c.trimmed-n.result (between a.at a.end a.bytes.now) in
-    let g = subst (λ (q : Step). Sound l q) c.in-Wrong.is k.ensures.sound in
+    let g = subst (λ (q : Result Counts Wrong). Sound l q) c.in-Err.is k.ensures.sound in
     let z = lies_in a.bytes.now a.at a.end c.trimmed-n.result _ _ c.requires.0 g in
     omega (arith, z.0, z.1)
 
-pub overflow_add-result-in-Wrong : goal.overflow_add-result-in-Wrong
-overflow_add-result-in-Wrong c = let a = c.args in
+pub overflow_add-end : goal.overflow_add-end
+overflow_add-end c = let a = c.args in
     let k = c.take_line in
     let l = take c.trimmed-n.result (between a.at a.end a.bytes.now) in
-    let g = subst (λ (q : Step). Sound l q) c.in-Wrong.is k.ensures.sound in
+    let g = subst (λ (q : Result Counts Wrong). Sound l q) c.in-Err.is k.ensures.sound in
     let z = lies_in a.bytes.now a.at a.end c.trimmed-n.result _ _ c.requires.0 g in
     omega (arith, z.0, z.1)
 
-pub enum_known-t : goal.enum_known-t
-enum_known-t c = omega arith
+pub returns-in-Err : goal.returns-in-Err
+returns-in-Err c = let a = c.args in let k = c.take_line in let l = take c.trimmed-n.result (between a.at a.end a.bytes.now) in let g = subst (λ (q : Result Counts Wrong). Sound l q) c.in-Err.is k.ensures.sound in record { numbers_after = ap (wrong c.in-Err.wrong.expected) (found_in a.bytes.now a.at a.end c.trimmed-n.result _ _ c.requires.0 g) ∙ (ap (λ (q : Result Counts Wrong). line_told l q k.new.texts k.new.wholes k.new.numbers) (sym c.in-Err.is) ∙ k.ensures.numbers_after ∙ ap (λ (m : List ℕ). line_read m (state a.s a.texts.now a.wholes.now a.numbers.now)) c.trimmed-n.ensures.0); sound = lies_in a.bytes.now a.at a.end c.trimmed-n.result _ _ c.requires.0 g }
 
-pub shape_of-texts-in-Wrong : goal.shape_of-texts-in-Wrong
-shape_of-texts-in-Wrong c = omega arith
-
-pub shape_of-wholes-in-Wrong : goal.shape_of-wholes-in-Wrong
-shape_of-wholes-in-Wrong c = omega arith
-
-pub shape_of-numbers-in-Wrong : goal.shape_of-numbers-in-Wrong
-shape_of-numbers-in-Wrong c = omega arith
-
-pub returns-in-Wrong : goal.returns-in-Wrong
-returns-in-Wrong c = let a = c.args in let k = c.take_line in let l = take c.trimmed-n.result (between a.at a.end a.bytes.now) in let g = subst (λ (q : Step). Sound l q) c.in-Wrong.is k.ensures.sound in record { numbers_after = ap (wrong c.in-Wrong.e) (found_in a.bytes.now a.at a.end c.trimmed-n.result _ _ c.requires.0 g) ∙ (ap (λ (q : Step). line_told l q k.new.texts k.new.wholes k.new.numbers) (sym c.in-Wrong.is) ∙ k.ensures.numbers_after ∙ ap (λ (m : List ℕ). line_read m (state a.s a.texts.now a.wholes.now a.numbers.now)) c.trimmed-n.ensures.0); sound = lies_in a.bytes.now a.at a.end c.trimmed-n.result _ _ c.requires.0 g }
-
-pub shape_of-texts-in-Next : goal.shape_of-texts-in-Next
-shape_of-texts-in-Next c = omega arith
-
-pub shape_of-wholes-in-Next : goal.shape_of-wholes-in-Next
-shape_of-wholes-in-Next c = omega arith
-
-pub shape_of-numbers-in-Next : goal.shape_of-numbers-in-Next
-shape_of-numbers-in-Next c = omega arith
-
-pub returns-in-Next : goal.returns-in-Next
-returns-in-Next c = let a = c.args in let k = c.take_line in let l = take c.trimmed-n.result (between a.at a.end a.bytes.now) in record { numbers_after = ap (λ (q : Step). line_told l q k.new.texts k.new.wholes k.new.numbers) (sym c.in-Next.is) ∙ k.ensures.numbers_after ∙ ap (λ (m : List ℕ). line_read m (state a.s a.texts.now a.wholes.now a.numbers.now)) c.trimmed-n.ensures.0; sound = subst (λ (q : Step). Sound l q) c.in-Next.is k.ensures.sound }
+pub returns-in-Ok : goal.returns-in-Ok
+returns-in-Ok c = let a = c.args in let k = c.take_line in let l = take c.trimmed-n.result (between a.at a.end a.bytes.now) in record { numbers_after = ap (λ (q : Result Counts Wrong). line_told l q k.new.texts k.new.wholes k.new.numbers) (sym c.in-Ok.is) ∙ k.ensures.numbers_after ∙ ap (λ (m : List ℕ). line_read m (state a.s a.texts.now a.wholes.now a.numbers.now)) c.trimmed-n.ensures.0; sound = subst (λ (q : Result Counts Wrong). Sound l q) c.in-Ok.is k.ensures.sound }

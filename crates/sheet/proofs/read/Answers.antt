@@ -16,13 +16,10 @@ mark_size-from-requires c = tt
 pub walk-r-requires : goal.walk-r-requires
 walk-r-requires c = (c.mark_size-from.ensures.1, c.if-bytes-gt65536.false, omega arith, omega arith, omega arith)
 
-pub is_whole-requires : goal.is_whole-requires
-is_whole-requires c = tt
-
-pub returns-then-is_whole : goal.returns-then-is_whole
-returns-then-is_whole c = let k = c.walk-r in
+pub returns-then-is_ok : goal.returns-then-is_ok
+returns-then-is_ok c = let k = c.walk-r in
     let b = c.clear.ensures in
-    record { answer = k.ensures.numbers_after ∙ sheet-start _ _ _ _ _ c.if-bytes-gt65536.false c.mark_size-from.ensures.0 b.0 b.1 b.2; blank = whole-free k.result _ _ _ (sym c.is_whole.ensures ∙ c.if-is_whole.true); fits = k.ensures.fits }
+    record { answer = k.ensures.numbers_after ∙ sheet-start _ _ _ _ _ c.if-bytes-gt65536.false c.mark_size-from.ensures.0 b.0 b.1 b.2; blank = whole-free k.result _ _ _ (sym c.is_ok.ensures.value ∙ c.if-is_ok.true); fits = k.ensures.fits }
 
 pub clear-requires-2 : goal.clear-requires-2
 clear-requires-2 c = (omega arith, omega arith, omega arith)
@@ -30,4 +27,4 @@ clear-requires-2 c = (omega arith, omega arith, omega arith)
 pub returns : goal.returns
 returns c = let k = c.walk-r in
     let b = c.clear.ensures in
-    record { answer = told-alike c.args.bytes.now k.result _ _ _ _ _ _ (sym c.is_whole.ensures ∙ c.if-is_whole.false) ∙ k.ensures.numbers_after ∙ sheet-start _ _ _ _ _ c.if-bytes-gt65536.false c.mark_size-from.ensures.0 b.0 b.1 b.2; blank = left-blank k.result _ _ _ c.clear-2.ensures; fits = k.ensures.fits }
+    record { answer = told-alike c.args.bytes.now k.result _ _ _ _ _ _ (sym c.is_ok.ensures.value ∙ c.if-is_ok.false) ∙ k.ensures.numbers_after ∙ sheet-start _ _ _ _ _ c.if-bytes-gt65536.false c.mark_size-from.ensures.0 b.0 b.1 b.2; blank = left-blank k.result _ _ _ c.clear-2.ensures; fits = k.ensures.fits }

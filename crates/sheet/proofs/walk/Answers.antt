@@ -2,7 +2,9 @@
 use mathlib.Core.Path.{◌≡◌, refl, sym, ap, ◌∙◌, subst}
 use Prim.Native.Nat.{ℕ}
 use native.Mathlib.Omega.{arith}
-use Rattle.sheet_lines.specs.declared.Step.{Step}
+use Rattle.std.specs.Prelude.{Result}
+use Rattle.sheet_words.specs.declared.Wrong.{Wrong}
+use Rattle.sheet_lines.specs.declared.Counts.{Counts}
 use Rattle.sheet_lines.specs.inner.Work.{state, line_told, Sound}
 use Rattle.sheet.proofs.Lines.{lines-wrong, lines_next, lines_end}
 use Rattle.sheet.proofs.walk.Goals as goal
@@ -21,23 +23,8 @@ next_line-requires c = let l = c.loop-at.invariant in
     let e = c.line_end-end.ensures in
     ((omega (arith, e.0), e.1), l.2, l.3, l.4, l.5)
 
-pub enum_known-e : goal.enum_known-e
-enum_known-e c = omega arith
-
-pub shape_of-texts-in-Wrong : goal.shape_of-texts-in-Wrong
-shape_of-texts-in-Wrong c = omega arith
-
-pub shape_of-wholes-in-Wrong : goal.shape_of-wholes-in-Wrong
-shape_of-wholes-in-Wrong c = omega arith
-
-pub shape_of-numbers-in-Wrong : goal.shape_of-numbers-in-Wrong
-shape_of-numbers-in-Wrong c = omega arith
-
-pub returns-in-Wrong : goal.returns-in-Wrong
-returns-in-Wrong c = let a = c.args in let l = c.loop-at in let n = c.next_line in let e = c.line_end-end in record { numbers_after = lines-wrong a.bytes.now l.at e.result l.k (state l.s l.texts l.wholes l.numbers) (omega arith) e.ensures.0 _ _ (ap (λ (q : Step). line_told a.bytes.now q n.new.texts n.new.wholes n.new.numbers) (sym c.in-Wrong.is) ∙ n.ensures.numbers_after) ∙ sym l.invariant.6; fits = subst (λ (q : Step). Sound a.bytes.now q) c.in-Wrong.is n.ensures.sound }
-
-pub enum_known-t : goal.enum_known-t
-enum_known-t c = omega arith
+pub returns-in-Err : goal.returns-in-Err
+returns-in-Err c = let a = c.args in let l = c.loop-at in let n = c.next_line in let e = c.line_end-end in record { numbers_after = lines-wrong a.bytes.now l.at e.result l.k (state l.s l.texts l.wholes l.numbers) (omega arith) e.ensures.0 _ _ (ap (λ (q : Result Counts Wrong). line_told a.bytes.now q n.new.texts n.new.wholes n.new.numbers) (sym c.in-Err.is) ∙ n.ensures.numbers_after) ∙ sym l.invariant.6; fits = subst (λ (q : Result Counts Wrong). Sound a.bytes.now q) c.in-Err.is n.ensures.sound }
 
 pub overflow_add-at : goal.overflow_add-at
 overflow_add-at c = omega (arith, c.line_end-end.ensures.1)
@@ -52,11 +39,11 @@ loop-at-preserved c = let a = c.args in
     let e = c.line_end-end in (
       omega (arith, l.invariant.0, e.ensures.0),
       omega (arith, e.ensures.1),
-      subst (λ (q : Step). Sound a.bytes.now q) c.in-Next.is n.ensures.sound,
+      subst (λ (q : Result Counts Wrong). Sound a.bytes.now q) c.in-Ok.is n.ensures.sound,
       omega (arith, l.invariant.3),
       omega (arith, l.invariant.4),
       omega (arith, l.invariant.5),
-      l.invariant.6 ∙ lines_next a.bytes.now l.at e.result l.k (state l.s l.texts l.wholes l.numbers) (omega arith) e.ensures.0 _ (ap (λ (q : Step). line_told a.bytes.now q n.new.texts n.new.wholes n.new.numbers) (sym c.in-Next.is) ∙ n.ensures.numbers_after),
+      l.invariant.6 ∙ lines_next a.bytes.now l.at e.result l.k (state l.s l.texts l.wholes l.numbers) (omega arith) e.ensures.0 _ (ap (λ (q : Result Counts Wrong). line_told a.bytes.now q n.new.texts n.new.wholes n.new.numbers) (sym c.in-Ok.is) ∙ n.ensures.numbers_after),
     )
 
 pub overflow_add-k-2 : goal.overflow_add-k-2

@@ -34,4 +34,4 @@ pub returns-in_default : goal.returns-in_default
 returns-in_default c = record { value = place-unknown c.args.word.now c.args.texts.now c.fill-name.result c.fill-name.ensures c.find_place.result c.find_place.ensures.value c.in_default.is _ c.is_taken.ensures c.if-is_taken.false; names_inside = tt }
 
 pub returns : goal.returns
-returns c = record { value = place_at c.args.word.now c.args.texts.now c.fill-name.result c.fill-name.ensures c.find_place.result c.find_place.ensures.value _ c.in-At.is; names_inside = inside-at c.find_place.result _ c.find_place.ensures.inside c.in-At.is }
+returns c = record { value = place_at c.args.word.now c.args.texts.now c.fill-name.result c.fill-name.ensures c.find_place.result c.find_place.ensures.value _ c.in-Some.is; names_inside = inside-at c.find_place.result _ c.find_place.ensures.inside c.in-Some.is }

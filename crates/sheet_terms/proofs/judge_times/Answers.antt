@@ -16,4 +16,4 @@ pub returns-in_default : goal.returns-in_default
 returns-in_default c = times-not c.args.word.now c.not_zero.result c.not_zero.ensures c.in_default.is
 
 pub returns : goal.returns
-returns c = times-is c.args.word.now c.not_zero.result c.not_zero.ensures _ c.in-Is.is
+returns c = times-is c.args.word.now c.not_zero.result c.not_zero.ensures _ c.in-Some.is

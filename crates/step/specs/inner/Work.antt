@@ -1,30 +1,17 @@
 -- What the step's inner functions are handed, leave in the workspace and answer: it serves their contracts alone. Definitions only.
-use Rattle.std.specs.Prelude.{ℕ, ◌+◌, ◌*◌, ◌≤◌, ◌≡◌, true, List, [], ◌∷◌, ◌++◌, length, Float}
+use Rattle.std.specs.Prelude.{ℕ, ◌+◌, ◌≤◌, ◌≡◌, true, List, [], ◌∷◌, ◌++◌, length, Float, Result, Ok, Err}
 use Rattle.numbers.specs.Numbers.{+0, transposed}
-use Rattle.workspace.specs.Tables.{Answer, done, refused, is_late}
+use Rattle.workspace.specs.Tables.{Answer, done, refused, Outcome, is_late}
 use Rattle.workspace.specs.declared.Refusal.{Refusal}
 use Rattle.workspace.specs.Readings.{vec, mat, stack}
 use Rattle.nnls.specs.Counted.{Counted}
 use Rattle.step_rows.specs.Problem.{Problem, matrix_of, sides_of, equality_rows, inequality_rows, relaxed_rows}
 use Rattle.step.specs.Step.{Step, root_weight, relaxed_matrix, step, report_of}
-use Rattle.step_rows.specs.inner.Work.{Lengths}
 use Rattle.lsei.specs.inner.Work.{sides}
 use Rattle.step.specs.declared.Sizes.{Sizes}
 use Rattle.step.specs.declared.Tried.{Tried}
-use Rattle.step.specs.declared.Tried.TheVariants.{Done, Refused}
-use Rattle.step.specs.declared.Stage.TheVariants.{Passed, Failed}
-use Rattle.step.specs.declared.Report.{Report}
 use Rattle.step.specs.declared.Stepped.{Stepped}
-use Rattle.step.specs.declared.Stepped.TheVariants as Stepped
-use Rattle.step.specs.inner.Places.{STEP_D, STEP_MULTIPLIERS, STEP_ROOM, EXACT_C, EXACT_X, EXACT_E, EXACT_F, EXACT_G, RELAXED_E, RELAXED_F, RELAXED_G}
-
--- ---- what is handed
-
--- its sizes and lengths, and a long enough workspace
-pub record StepReady (n m : ℕ) (factor : List Float) (kinds : List ℕ) (values widths jacobian lower upper w : List Float) : Type 0 where
-  pub lengths : Lengths n m kinds values widths jacobian lower upper
-  pub square : length factor ≡ n * n
-  pub room : STEP_ROOM ≤ length w
+use Rattle.step.specs.inner.Places.{STEP_D, STEP_MULTIPLIERS, EXACT_C, EXACT_X, EXACT_E, EXACT_F, EXACT_G, RELAXED_E, RELAXED_F, RELAXED_G}
 
 -- ---- what is written for LSEI and LSI
 
@@ -54,12 +41,6 @@ pub record RelaxedIn (p : Problem) (f : List Float) (g : ℕ) (w : List Float) :
 
 -- ---- what is read from their answers
 
-pub record Readable (n m : ℕ) (kinds : List ℕ) (w : List Float) : Type 0 where
-  pub variables : n ≤ 16
-  pub constraints : m ≤ 16
-  pub kind : length kinds ≡ m
-  pub room : STEP_ROOM ≤ length w
-
 -- the step d and the multipliers l are left, and the target stays
 pub record Left (n m : ℕ) (d l w w' : List Float) : Type 0 where
   pub the_d : vec STEP_D n w' ≡ d
@@ -68,66 +49,63 @@ pub record Left (n m : ℕ) (d l w w' : List Float) : Type 0 where
 
 -- ---- what is answered
 
--- an answer, with the step d and the multipliers l that it left
+-- a relaxation, with the step d and the multipliers l that were left, or a failure
+abbrev pub answer_of : Result Float Refusal → (d l : List Float) → Answer Step
+answer_of (Ok relaxation) d l = done (record { d = d; multipliers = l; relaxation = relaxation })
+answer_of (Err r) d l = refused r
+
 abbrev pub tried_step : Tried → (d l : List Float) → Counted Step
-tried_step (Done relaxation rounds factorings) d l = record { answer = done (record { d = d; multipliers = l; relaxation = relaxation }); rounds = rounds; factorings = factorings }
-tried_step (Refused r rounds factorings) d l = record { answer = refused r; rounds = rounds; factorings = factorings }
+tried_step t d l = record { answer = answer_of t.relaxation d l; rounds = t.rounds; factorings = t.factorings }
 
 -- the same, as it stands in the workspace
 abbrev pub tried_step_in : (n m : ℕ) → Tried → List Float → Counted Step
 tried_step_in n m r w = tried_step r (vec STEP_D n w) (vec STEP_MULTIPLIERS m w)
 
--- its counts
-abbrev pub rounds_of : Tried → ℕ
-rounds_of (Done relaxation rounds factorings) = rounds
-rounds_of (Refused r rounds factorings) = rounds
-
-abbrev pub factorings_of : Tried → ℕ
-factorings_of (Done relaxation rounds factorings) = factorings
-factorings_of (Refused r rounds factorings) = factorings
+-- how its stage ended
+abbrev pub passed_or_failed : Result Float Refusal → Outcome
+passed_or_failed (Ok relaxation) = Ok tt
+passed_or_failed (Err r) = Err r
 
 -- the exact problem's answer as the step's, where the relaxed one is not tried
 unfoldable pub unrelaxed : Tried → Stepped
-unrelaxed (Done relaxation r f) = Stepped.Done relaxation (record { exact = Passed; relaxed = Passed; rounds = r; factorings = f })
-unrelaxed (Refused k r f) = Stepped.Refused k (record { exact = Failed k; relaxed = Passed; rounds = r; factorings = f })
+unrelaxed t = record {
+  relaxation = t.relaxation;
+  report = record { exact = passed_or_failed t.relaxation; relaxed = Ok tt; rounds = t.rounds; factorings = t.factorings };
+}
 
--- the relaxed problem's answer as the step's, after the exact one was refused and took its counts
-unfoldable pub later : Refusal → (rounds factorings : ℕ) → Tried → Stepped
-later why rounds factorings (Done relaxation r f) =
-    Stepped.Done relaxation (record { exact = Failed why; relaxed = Passed; rounds = rounds + r; factorings = factorings + f })
-later why rounds factorings (Refused k r f) =
-    Stepped.Refused k (record { exact = Failed why; relaxed = Failed k; rounds = rounds + r; factorings = factorings + f })
+-- the relaxed problem's answer as the step's, after the exact one failed and took its counts
+unfoldable pub later : (first second : Tried) → Stepped
+later t u = record {
+  relaxation = u.relaxation;
+  report = record {
+    exact = passed_or_failed t.relaxation;
+    relaxed = passed_or_failed u.relaxation;
+    rounds = t.rounds + u.rounds;
+    factorings = t.factorings + u.factorings;
+  };
+}
 
 -- a refusal of the arithmetic is one of those after which the workspaces are cleared
-abbrev pub IsLate : Tried → Type 0
-IsLate (Done relaxation rounds factorings) = Unit
-IsLate (Refused r rounds factorings) = is_late r ≡ true
+abbrev pub IsLate : Result Float Refusal → Type 0
+IsLate (Ok relaxation) = Unit
+IsLate (Err r) = is_late r ≡ true
 
 -- one of the two problems answers c: what it left and took, and the target stays
 pub record Tries (c : Counted Step) (n m : ℕ) (r : Tried) (w w' : List Float) : Type 0 where
   pub answer : tried_step_in n m r w' ≡ c
   pub front : vec 0 n w' ≡ vec 0 n w
-  pub rounds : rounds_of r ≤ 198
-  pub factorings : factorings_of r ≤ 13334
-  pub late : IsLate r
+  pub rounds : r.rounds ≤ 198
+  pub factorings : r.factorings ≤ 13334
+  pub late : IsLate r.relaxation
 
 -- ---- what the step ends with
 
 -- its answer, with the step d and the multipliers l that it left
 abbrev pub stepped_answer : Stepped → (d l : List Float) → Answer Step
-stepped_answer (Stepped.Done relaxation report) d l = done (record { d = d; multipliers = l; relaxation = relaxation })
-stepped_answer (Stepped.Refused r report) d l = refused r
-
-abbrev pub stepped_report : Stepped → Report
-stepped_report (Stepped.Done relaxation report) = report
-stepped_report (Stepped.Refused r report) = report
-
-abbrev pub IsLateStep : Stepped → Type 0
-IsLateStep (Stepped.Done relaxation report) = Unit
-IsLateStep (Stepped.Refused r report) = is_late r ≡ true
+stepped_answer r d l = answer_of r.relaxation d l
 
 -- the step of the problem p: the answer that it left in the workspace, and its report
 pub record EndsStep (n m : ℕ) (r : Stepped) (w : List Float) (p : Problem) : Type 0 where
   pub the_answer : stepped_answer r (vec STEP_D n w) (vec STEP_MULTIPLIERS m w) ≡ (step p).answer
-  pub the_report : stepped_report r ≡ report_of p
-  pub late : IsLateStep r
+  pub the_report : r.report ≡ report_of p
+  pub late : IsLate r.relaxation

@@ -1,27 +1,10 @@
--- `are_kinds`: after j turns the kinds that are left decide.
-use mathlib.Core.Path.{refl}
-use native.Mathlib.Omega.{arith}
-use Rattle.step_call.proofs.Calls.{kinds-more, kinds-bad, kinds-all}
+-- `are_kinds`: what `all` tells.
+use borrow.Author.Tests.{tests}
+use Rattle.std.proofs.Common.{rules, ◌≤◌, ◌<◌}
+use Rattle.std.proofs.lemmas.Iterator.{cases_from_all, YieldsList-from_slice}
+use Rattle.step_call.proofs.Calls.{kinds-told}
 use Rattle.step_call.proofs.are_kinds.Goals as goal
 
-pub loop-j-init : goal.loop-j-init
-loop-j-init c = (omega arith, omega arith, refl)
-
-pub bounds-kinds-j : goal.bounds-kinds-j
-bounds-kinds-j c = omega arith
-
-pub returns-then-kinds-j-gt2 : goal.returns-then-kinds-j-gt2
-returns-then-kinds-j-gt2 c = kinds-bad _ _ (omega arith) c.if-kinds-j-gt2.true c.loop-j.invariant.2
-
-pub overflow_step-j : goal.overflow_step-j
-overflow_step-j c = omega arith
-
-pub loop-j-smaller : goal.loop-j-smaller
-loop-j-smaller c = omega arith
-
-pub loop-j-preserved : goal.loop-j-preserved
-loop-j-preserved c = (omega arith, omega arith, kinds-more _ _ (omega arith) c.if-kinds-j-gt2.false c.loop-j.invariant.2)
-
 pub returns : goal.returns
-returns c = let l = c.loop-j in
-    kinds-all _ l.j (omega arith) l.invariant.2
+returns c = kinds-told c.args.kinds.now _
+    (cases_from_all _ _ _ (λ k. k ≤ 2) (λ k. 2 < k) c.all.ensures.ran (YieldsList-from_slice c.args.kinds.now cc) (λ x q k. search (rules, tests)) (λ x q k. search (rules, tests)))

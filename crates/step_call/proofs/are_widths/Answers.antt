@@ -1,6 +1,5 @@
 -- `are_widths`: after j turns the widths of j constraints are good.
 use mathlib.Core.Path.{◌≡◌, sym, ◌∙◌}
-use mathlib.Core.Bool.{true}
 use native.Mathlib.Omega.{arith}
 use Rattle.step_call.proofs.Widths.{widths-none, widths-more, widths-bad}
 use Rattle.step_call.proofs.are_widths.Goals as goal
@@ -8,27 +7,9 @@ use Rattle.step_call.proofs.are_widths.Goals as goal
 pub loop-j-init : goal.loop-j-init
 loop-j-init c = (omega arith, widths-none _ _)
 
-pub bounds-kinds-j : goal.bounds-kinds-j
-bounds-kinds-j c = omega arith
-
-pub offset_bounds-widths-j : goal.offset_bounds-widths-j
-offset_bounds-widths-j c = omega arith
-
-pub bounds-widths-j : goal.bounds-widths-j
-bounds-widths-j c = omega arith
-
-pub is_width-requires : goal.is_width-requires
-is_width-requires c = tt
-
 pub returns-then-not-is_width : goal.returns-then-not-is_width
 returns-then-not-is_width c = let s = c.args in
     sym (widths-bad s.kinds.now s.widths.now c.loop-j.j _ (omega arith) (sym c.is_width.ensures ∙ c.if-not-is_width.true))
-
-pub overflow_step-j : goal.overflow_step-j
-overflow_step-j c = omega arith
-
-pub loop-j-smaller : goal.loop-j-smaller
-loop-j-smaller c = omega arith
 
 pub loop-j-preserved : goal.loop-j-preserved
 loop-j-preserved c = let s = c.args in

@@ -3,9 +3,6 @@ use mathlib.Core.Path.{sym, ◌∙◌}
 use Rattle.step_check.proofs.First.{row-holds, row-fails}
 use Rattle.step_check.proofs.judge.Goals as goal
 
-pub passes-requires : goal.passes-requires
-passes-requires c = tt
-
 pub returns-then-passes : goal.returns-then-passes
 returns-then-passes c = row-holds _ _ _ _ _ _ (sym c.passes.ensures ∙ c.if-passes.true)
 

@@ -2,15 +2,6 @@
 use Rattle.workspace.proofs.Readings.{lit-+0}
 use Rattle.step_check.proofs.passes.Goals as goal
 
-pub is_within-requires : goal.is_within-requires
-is_within-requires c = tt
-
-pub is_within-requires-in-Residual : goal.is_within-requires-in-Residual
-is_within-requires-in-Residual c = tt
-
-pub is_within-requires-in-Product : goal.is_within-requires-in-Product
-is_within-requires-in-Product c = tt
-
 pub returns-in-Stationarity : goal.returns-in-Stationarity
 returns-in-Stationarity c = rw c.in-Stationarity.is c.is_within.ensures
 

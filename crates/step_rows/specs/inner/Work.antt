@@ -1,5 +1,5 @@
 -- What the functions that write a problem's rows into the workspace leave: it serves their contracts alone. Definitions only.
-use Rattle.std.specs.Prelude.{ℕ, zero, suc, ◌+◌, ◌*◌, ◌<◌, ◌≤◌, ◌≡◌, List, [], ◌∷◌, ◌++◌, length, Float}
+use Rattle.std.specs.Prelude.{ℕ, ◌+◌, ◌*◌, ◌<◌, ◌≡◌, List, [], ◌∷◌, ◌++◌, Float}
 use Rattle.numbers.specs.Numbers.{at, tab}
 use Rattle.workspace.specs.Readings.{vec}
 use Rattle.step_rows.specs.Problem.{Row, row_of, by_kind}
@@ -12,17 +12,6 @@ rows_in o n c w = tab c (λ i. row_of (vec (o + i * 18) n w) (at w (o + i * 18 +
 pub record Pushed (o n k c : ℕ) (rs : List Row) (w w' : List Float) : Type 0 where
   pub rows : rows_in o n c w' ≡ rows_in o n k w ++ rs
   pub before : (x : ℕ) → x < o → at w' x ≡ at w x
-
--- the lengths of a problem's parts, and its sizes
-pub record Lengths (n m : ℕ) (kinds : List ℕ) (values widths jacobian lower upper : List Float) : Type 0 where
-  pub variables : n ≤ 16
-  pub constraints : m ≤ 16
-  pub kind : length kinds ≡ m
-  pub value : length values ≡ m
-  pub width : length widths ≡ m
-  pub entries : length jacobian ≡ m * n
-  pub low : length lower ≡ n
-  pub high : length upper ≡ n
 
 -- how many of some constraints are equalities, how many floors they have, a band two, and how many rows they become in the relaxed problem
 unfoldable pub equalities_among : List ℕ → ℕ

@@ -2,44 +2,13 @@
 use mathlib.Core.Path.{◌≡◌, refl}
 use native.Mathlib.Omega.{arith}
 use lib.ListN.{length-set}
-use Rattle.numbers.specs.Numbers.{at}
 use Rattle.workspace.proofs.Writes.{written_none}
 use Rattle.workspace.proofs.Writes.{written-front, written_all}
-use Rattle.suspect.specs.Suspect.{still_of, stills}
+use Rattle.suspect.specs.Suspect.{stills}
 use Rattle.suspect.proofs.mark_still.Goals as goal
 
 pub loop-i-init : goal.loop-i-init
 loop-i-init c = (omega arith, refl, written_none _ _ _ _)
-
-pub offset_bounds-values-i : goal.offset_bounds-values-i
-offset_bounds-values-i c = omega arith
-
-pub bounds-values-i : goal.bounds-values-i
-bounds-values-i c = omega arith
-
-pub offset_bounds-corrected-i : goal.offset_bounds-corrected-i
-offset_bounds-corrected-i c = omega arith
-
-pub bounds-corrected-i : goal.bounds-corrected-i
-bounds-corrected-i c = omega arith
-
-pub offset_bounds-spreads-i : goal.offset_bounds-spreads-i
-offset_bounds-spreads-i c = omega arith
-
-pub bounds-spreads-i : goal.bounds-spreads-i
-bounds-spreads-i c = omega arith
-
-pub still_of-requires : goal.still_of-requires
-still_of-requires c = tt
-
-pub bounds-still-i : goal.bounds-still-i
-bounds-still-i c = omega arith
-
-pub overflow_step-i : goal.overflow_step-i
-overflow_step-i c = omega arith
-
-pub loop-i-smaller : goal.loop-i-smaller
-loop-i-smaller c = omega arith
 
 pub loop-i-preserved : goal.loop-i-preserved
 loop-i-preserved c = let l = c.loop-i in (omega arith, simp length-set l.invariant.1, written-front 0 _ _ _ _ _ (omega arith) c.still_of.ensures l.invariant.2)

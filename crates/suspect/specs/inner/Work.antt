@@ -1,22 +1,12 @@
 -- What the kernel's functions are handed and leave. No promise of a public operation rests on these.
-use Rattle.std.specs.Prelude.{ℕ, ◌+◌, ◌*◌, ◌<◌, ◌≤◌, ◌≡◌, List, length, Float}
-use Rattle.numbers.specs.Numbers.{at, nth}
-use Rattle.workspace.specs.Readings.{vec, mat, stack, nums}
-use Rattle.householder.specs.Qr.{Factors, factor, apply_qt}
+use Rattle.std.specs.Prelude.{ℕ, ◌+◌, ◌*◌, ◌<◌, ◌≤◌, ◌≡◌, List, Float}
+use Rattle.numbers.specs.Numbers.{at}
+use Rattle.workspace.specs.Readings.{vec, stack, nums}
+use Rattle.householder.specs.Qr.{factor, apply_qt}
 use Rattle.householder.specs.inner.Work.{held}
-use Rattle.householder.specs.inner.Places.{QR_MATRIX}
 use Rattle.suspect.specs.Suspect.{Tests, weights, unit, scaled_gaps, directions, shares, new_spreads, tests}
 use Rattle.suspect.specs.declared.Finding.{Finding}
-use Rattle.suspect.specs.inner.Places.{SUSPECT_GAPS, SUSPECT_DIRECTIONS, SUSPECT_SHARES, SUSPECT_SPREADS, SUSPECT_TESTS, SUSPECT_GROUPS, SUSPECT_MARKS, SUSPECT_ROOM, SUSPECT_WORDS}
-
--- sizes of what is handed in
-pub record Sized (n m : ℕ) (v s c : List Float) (z : List ℕ) : Type 0 where
-  pub n16 : n ≤ 16
-  pub m16 : m ≤ 16
-  pub lv : length v ≡ n
-  pub ls : length s ≡ n
-  pub lc : length c ≡ m * n
-  pub lz : length z ≡ n
+use Rattle.suspect.specs.inner.Places.{SUSPECT_GAPS, SUSPECT_DIRECTIONS, SUSPECT_SHARES, SUSPECT_SPREADS, SUSPECT_TESTS, SUSPECT_GROUPS, SUSPECT_MARKS}
 
 -- row i of Q at its place, of r reflectors
 pub record DirectionWritten (n r i : ℕ) (w w' : List Float) : Type 0 where

@@ -2,7 +2,7 @@
 use Rattle.std.specs.Prelude.{◌≡◌, List, ℕ, Float}
 use Rattle.numbers.specs.Numbers.{+0}
 use Rattle.workspace.specs.Tables.{done, outcome_of, cleared}
-use Rattle.workspace.specs.declared.Outcome.{Outcome}
+use Rattle.workspace.specs.Tables.{Outcome}
 use Rattle.workspace.specs.Readings.{stack, nums}
 use Rattle.suspect.specs.Suspect.{Tests}
 use Rattle.suspect.specs.declared.Finding.{Finding}

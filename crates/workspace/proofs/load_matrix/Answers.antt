@@ -1,7 +1,6 @@
 -- `load_matrix`: after j turns j columns are in.
 use mathlib.Core.Path.{◌≡◌, refl, ◌∙◌}
 use native.Mathlib.Omega.{arith}
-use Rattle.numbers.specs.Numbers.{at}
 use Rattle.workspace.proofs.Copies.{laid_none, laid_more, laid-matrix, column-in}
 use Rattle.workspace.proofs.load_matrix.Goals as goal
 

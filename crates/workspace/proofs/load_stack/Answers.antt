@@ -1,7 +1,6 @@
 -- `load_stack`: after k turns k rows are in.
 use mathlib.Core.Path.{◌≡◌, refl, ◌∙◌}
 use native.Mathlib.Omega.{arith}
-use Rattle.numbers.specs.Numbers.{at}
 use Rattle.numbers.proofs.Lists.{row_fits}
 use Rattle.workspace.proofs.Copies.{laid_none, laid_more, laid-stack, row_in}
 use Rattle.workspace.proofs.load_stack.Goals as goal

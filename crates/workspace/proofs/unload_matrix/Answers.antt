@@ -1,7 +1,6 @@
 -- `unload_matrix`: after i turns i rows are out.
 use mathlib.Core.Path.{◌≡◌, refl, ◌∙◌}
 use native.Mathlib.Omega.{arith}
-use Rattle.numbers.specs.Numbers.{at}
 use Rattle.numbers.proofs.Lists.{row_fits}
 use Rattle.workspace.proofs.Copies.{rowed-none, rowed-more, rowed-mat}
 use Rattle.workspace.proofs.unload_matrix.Goals as goal

@@ -1,7 +1,6 @@
 -- `unload_stack`: after k turns k vectors are out.
 use mathlib.Core.Path.{◌≡◌, refl, ◌∙◌}
 use native.Mathlib.Omega.{arith}
-use Rattle.numbers.specs.Numbers.{at}
 use Rattle.numbers.proofs.Lists.{row_fits}
 use Rattle.workspace.proofs.Copies.{rowed-none, rowed-more, rowed-stack}
 use Rattle.workspace.proofs.unload_stack.Goals as goal

@@ -6,7 +6,7 @@ use mathlib.Core.Path.{◌≡◌, sym, ◌∙◌}
 use Rattle.certain.proofs.test.all_finite.Goals as goal
 
 pub loop-i-init : goal.loop-i-init
-loop-i-init c = (omega arith, all_none _)
+loop-i-init c = all_none _
 
 pub offset_bounds-v-i : goal.offset_bounds-v-i
 offset_bounds-v-i c = omega arith
@@ -18,15 +18,9 @@ pub returns-then-not-is_finite : goal.returns-then-not-is_finite
 unfolding are_finite
 returns-then-not-is_finite c = all-broken _ c.loop-i.i _ c.loop-i-test.true (sym c.is_finite.ensures ∙ not-true _ c.if-not-is_finite.true-raw)
 
-pub overflow_add-i : goal.overflow_add-i
-overflow_add-i c = omega arith
-
-pub loop-i-smaller : goal.loop-i-smaller
-loop-i-smaller c = omega arith
-
 pub loop-i-preserved : goal.loop-i-preserved
-loop-i-preserved c = (omega arith, all_more _ _ c.loop-i.invariant.1 (sym c.is_finite.ensures ∙ not-false _ c.if-not-is_finite.false-raw))
+loop-i-preserved c = all_more _ _ c.loop-i.invariant (sym c.is_finite.ensures ∙ not-false _ c.if-not-is_finite.false-raw)
 
 pub returns : goal.returns
 unfolding are_finite
-returns c = let e : c.loop-i.i ≡ c.args.n = omega arith in all_done _ _ _ e c.loop-i.invariant.1
+returns c = let e : c.loop-i.i ≡ c.args.n = omega arith in all_done _ _ _ e c.loop-i.invariant

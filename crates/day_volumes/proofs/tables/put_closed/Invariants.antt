@@ -7,7 +7,7 @@ use Rattle.day_volumes.specs.Found.{flag}
 use Rattle.day_volumes.proofs.tables.put_closed.Given as goal
 
 abbrev pub invariant-loop-j : goal.invariant-loop-j
-invariant-loop-j l = (l.j ≤ l.m) × (length l.out ≡ length l.initial.out) × Written 0 16 l.j (λ k. flag (closes l.n k l.balances l.x l.tolerance)) l.initial.out l.out
+invariant-loop-j l = (l.j ≤ l.day.m) × (length l.out ≡ length l.initial.out) × Written 0 16 l.j (λ k. flag (closes l.day.n k l.day.balances.now l.x l.tolerance)) l.initial.out l.out
 
 abbrev pub decreases-loop-j : goal.decreases-loop-j
-decreases-loop-j l = l.m - l.j
+decreases-loop-j l = l.day.m - l.j

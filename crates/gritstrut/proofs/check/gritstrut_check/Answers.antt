@@ -7,20 +7,11 @@ use Rattle.gritstrut.proofs.Checking.{check-leaves, no-entries, no_size}
 use native.Mathlib.Omega.{arith}
 use Rattle.gritstrut.proofs.check.gritstrut_check.Goals as goal
 
-pub are_sizes-requires : goal.are_sizes-requires
-are_sizes-requires c = tt
-
-pub number-requires : goal.number-requires
-number-requires c = tt
-
 pub returns-then-are_sizes : goal.returns-then-are_sizes
 returns-then-are_sizes c = let a = c.args in
     let p = problem_of a.n a.m a.factor.now a.gradient.now a.kinds.now a.values.now a.widths.now a.jacobian.now a.lower.now a.upper.now in
     let s = pasted_of a.d.now a.multipliers.now a.lowers.now a.uppers.now in
     no-entries p s a.tolerance _ _ _ (ne_eqb _ _ c.if-verdict-ne-ENTRIES.true) (sym c.are_sizes.ensures ∙ c.if-are_sizes.true) _ c.number.ensures
-
-pub number-requires-then-verdict-ne-ENTRIES : goal.number-requires-then-verdict-ne-ENTRIES
-number-requires-then-verdict-ne-ENTRIES c = tt
 
 pub returns-then-verdict-ne-ENTRIES : goal.returns-then-verdict-ne-ENTRIES
 returns-then-verdict-ne-ENTRIES c = let a = c.args in
@@ -28,20 +19,8 @@ returns-then-verdict-ne-ENTRIES c = let a = c.args in
     let s = pasted_of a.d.now a.multipliers.now a.lowers.now a.uppers.now in
     no_size p s a.tolerance _ _ _ (sym c.are_sizes.ensures ∙ c.if-are_sizes.false) _ c.number-then-verdict-ne-ENTRIES.ensures
 
-pub step-answer-requires : goal.step-answer-requires
-step-answer-requires c = tt
-
 pub tell_verdict-requires : goal.tell_verdict-requires
 tell_verdict-requires c = c.if-verdict-ne-ENTRIES.false
-
-pub shape_of-verdict : goal.shape_of-verdict
-shape_of-verdict c = omega arith
-
-pub shape_of-w : goal.shape_of-w
-shape_of-w c = omega arith
-
-pub shape_of-iw : goal.shape_of-iw
-shape_of-iw c = omega arith
 
 pub returns : goal.returns
 returns c = let a = c.args in

@@ -5,11 +5,8 @@ use Rattle.gritstrut.proofs.check.tell_verdict.Goals as goal
 pub write_verdict-requires : goal.write_verdict-requires
 write_verdict-requires c = c.requires
 
-pub number-requires : goal.number-requires
-number-requires c = tt
+pub returns-in-Ok : goal.returns-in-Ok
+returns-in-Ok c = done-tells _ _ _ _ c.in-Ok.is c.write_verdict.ensures
 
-pub returns-in-Done : goal.returns-in-Done
-returns-in-Done c = done-tells _ _ _ _ c.in-Done.is c.write_verdict.ensures
-
-pub returns-in-Refused : goal.returns-in-Refused
-returns-in-Refused c = refused-tells _ _ _ _ c.in-Refused.is c.number.ensures
+pub returns-in-Err : goal.returns-in-Err
+returns-in-Err c = refused-tells _ _ _ _ c.in-Err.is c.number.ensures

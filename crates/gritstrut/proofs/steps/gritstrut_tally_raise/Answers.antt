@@ -1,8 +1,5 @@
 -- `gritstrut_tally_raise`: both counts, by `Tally::plus`.
 use Rattle.gritstrut.proofs.steps.gritstrut_tally_raise.Goals as goal
 
-pub plus-after-requires : goal.plus-after-requires
-plus-after-requires c = tt
-
 pub returns : goal.returns
 returns c = rw c.plus-after.ensures

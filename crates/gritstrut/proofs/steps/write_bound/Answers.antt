@@ -4,20 +4,11 @@ use borrow.Author.Tests.{eq-eqb, ne_eqb}
 use Rattle.gritstrut.proofs.Leaves.{bound-written, bound-left}
 use Rattle.gritstrut.proofs.steps.write_bound.Goals as goal
 
-pub number-number-requires : goal.number-number-requires
-number-number-requires c = tt
-
-pub place-variable-requires : goal.place-variable-requires
-place-variable-requires c = tt
-
 pub returns-then-variable : goal.returns-then-variable
 returns-then-variable c = let a = c.args in bound-left a.why a.report.now _ c.place-variable.ensures (eq-eqb _ _ c.if-variable.true)
 
 pub write_entries-requires : goal.write_entries-requires
 write_entries-requires c = c.requires
-
-pub shape_of-report : goal.shape_of-report
-shape_of-report c = omega arith
 
 pub returns : goal.returns
 returns c = let a = c.args in

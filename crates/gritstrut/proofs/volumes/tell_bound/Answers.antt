@@ -2,11 +2,8 @@
 use Rattle.gritstrut.proofs.Settling.{done-tells, refused-tells}
 use Rattle.gritstrut.proofs.volumes.tell_bound.Goals as goal
 
-pub number_with_place-requires : goal.number_with_place-requires
-number_with_place-requires c = tt
+pub returns-in-Ok : goal.returns-in-Ok
+returns-in-Ok c = done-tells _ _ _ _ c.in-Ok.is
 
-pub returns-in-Done : goal.returns-in-Done
-returns-in-Done c = done-tells _ _ _ _ c.in-Done.is
-
-pub returns-in-Refused : goal.returns-in-Refused
-returns-in-Refused c = refused-tells _ _ _ _ _ _ c.in-Refused.is c.number_with_place.ensures
+pub returns-in-Err : goal.returns-in-Err
+returns-in-Err c = refused-tells _ _ _ _ _ _ c.in-Err.is c.number_with_place.ensures

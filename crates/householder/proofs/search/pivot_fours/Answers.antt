@@ -10,7 +10,7 @@ pub overflow_sub-c : goal.overflow_sub-c
 overflow_sub-c c = omega arith
 
 pub loop-q-init : goal.loop-q-init
-loop-q-init c = let a = c.args in (refl, omega arith, leads-none a.m a.n a.k a.w.now _)
+loop-q-init c = let a = c.args in (refl, omega arith, leads-none a.m a.n a.k a.w.now)
 
 pub overflow_mul-j : goal.overflow_mul-j
 overflow_mul-j c = omega arith

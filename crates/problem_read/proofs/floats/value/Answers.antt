@@ -1,6 +1,5 @@
 -- `value`: a NaN pattern, or the bits' own float.
 use mathlib.Core.Path.{refl, ◌≡◌, sym, subst, ◌∙◌}
-use mathlib.Core.Logic.{⊎_elim}
 use mathlib.Core.Bool.{Bool, false, not}
 use lib.Dec.{T}
 use lib.Ieee.{nan_bits, binary64}

@@ -6,9 +6,6 @@ use lib.ListN.{length}
 use Rattle.problem_write.proofs.Entries.{left_out, put_in}
 use Rattle.problem_write.proofs.count.count_entry.Goals as goal
 
-pub missing_bits-requires : goal.missing_bits-requires
-missing_bits-requires c = tt
-
 pub returns-then-bits-missing_bits : goal.returns-then-bits-missing_bits
 returns-then-bits-missing_bits c = let a = c.args in sym (ap (λ (rs : List (List ℕ)). length rs) (left_out a.tag a.row a.column a.bits (c.if-bits-missing_bits.true ∙ c.missing_bits.ensures)))
 

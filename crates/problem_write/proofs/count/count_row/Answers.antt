@@ -11,30 +11,12 @@ use Rattle.problem_write.proofs.count.count_row.Goals as goal
 pub loop-j-init : goal.loop-j-init
 loop-j-init c = let a = c.args in (omega arith, row-none-count a.tag a.row a.from a.xs.now)
 
-pub overflow_add-from : goal.overflow_add-from
-overflow_add-from c = omega arith
-
-pub offset_bounds-xs-from : goal.offset_bounds-xs-from
-offset_bounds-xs-from c = omega arith
-
-pub bounds-xs-from : goal.bounds-xs-from
-bounds-xs-from c = omega arith
-
-pub count_entry-total-requires : goal.count_entry-total-requires
-count_entry-total-requires c = tt
-
 pub overflow_add-total : goal.overflow_add-total
 overflow_add-total c = let a = c.args in
     let l = c.loop-j in
     let f = row-few a.tag a.row l.j a.from a.xs.now in
     let g = entry-few a.tag a.row l.j (nth a.xs.now (a.from + l.j)) in
     omega (arith, f, g, l.invariant.1, c.count_entry-total.ensures)
-
-pub overflow_step-j : goal.overflow_step-j
-overflow_step-j c = omega arith
-
-pub loop-j-smaller : goal.loop-j-smaller
-loop-j-smaller c = omega arith
 
 pub loop-j-preserved : goal.loop-j-preserved
 loop-j-preserved c = let a = c.args in let l = c.loop-j in (omega arith, row_count a.tag a.row a.from a.xs.now l.j l.total _ l.invariant.1 c.count_entry-total.ensures)

@@ -41,12 +41,6 @@ overflow_add-total c = let a = c.args in
     let g = row-few a.tag l.i c.row_length-k.result (l.i * a.columns) a.xs.now in
     omega (arith, h, e, s, f, g, l.invariant.1, c.count_row-total.ensures)
 
-pub overflow_step-i : goal.overflow_step-i
-overflow_step-i c = omega arith
-
-pub loop-i-smaller : goal.loop-i-smaller
-loop-i-smaller c = omega arith
-
 pub loop-i-preserved : goal.loop-i-preserved
 loop-i-preserved c = let a = c.args in
     let l = c.loop-i in

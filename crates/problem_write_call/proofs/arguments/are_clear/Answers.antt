@@ -1,6 +1,5 @@
 -- `are_clear`: after i turns the first i rows are clear.
 use mathlib.Core.Path.{◌∙◌, sym}
-use mathlib.Core.Bool.{true}
 use Prim.Native.Nat.{suc, ◌*◌, ◌≤◌}
 use native.Mathlib.Nat.{mul-le-mul, suc-mul}
 use native.Mathlib.Omega.{arith}
@@ -29,12 +28,6 @@ is_clear_row-requires c = let s = c.args in
 
 pub returns-then-not-is_clear_row : goal.returns-then-not-is_clear_row
 returns-then-not-is_clear_row c = let s = c.args in all-stop s.n c.loop-i.i (λ i. all_below s.n (clear_at s.factor.now i (i * s.n))) (omega arith) (sym c.is_clear_row.ensures ∙ c.if-not-is_clear_row.true) ∙ clear-rows s.n s.factor.now
-
-pub overflow_step-i : goal.overflow_step-i
-overflow_step-i c = omega arith
-
-pub loop-i-smaller : goal.loop-i-smaller
-loop-i-smaller c = omega arith
 
 pub loop-i-preserved : goal.loop-i-preserved
 loop-i-preserved c = let s = c.args in let l = c.loop-i in (omega arith, all_more l.i (λ i. all_below s.n (clear_at s.factor.now i (i * s.n))) l.invariant.1 (sym c.is_clear_row.ensures ∙ c.if-not-is_clear_row.false))

@@ -1,6 +1,5 @@
 -- `are_widths`: after j turns the widths of j constraints are good.
 use mathlib.Core.Path.{◌≡◌, sym, ◌∙◌}
-use mathlib.Core.Bool.{true}
 use mathlib.Core.List.{map}
 use native.Mathlib.Omega.{arith}
 use Rattle.numbers.specs.Numbers.{nth}
@@ -12,31 +11,10 @@ use Rattle.problem_write_call.proofs.arguments.are_widths.Goals as goal
 pub loop-j-init : goal.loop-j-init
 loop-j-init c = let s = c.args in (omega arith, widths-none s.kinds.now (map number s.widths.now))
 
-pub bounds-kinds-j : goal.bounds-kinds-j
-bounds-kinds-j c = omega arith
-
-pub offset_bounds-widths-j : goal.offset_bounds-widths-j
-offset_bounds-widths-j c = omega arith
-
-pub bounds-widths-j : goal.bounds-widths-j
-bounds-widths-j c = omega arith
-
-pub value-requires : goal.value-requires
-value-requires c = tt
-
-pub is_width-requires : goal.is_width-requires
-is_width-requires c = tt
-
 pub returns-then-not-is_width : goal.returns-then-not-is_width
 returns-then-not-is_width c = let s = c.args in
     let l = c.loop-j in
     sym (widths-bad s.kinds.now (map number s.widths.now) l.j s.m (omega arith) (width-by-bits (nth s.kinds.now l.j) l.j s.widths.now _ _ (omega arith) c.value.ensures c.is_width.ensures ∙ c.if-not-is_width.true))
-
-pub overflow_step-j : goal.overflow_step-j
-overflow_step-j c = omega arith
-
-pub loop-j-smaller : goal.loop-j-smaller
-loop-j-smaller c = omega arith
 
 pub loop-j-preserved : goal.loop-j-preserved
 loop-j-preserved c = let s = c.args in

@@ -10,41 +10,11 @@ use Rattle.problem_write_call.proofs.arguments.test_bounds.Goals as goal
 pub loop-i-init : goal.loop-i-init
 loop-i-init c = let s = c.args in (omega arith, tested-none (map number s.lower.now) (map number s.upper.now) s.n)
 
-pub offset_bounds-lower-i : goal.offset_bounds-lower-i
-offset_bounds-lower-i c = omega arith
-
-pub bounds-lower-i : goal.bounds-lower-i
-bounds-lower-i c = omega arith
-
-pub value-requires : goal.value-requires
-value-requires c = tt
-
-pub offset_bounds-upper-i : goal.offset_bounds-upper-i
-offset_bounds-upper-i c = omega arith
-
-pub bounds-upper-i : goal.bounds-upper-i
-bounds-upper-i c = omega arith
-
-pub value-requires-in-loop-i : goal.value-requires-in-loop-i
-value-requires-in-loop-i c = tt
-
-pub are_bounds-requires : goal.are_bounds-requires
-are_bounds-requires c = tt
-
-pub overflow_cast-result : goal.overflow_cast-result
-overflow_cast-result c = omega arith
-
 pub returns-then-not-are_bounds : goal.returns-then-not-are_bounds
 returns-then-not-are_bounds c = let s = c.args in
     let l = c.loop-i in
     let b = bounded-by-bits s.lower.now s.upper.now l.i _ _ _ (omega arith) (omega arith) c.value.ensures c.value-in-loop-i.ensures c.are_bounds.ensures in
     sym (l.invariant.1 ∙ tested-out (map number s.lower.now) (map number s.upper.now) s.n l.i (omega arith) (b ∙ c.if-not-are_bounds.true))
-
-pub overflow_step-i : goal.overflow_step-i
-overflow_step-i c = omega arith
-
-pub loop-i-smaller : goal.loop-i-smaller
-loop-i-smaller c = omega arith
 
 pub loop-i-preserved : goal.loop-i-preserved
 loop-i-preserved c = let s = c.args in

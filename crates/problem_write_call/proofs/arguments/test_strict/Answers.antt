@@ -4,9 +4,6 @@ use Rattle.problem_write.specs.Lent.{lent_of}
 use Rattle.problem_write_call.proofs.Told.{sizes-are, sized, told-size, told-first, told-others, told-room, told-kind, told-width, told_bounds}
 use Rattle.problem_write_call.proofs.arguments.test_strict.Goals as goal
 
-pub are_sizes-requires : goal.are_sizes-requires
-are_sizes-requires c = tt
-
 pub returns-then-not-are_sizes : goal.returns-then-not-are_sizes
 returns-then-not-are_sizes c = let a = c.args in
     told-size (lent_of a.n a.m a.factor.now a.gradient.now a.kinds.now a.values.now a.widths.now a.jacobian.now a.lower.now a.upper.now) a.w a.«iw» (sym c.are_sizes.ensures ∙ c.if-not-are_sizes.true)
@@ -18,22 +15,13 @@ pub returns-then-not-are_lengths : goal.returns-then-not-are_lengths
 returns-then-not-are_lengths c = let a = c.args in
     told-first (lent_of a.n a.m a.factor.now a.gradient.now a.kinds.now a.values.now a.widths.now a.jacobian.now a.lower.now a.upper.now) a.w a.«iw» (sym c.are_sizes.ensures ∙ c.if-not-are_sizes.false) (sym c.are_lengths.ensures ∙ c.if-not-are_lengths.true)
 
-pub are_other_lengths-requires : goal.are_other_lengths-requires
-are_other_lengths-requires c = tt
-
 pub returns-then-not-are_other_lengths : goal.returns-then-not-are_other_lengths
 returns-then-not-are_other_lengths c = let a = c.args in
     told-others (lent_of a.n a.m a.factor.now a.gradient.now a.kinds.now a.values.now a.widths.now a.jacobian.now a.lower.now a.upper.now) a.w a.«iw» (sym c.are_sizes.ensures ∙ c.if-not-are_sizes.false) (sym c.are_lengths.ensures ∙ c.if-not-are_lengths.false) (sym c.are_other_lengths.ensures ∙ c.if-not-are_other_lengths.true)
 
-pub is_room-requires : goal.is_room-requires
-is_room-requires c = tt
-
 pub returns-then-not-is_room : goal.returns-then-not-is_room
 returns-then-not-is_room c = let a = c.args in
     told-room (lent_of a.n a.m a.factor.now a.gradient.now a.kinds.now a.values.now a.widths.now a.jacobian.now a.lower.now a.upper.now) a.w a.«iw» (sym c.are_sizes.ensures ∙ c.if-not-are_sizes.false) (sym c.are_lengths.ensures ∙ c.if-not-are_lengths.false) (sym c.are_other_lengths.ensures ∙ c.if-not-are_other_lengths.false) (sym c.is_room.ensures ∙ c.if-not-is_room.true)
-
-pub are_kinds-requires : goal.are_kinds-requires
-are_kinds-requires c = tt
 
 pub returns-then-not-are_kinds : goal.returns-then-not-are_kinds
 returns-then-not-are_kinds c = let a = c.args in

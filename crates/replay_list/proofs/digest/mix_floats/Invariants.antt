@@ -1,13 +1,8 @@
--- `mix_floats` meets its contract: `d` has the first `i` entries.
+-- `mix_floats`: `d` has the first entries.
 use mathlib.Core.Path.{◌≡◌}
-use Prim.Native.Nat.{◌≤◌, ◌-◌}
-use lib.ListN.{length}
 use Rattle.numbers.specs.Numbers.{at}
 use Rattle.replay_list.specs.Digest.{over, pattern_of}
 use Rattle.replay_list.proofs.digest.mix_floats.Given as goal
 
-abbrev pub invariant-loop-i : goal.invariant-loop-i
-invariant-loop-i l = (l.i ≤ length l.xs) × (l.d ≡ over l.i l.digest (λ k. pattern_of (at l.xs k)))
-
-abbrev pub decreases-loop-i : goal.decreases-loop-i
-decreases-loop-i l = length l.xs - l.i
+abbrev pub invariant-loop-x : goal.invariant-loop-x
+invariant-loop-x l = l.d ≡ over l.x-index (l.digest) (λ k. pattern_of (at l.xs k))

@@ -1,15 +1,14 @@
--- `mix_kinds` meets its contract: `d` has the length and the first `i` entries.
-use mathlib.Core.Path.{◌∙◌, ap}
+-- `mix_kinds` meets its contract.
+use mathlib.Core.Path.{◌∙◌}
 use native.Mathlib.Omega.{arith}
-use Rattle.replay_list.specs.Digest.{mix}
 use Rattle.replay_list.proofs.Digests.{over_none, over-more, over_done}
 use Rattle.replay_list.proofs.digest.mix_kinds.Goals as goal
 
-pub loop-i-init : goal.loop-i-init
-loop-i-init c = (omega arith, c.mixed-d.ensures ∙ ap (mix _) c.count.ensures ∙ over_none _ _)
+pub loop-x-init : goal.loop-x-init
+loop-x-init c = c.mixed-d.ensures ∙ over_none _ _
 
-pub loop-i-preserved : goal.loop-i-preserved
-loop-i-preserved c = (omega arith, over-more _ _ _ _ _ c.loop-i.invariant.1 c.mix_kind-d.ensures)
+pub loop-x-preserved : goal.loop-x-preserved
+loop-x-preserved c = over-more _ _ _ _ _ c.loop-x.invariant c.mix_kind-d.ensures
 
 pub returns : goal.returns
-returns c = over_done _ _ _ _ _ c.loop-i.invariant.0 c.loop-i-test.false c.loop-i.invariant.1
+returns c = over_done _ _ _ _ _ (omega arith) c.loop-x-test.false c.loop-x.invariant

@@ -1,13 +1,9 @@
--- `mix_kinds` meets its contract: `d` has the length and the first `i` entries.
+-- `mix_kinds`: `d` has the first entries.
 use mathlib.Core.Path.{◌≡◌}
-use Prim.Native.Nat.{◌≤◌, ◌-◌}
 use lib.ListN.{length}
 use Rattle.numbers.specs.Numbers.{nth}
-use Rattle.replay_list.specs.Digest.{mix, over}
+use Rattle.replay_list.specs.Digest.{over, mix}
 use Rattle.replay_list.proofs.digest.mix_kinds.Given as goal
 
-abbrev pub invariant-loop-i : goal.invariant-loop-i
-invariant-loop-i l = (l.i ≤ length l.xs) × (l.d ≡ over l.i (mix l.digest (length l.xs)) (nth l.xs))
-
-abbrev pub decreases-loop-i : goal.decreases-loop-i
-decreases-loop-i l = length l.xs - l.i
+abbrev pub invariant-loop-x : goal.invariant-loop-x
+invariant-loop-x l = l.d ≡ over l.x-index (mix l.digest (length l.xs)) (λ k. nth l.xs k)

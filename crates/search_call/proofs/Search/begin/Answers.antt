@@ -1,6 +1,7 @@
 -- `begin`: each way out by its tests.
 use mathlib.Core.Path.{sym, ◌∙◌}
 use native.Mathlib.Omega.{arith}
+use Rattle.std.proofs.lemmas.Result.{err_from_is_err_and}
 use Rattle.workspace.proofs.Tests.{room-ge}
 use Rattle.step_call.proofs.Bounds.{all_pass, all-stop}
 use Rattle.search.specs.Promise.{setup_of}
@@ -67,14 +68,15 @@ begin_bounded-requires c = let a = c.args in
     let r = room-ge a.w.now a.iw.now (sym c.is_room.ensures ∙ c.if-not-is_room.false) in
     (b.0, b.1, r.0, r.1)
 
-pub returns-in-Refused : goal.returns-in-Refused
-returns-in-Refused c = let a = c.args in
+pub returns-in_err-test_bounds : goal.returns-in_err-test_bounds
+returns-in_err-test_bounds c = let a = c.args in
     let p = setup_of a.n a.m a.kinds.now a.lower.now a.upper.now a.ftol a.scheme in
-    bound-refused p a.machine.now a.w.now a.words.now a.iw.now _ _ _ _ _ _ (sym c.are_sizes.ensures ∙ c.if-not-are_sizes.false) (lengths-rest _ _ _ _ (sym c.are_lengths.ensures ∙ c.if-not-are_lengths.false) (sym c.are_slices.ensures ∙ c.if-not-are_slices.false)) (sym c.is_room.ensures ∙ c.if-not-is_room.false) (sym c.are_kinds.ensures ∙ c.if-not-are_kinds.false) _ (sym c.is_tolerance.ensures ∙ c.if-not-is_tolerance.false)
-    (all-stop a.lower.now a.upper.now _ a.n 0 _ (sym c.test_bounds.ensures ∙ c.in-Refused.is))
+    let e = err_from_is_err_and c.from_residual.result c.from_residual.ensures.1 in
+    rw (e.1, e.2) (bound-refused p a.machine.now a.w.now a.words.now a.iw.now _ _ _ _ _ _ (sym c.are_sizes.ensures ∙ c.if-not-are_sizes.false) (lengths-rest _ _ _ _ (sym c.are_lengths.ensures ∙ c.if-not-are_lengths.false) (sym c.are_slices.ensures ∙ c.if-not-are_slices.false)) (sym c.is_room.ensures ∙ c.if-not-is_room.false) (sym c.are_kinds.ensures ∙ c.if-not-are_kinds.false) _ (sym c.is_tolerance.ensures ∙ c.if-not-is_tolerance.false)
+    (all-stop a.lower.now a.upper.now _ a.n 0 _ (sym c.test_bounds.ensures ∙ c.in_err-test_bounds.was)))
 
-pub returns-in-Done : goal.returns-in-Done
-returns-in-Done c = let a = c.args in
+pub returns : goal.returns
+returns c = let a = c.args in
     let p = setup_of a.n a.m a.kinds.now a.lower.now a.upper.now a.ftol a.scheme in
     call-answered p a.machine.now a.w.now a.words.now a.iw.now _ _ _ _ _ _ (sym c.are_sizes.ensures ∙ c.if-not-are_sizes.false) (lengths-rest _ _ _ _ (sym c.are_lengths.ensures ∙ c.if-not-are_lengths.false) (sym c.are_slices.ensures ∙ c.if-not-are_slices.false)) (sym c.is_room.ensures ∙ c.if-not-is_room.false) (sym c.are_kinds.ensures ∙ c.if-not-are_kinds.false) _ _ _ _ _ _ (sym c.is_tolerance.ensures ∙ c.if-not-is_tolerance.false)
-    (all_pass a.lower.now a.upper.now _ a.n 0 (sym c.test_bounds.ensures ∙ c.in-Done.is)) c.begin_bounded.ensures
+    (all_pass a.lower.now a.upper.now _ a.n 0 (sym c.test_bounds.ensures ∙ c.in_ok-test_bounds.was)) c.begin_bounded.ensures

@@ -1,38 +1,28 @@
-use Rattle.settle.proofs.Working.{tested-as}
-use mathlib.Core.Path.{◌≡◌}
+-- `is_own`: the first j coefficients are as they are wanted.
+use mathlib.Core.Path.{◌≡◌, ◌∙◌}
+use mathlib.Core.Bool.{cond}
 use native.Mathlib.Omega.{arith}
+use lib.Dec.{eqb}
+use Rattle.numbers.specs.Numbers.{+0, one}
 use Rattle.certain.proofs.Laws.{all_none, all_more, all_done, all-broken}
-use mathlib.Core.Bool.{true}
+use Rattle.settle.proofs.Working.{unit-is, unit-not, tested-as}
 use Rattle.settle.specs.Settle.{is_own}
+use Rattle.settle.proofs.again.is_own.Goals.{then-j-i, else-j-i}
 use Rattle.settle.proofs.again.is_own.Goals as goal
-
-pub overflow_mul-o : goal.overflow_mul-o
-overflow_mul-o c = omega (arith, c.requires.0)
 
 pub loop-j-init : goal.loop-j-init
 loop-j-init c = (omega arith, all_none _)
 
-pub overflow_add-o : goal.overflow_add-o
-overflow_add-o c = omega (arith, c.requires.0)
-
-pub offset_bounds-limits-o : goal.offset_bounds-limits-o
-offset_bounds-limits-o c = omega (arith, c.requires.0)
-
-pub bounds-limits-o : goal.bounds-limits-o
-bounds-limits-o c = omega (arith, c.requires.0)
-
-pub returns-then-not-limits-o : goal.returns-then-not-limits-o
+pub returns-then-not-limits-k : goal.returns-then-not-limits-k
 unfolding is_own
-returns-then-not-limits-o c = all-broken _ c.loop-j.j _ c.loop-j-test.true (tested-as _ _ _ _ c.unit-v.ensures c.if-not-limits-o.true)
-
-pub overflow_add-j : goal.overflow_add-j
-overflow_add-j c = omega arith
-
-pub loop-j-smaller : goal.loop-j-smaller
-loop-j-smaller c = omega arith
+returns-then-not-limits-k c =
+    let u : c.if-j-i.wanted ≡ cond (eqb c.loop-j.j c.args.i) one +0 = elim c.if-j-i.branch [ then-j-i w ↦ w.wanted-is ∙ unit-is _ _ w.if-j-i.true | else-j-i w ↦ w.wanted-is ∙ unit-not _ _ w.if-j-i.false ] in
+    all-broken _ c.loop-j.j _ c.loop-j-test.true (tested-as _ _ _ _ u c.if-not-limits-k.true)
 
 pub loop-j-preserved : goal.loop-j-preserved
-loop-j-preserved c = (omega arith, all_more _ _ c.loop-j.invariant.1 (tested-as _ _ _ _ c.unit-v.ensures c.if-not-limits-o.false))
+loop-j-preserved c =
+    let u : c.if-j-i.wanted ≡ cond (eqb c.loop-j.j c.args.i) one +0 = elim c.if-j-i.branch [ then-j-i w ↦ w.wanted-is ∙ unit-is _ _ w.if-j-i.true | else-j-i w ↦ w.wanted-is ∙ unit-not _ _ w.if-j-i.false ] in
+    (omega arith, all_more _ _ c.loop-j.invariant.1 (tested-as _ _ _ _ u c.if-not-limits-k.false))
 
 pub returns : goal.returns
 unfolding is_own

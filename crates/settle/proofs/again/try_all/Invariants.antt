@@ -1,13 +1,12 @@
 use mathlib.Core.Path.{◌≡◌}
-use Prim.Native.Nat.{◌+◌, ◌≤◌}
+use Prim.Native.Nat.{◌+◌, ◌-◌, ◌≤◌}
 use lib.ListN.{length}
-use Rattle.workspace.specs.Readings.{nums}
-use Rattle.settle.specs.Settle.{measured, tries}
-use Rattle.settle.specs.inner.Work.{Held, FirstStays}
+use Rattle.settle.specs.Lent.{measured_in}
+use Rattle.settle.proofs.Tries.{Trying}
 use Rattle.settle.proofs.again.try_all.Given as goal
 
-abbrev pub invariant-loop-t : goal.invariant-loop-t
-invariant-loop-t l = (l.m + l.c ≤ 16) × (length l.w ≡ length l.initial.w) × (length l.iw ≡ length l.initial.iw) × Held l.p l.c l.iw × (tries (measured l.n l.m l.p l.values l.spreads l.balances l.limits l.least) l.c (nums 300 l.c l.iw) ≡ tries (measured l.n l.m l.p l.values l.spreads l.balances l.limits l.least) l.held (nums 300 l.held l.initial.iw)) × FirstStays l.initial.w l.w
+abbrev pub invariant-loop-gone : goal.invariant-loop-gone
+invariant-loop-gone l = (l.gone ≤ l.held + 1) × (length l.w ≡ length l.initial.w) × (length l.iw ≡ length l.initial.iw) × Trying (measured_in l.day) l.held l.gone l.initial.iw l.iw l.initial.w l.w
 
-abbrev pub decreases-loop-t : goal.decreases-loop-t
-decreases-loop-t l = l.c
+abbrev pub decreases-loop-gone : goal.decreases-loop-gone
+decreases-loop-gone l = l.held + 1 - l.gone

@@ -3,7 +3,6 @@ use mathlib.Core.Path.{◌≡◌, refl, ap}
 use native.Mathlib.Omega.{arith}
 use lib.ListN.{length-set}
 use lib.Ieee.{nan, neg}
-use Rattle.numbers.specs.Numbers.{at}
 use Rattle.workspace.proofs.Writes.{written_none, written-front}
 use Rattle.step.proofs.Target.{negated-front}
 use Rattle.step.proofs.assembly.negate.Goals as goal
@@ -11,30 +10,9 @@ use Rattle.step.proofs.assembly.negate.Goals as goal
 pub loop-i-init : goal.loop-i-init
 loop-i-init c = (omega arith, refl, written_none nan _ _ _)
 
-pub offset_bounds-w-i : goal.offset_bounds-w-i
-offset_bounds-w-i c = omega arith
-
-pub bounds-w-i : goal.bounds-w-i
-bounds-w-i c = omega arith
-
-pub offset_bounds-w-i-in-loop-i : goal.offset_bounds-w-i-in-loop-i
-offset_bounds-w-i-in-loop-i c = omega arith
-
-pub bounds-w-i-in-loop-i : goal.bounds-w-i-in-loop-i
-bounds-w-i-in-loop-i c = omega arith
-
-pub overflow_step-i : goal.overflow_step-i
-overflow_step-i c = omega arith
-
-pub loop-i-smaller : goal.loop-i-smaller
-loop-i-smaller c = omega arith
-
 pub loop-i-preserved : goal.loop-i-preserved
 loop-i-preserved c = let l = c.loop-i in
     (omega arith, simp length-set l.invariant.1, written-front nan _ _ _ _ _ (omega arith) (ap neg (l.invariant.2.after l.i (omega arith))) l.invariant.2)
-
-pub shape_of-w : goal.shape_of-w
-shape_of-w c = c.loop-i.invariant.1
 
 pub returns : goal.returns
 returns c = let e : c.loop-i.i ≡ c.args.n = omega arith in negated-front _ _ _ (rw e at c.loop-i.invariant.2)

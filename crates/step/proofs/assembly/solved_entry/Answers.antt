@@ -13,12 +13,6 @@ overflow_mul-p c = omega (arith, row_fits c.args.n c.args.n c.args.i c.requires.
 pub dot_strided-t-requires : goal.dot_strided-t-requires
 dot_strided-t-requires c = let f = row_fits c.args.n c.args.n c.args.i c.requires.0 in record { by_index = λ t h. omega (arith, f, c.requires.1); by_index_2 = λ t h. omega arith }
 
-pub offset_bounds-w-i : goal.offset_bounds-w-i
-offset_bounds-w-i c = omega arith
-
-pub bounds-w-i : goal.bounds-w-i
-bounds-w-i c = omega arith
-
 pub overflow_add-result : goal.overflow_add-result
 overflow_add-result c = omega (arith, row_fits c.args.n c.args.n c.args.i c.requires.0, c.requires.1)
 

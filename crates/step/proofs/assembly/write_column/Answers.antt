@@ -4,36 +4,12 @@ use Rattle.numbers.proofs.Lists.{row_fits}
 use Rattle.step.proofs.Matrices.{column-written}
 use Rattle.step.proofs.assembly.write_column.Goals as goal
 
-pub overflow_mul-p : goal.overflow_mul-p
-overflow_mul-p c = omega arith
-
-pub overflow_add-p : goal.overflow_add-p
-overflow_add-p c = omega arith
-
-pub overflow_add-q : goal.overflow_add-q
-overflow_add-q c = omega arith
-
-pub overflow_add-q-2 : goal.overflow_add-q-2
-overflow_add-q-2 c = omega arith
-
 pub overflow_mul-j : goal.overflow_mul-j
 overflow_mul-j c = omega (arith, row_fits c.args.n c.args.n c.args.j c.requires.1, c.requires.2)
-
-pub overflow_add-j : goal.overflow_add-j
-overflow_add-j c = omega arith
 
 pub copy_strided-requires : goal.copy_strided-requires
 copy_strided-requires c = let f = row_fits c.args.n c.args.n c.args.j c.requires.1 in
     (λ t h. omega (arith, f, c.requires.2), omega arith)
-
-pub overflow_sub-n : goal.overflow_sub-n
-overflow_sub-n c = omega arith
-
-pub blank-requires : goal.blank-requires
-blank-requires c = omega arith
-
-pub shape_of-w : goal.shape_of-w
-shape_of-w c = omega arith
 
 pub returns : goal.returns
 returns c = let a = c.args in

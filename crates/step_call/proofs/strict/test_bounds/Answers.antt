@@ -7,32 +7,8 @@ use Rattle.step_call.proofs.strict.test_bounds.Goals as goal
 pub loop-i-init : goal.loop-i-init
 loop-i-init c = (omega arith, tested-none _ _ _)
 
-pub offset_bounds-lower-i : goal.offset_bounds-lower-i
-offset_bounds-lower-i c = omega arith
-
-pub bounds-lower-i : goal.bounds-lower-i
-bounds-lower-i c = omega arith
-
-pub offset_bounds-upper-i : goal.offset_bounds-upper-i
-offset_bounds-upper-i c = omega arith
-
-pub bounds-upper-i : goal.bounds-upper-i
-bounds-upper-i c = omega arith
-
-pub are_bounds-requires : goal.are_bounds-requires
-are_bounds-requires c = tt
-
-pub overflow_cast-result : goal.overflow_cast-result
-overflow_cast-result c = omega arith
-
 pub returns-then-not-are_bounds : goal.returns-then-not-are_bounds
 returns-then-not-are_bounds c = sym (c.loop-i.invariant.1 ∙ tested-out _ _ _ _ (omega arith) (sym c.are_bounds.ensures ∙ c.if-not-are_bounds.true))
-
-pub overflow_step-i : goal.overflow_step-i
-overflow_step-i c = omega arith
-
-pub loop-i-smaller : goal.loop-i-smaller
-loop-i-smaller c = omega arith
 
 pub loop-i-preserved : goal.loop-i-preserved
 loop-i-preserved c = (omega arith, c.loop-i.invariant.1 ∙ tested-on _ _ _ _ (omega arith) (sym c.are_bounds.ensures ∙ c.if-not-are_bounds.false))

@@ -11,9 +11,6 @@ overflow_mul-p c = omega (arith, row_fits c.args.n c.args.n c.args.k c.requires.
 pub overflow_add-p : goal.overflow_add-p
 overflow_add-p c = omega (arith, row_fits c.args.n c.args.n c.args.k c.requires.0, c.requires.1)
 
-pub overflow_sub-n : goal.overflow_sub-n
-overflow_sub-n c = omega arith
-
 pub dot_strided-requires : goal.dot_strided-requires
 dot_strided-requires c = record { by_index = λ t h. omega (arith, below-fits c.args.n c.args.k t c.requires.0 h, c.requires.1); by_index_2 = λ t h. omega (arith, c.requires.2) }
 

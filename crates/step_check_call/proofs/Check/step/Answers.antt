@@ -5,11 +5,7 @@ use Rattle.step_rows.specs.Problem.{problem_of}
 use Rattle.step_call.proofs.Calls.{sizes-le, lengths-are, others-are}
 use Rattle.step_check.specs.Check.{pasted_of}
 use Rattle.step_check_call.proofs.Calls.{sides-are, size-refused, first-refused, second-refused, third-refused, room-refused, kind-refused, width-refused, tolerance-refused, all-passed}
-use native.Mathlib.Omega.{arith}
 use Rattle.step_check_call.proofs.Check.step.Goals as goal
-
-pub are_sizes-requires : goal.are_sizes-requires
-are_sizes-requires c = tt
 
 pub returns-then-not-are_sizes : goal.returns-then-not-are_sizes
 returns-then-not-are_sizes c = let a = c.args in
@@ -26,17 +22,11 @@ returns-then-not-are_lengths c = let a = c.args in
     let s = pasted_of a.d.now a.multipliers.now a.lowers.now a.uppers.now in
     first-refused p s a.tolerance a.w.now a.iw.now (sym c.are_sizes.ensures ∙ c.if-not-are_sizes.false) (sym c.are_lengths.ensures ∙ c.if-not-are_lengths.true)
 
-pub are_other_lengths-requires : goal.are_other_lengths-requires
-are_other_lengths-requires c = tt
-
 pub returns-then-not-are_other_lengths : goal.returns-then-not-are_other_lengths
 returns-then-not-are_other_lengths c = let a = c.args in
     let p = problem_of a.n a.m a.factor.now a.gradient.now a.kinds.now a.values.now a.widths.now a.jacobian.now a.lower.now a.upper.now in
     let s = pasted_of a.d.now a.multipliers.now a.lowers.now a.uppers.now in
     second-refused p s a.tolerance a.w.now a.iw.now (sym c.are_sizes.ensures ∙ c.if-not-are_sizes.false) (sym c.are_lengths.ensures ∙ c.if-not-are_lengths.false) (sym c.are_other_lengths.ensures ∙ c.if-not-are_other_lengths.true)
-
-pub are_sides-requires : goal.are_sides-requires
-are_sides-requires c = tt
 
 pub returns-then-not-are_sides : goal.returns-then-not-are_sides
 returns-then-not-are_sides c = let a = c.args in
@@ -44,17 +34,11 @@ returns-then-not-are_sides c = let a = c.args in
     let s = pasted_of a.d.now a.multipliers.now a.lowers.now a.uppers.now in
     third-refused p s a.tolerance a.w.now a.iw.now (sym c.are_sizes.ensures ∙ c.if-not-are_sizes.false) (sym c.are_lengths.ensures ∙ c.if-not-are_lengths.false) (sym c.are_other_lengths.ensures ∙ c.if-not-are_other_lengths.false) (sym c.are_sides.ensures ∙ c.if-not-are_sides.true)
 
-pub is_room-requires : goal.is_room-requires
-is_room-requires c = tt
-
 pub returns-then-not-is_room : goal.returns-then-not-is_room
 returns-then-not-is_room c = let a = c.args in
     let p = problem_of a.n a.m a.factor.now a.gradient.now a.kinds.now a.values.now a.widths.now a.jacobian.now a.lower.now a.upper.now in
     let s = pasted_of a.d.now a.multipliers.now a.lowers.now a.uppers.now in
     room-refused p s a.tolerance a.w.now a.iw.now (sym c.are_sizes.ensures ∙ c.if-not-are_sizes.false) (sym c.are_lengths.ensures ∙ c.if-not-are_lengths.false) (sym c.are_other_lengths.ensures ∙ c.if-not-are_other_lengths.false) (sym c.are_sides.ensures ∙ c.if-not-are_sides.false) (sym c.is_room.ensures ∙ c.if-not-is_room.true)
-
-pub are_kinds-requires : goal.are_kinds-requires
-are_kinds-requires c = tt
 
 pub returns-then-not-are_kinds : goal.returns-then-not-are_kinds
 returns-then-not-are_kinds c = let a = c.args in
@@ -74,40 +58,21 @@ returns-then-not-are_widths c = let a = c.args in
     let s = pasted_of a.d.now a.multipliers.now a.lowers.now a.uppers.now in
     width-refused p s a.tolerance a.w.now a.iw.now (sym c.are_sizes.ensures ∙ c.if-not-are_sizes.false) (sym c.are_lengths.ensures ∙ c.if-not-are_lengths.false) (sym c.are_other_lengths.ensures ∙ c.if-not-are_other_lengths.false) (sym c.are_sides.ensures ∙ c.if-not-are_sides.false) (sym c.is_room.ensures ∙ c.if-not-is_room.false) (sym c.are_kinds.ensures ∙ c.if-not-are_kinds.false) (sym c.are_widths.ensures ∙ c.if-not-are_widths.true)
 
-pub is_tolerance-requires : goal.is_tolerance-requires
-is_tolerance-requires c = tt
-
 pub returns-then-not-is_tolerance : goal.returns-then-not-is_tolerance
 returns-then-not-is_tolerance c = let a = c.args in
     let p = problem_of a.n a.m a.factor.now a.gradient.now a.kinds.now a.values.now a.widths.now a.jacobian.now a.lower.now a.upper.now in
     let s = pasted_of a.d.now a.multipliers.now a.lowers.now a.uppers.now in
     tolerance-refused p s a.tolerance a.w.now a.iw.now (sym c.are_sizes.ensures ∙ c.if-not-are_sizes.false) (sym c.are_lengths.ensures ∙ c.if-not-are_lengths.false) (sym c.are_other_lengths.ensures ∙ c.if-not-are_other_lengths.false) (sym c.are_sides.ensures ∙ c.if-not-are_sides.false) (sym c.is_room.ensures ∙ c.if-not-is_room.false) (sym c.are_kinds.ensures ∙ c.if-not-are_kinds.false) (sym c.are_widths.ensures ∙ c.if-not-are_widths.false) (sym c.is_tolerance.ensures ∙ c.if-not-is_tolerance.true)
 
-pub check_all-requires : goal.check_all-requires
-check_all-requires c = let a = c.args in
-    let z = sizes-le a.n a.m (sym c.are_sizes.ensures ∙ c.if-not-are_sizes.false) in
-    let l = lengths-are a.n a.m _ _ _ _ _ (sym c.are_lengths.ensures ∙ c.if-not-are_lengths.false) in
+pub check_all-verdict-requires : goal.check_all-verdict-requires
+check_all-verdict-requires c = let a = c.args in
     let o = others-are a.n a.m _ _ _ _ _ (sym c.are_other_lengths.ensures ∙ c.if-not-are_other_lengths.false) in
     let h = sides-are a.n _ _ (sym c.are_sides.ensures ∙ c.if-not-are_sides.false) in
     let r = room-ge a.w.now a.iw.now (sym c.is_room.ensures ∙ c.if-not-is_room.false) in
-    record {
-      posed = record {
-        sloped = record { variables = z.0; square = l.0; slopes = l.1; entries = l.4; low = o.1; high = o.2; step = o.3; prices = o.4; low_prices = h.0; high_prices = h.1 };
-        rowed = record { constraints = z.1; kind = l.2; value = l.3; width = o.0; entries = l.4; step = o.3; prices = o.4 };
-        sided = record { variables = z.0; low = o.1; high = o.2; step = o.3; low_prices = h.0; high_prices = h.1 };
-      };
-      floats = r.0;
-      words = r.1;
-    }
-
-pub shape_of-w : goal.shape_of-w
-shape_of-w c = omega arith
-
-pub shape_of-iw : goal.shape_of-iw
-shape_of-iw c = omega arith
+    (o.3, o.4, h.0, h.1, r.0, r.1)
 
 pub returns : goal.returns
 returns c = let a = c.args in
     let p = problem_of a.n a.m a.factor.now a.gradient.now a.kinds.now a.values.now a.widths.now a.jacobian.now a.lower.now a.upper.now in
     let s = pasted_of a.d.now a.multipliers.now a.lowers.now a.uppers.now in
-    all-passed p s a.tolerance a.w.now a.iw.now (sym c.are_sizes.ensures ∙ c.if-not-are_sizes.false) (sym c.are_lengths.ensures ∙ c.if-not-are_lengths.false) (sym c.are_other_lengths.ensures ∙ c.if-not-are_other_lengths.false) (sym c.are_sides.ensures ∙ c.if-not-are_sides.false) (sym c.is_room.ensures ∙ c.if-not-is_room.false) (sym c.are_kinds.ensures ∙ c.if-not-are_kinds.false) (sym c.are_widths.ensures ∙ c.if-not-are_widths.false) (sym c.is_tolerance.ensures ∙ c.if-not-is_tolerance.false) _ _ _ c.check_all.ensures
+    all-passed p s a.tolerance a.w.now a.iw.now (sym c.are_sizes.ensures ∙ c.if-not-are_sizes.false) (sym c.are_lengths.ensures ∙ c.if-not-are_lengths.false) (sym c.are_other_lengths.ensures ∙ c.if-not-are_other_lengths.false) (sym c.are_sides.ensures ∙ c.if-not-are_sides.false) (sym c.is_room.ensures ∙ c.if-not-is_room.false) (sym c.are_kinds.ensures ∙ c.if-not-are_kinds.false) (sym c.are_widths.ensures ∙ c.if-not-are_widths.false) (sym c.is_tolerance.ensures ∙ c.if-not-is_tolerance.false) _ _ _ c.check_all-verdict.ensures

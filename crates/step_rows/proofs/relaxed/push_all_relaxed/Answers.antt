@@ -1,7 +1,6 @@
 -- `push_all_relaxed`: after j turns j constraints are pushed.
 use mathlib.Core.Path.{◌≡◌, refl, ◌∙◌}
 use native.Mathlib.Omega.{arith}
-use Rattle.numbers.specs.Numbers.{at}
 use Rattle.numbers.proofs.Lists.{row_fits}
 use Rattle.step_rows.proofs.Pushing.{each_none, each_more}
 use Rattle.step_rows.proofs.relaxed.push_all_relaxed.Goals as goal
@@ -9,42 +8,15 @@ use Rattle.step_rows.proofs.relaxed.push_all_relaxed.Goals as goal
 pub loop-j-init : goal.loop-j-init
 loop-j-init c = (omega arith, refl, omega arith, each_none _ _ _ _ _)
 
-pub bounds-kinds-j : goal.bounds-kinds-j
-bounds-kinds-j c = omega arith
-
-pub offset_bounds-widths-j : goal.offset_bounds-widths-j
-offset_bounds-widths-j c = omega arith
-
-pub bounds-widths-j : goal.bounds-widths-j
-bounds-widths-j c = omega arith
-
-pub of-constraint-requires : goal.of-constraint-requires
-of-constraint-requires c = tt
-
-pub offset_bounds-values-j : goal.offset_bounds-values-j
-offset_bounds-values-j c = omega arith
-
-pub bounds-values-j : goal.bounds-values-j
-bounds-values-j c = omega arith
-
 pub push_relaxed-k-requires : goal.push_relaxed-k-requires
-push_relaxed-k-requires c = (omega arith, omega (arith, row_fits c.args.m c.args.n c.loop-j.j c.loop-j-test.true, c.requires.4), omega arith)
-
-pub overflow_step-j : goal.overflow_step-j
-overflow_step-j c = omega arith
-
-pub loop-j-smaller : goal.loop-j-smaller
-loop-j-smaller c = omega arith
+push_relaxed-k-requires c = (omega arith, omega (arith, row_fits c.args.p.now.m c.args.p.now.n c.loop-j.j c.loop-j-test.true, c.args.p.now.entries), omega arith)
 
 pub loop-j-preserved : goal.loop-j-preserved
 loop-j-preserved c = let l = c.loop-j in
     let b = c.push_relaxed-k in
-    (omega arith, b.auto.w ∙ l.invariant.1, omega (arith, b.ensures.0, l.invariant.2), each_more _ _ _ _ _ _ _ _ _ _ l.invariant.3 (rw c.of-constraint.ensures at b.ensures.1))
-
-pub shape_of-w : goal.shape_of-w
-shape_of-w c = c.loop-j.invariant.1
+    (omega arith, b.auto.w ∙ l.invariant.1, omega (arith, b.ensures.0, l.invariant.2), each_more _ _ _ _ _ _ _ _ _ _ l.invariant.3 (rw c.constraint-constraint.ensures at b.ensures.1))
 
 pub returns : goal.returns
 returns c = let l = c.loop-j in
-    let e : l.j ≡ c.args.m = omega arith in
+    let e : l.j ≡ c.args.p.now.m = omega arith in
     (omega (arith, l.invariant.2), rw (← e) l.invariant.3)

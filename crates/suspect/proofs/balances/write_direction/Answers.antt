@@ -5,21 +5,6 @@ use Rattle.workspace.proofs.Readings.{lit-one}
 use Rattle.suspect.proofs.Preparing.{direction-is}
 use Rattle.suspect.proofs.balances.write_direction.Goals as goal
 
-pub overflow_mul-i : goal.overflow_mul-i
-overflow_mul-i c = omega arith
-
-pub overflow_add-i : goal.overflow_add-i
-overflow_add-i c = omega arith
-
-pub write_unit-requires : goal.write_unit-requires
-write_unit-requires c = omega arith
-
-pub overflow_mul-i-2 : goal.overflow_mul-i-2
-overflow_mul-i-2 c = omega arith
-
-pub overflow_add-i-2 : goal.overflow_add-i-2
-overflow_add-i-2 c = omega arith
-
 pub apply_qt-requires : goal.apply_qt-requires
 apply_qt-requires c = omega (arith, c.write_unit.auto.w, c.requires)
 

@@ -1,21 +1,11 @@
 -- `write_directions`: after i turns i rows are there.
 use mathlib.Core.Path.{◌≡◌, refl, ◌∙◌}
 use native.Mathlib.Omega.{arith}
-use Rattle.numbers.specs.Numbers.{at}
 use Rattle.suspect.proofs.Preparing.{directed-none, directed-more, directions-are}
 use Rattle.suspect.proofs.balances.write_directions.Goals as goal
 
 pub loop-i-init : goal.loop-i-init
 loop-i-init c = (omega arith, refl, directed-none _ _ _)
-
-pub write_direction-requires : goal.write_direction-requires
-write_direction-requires c = omega arith
-
-pub overflow_step-i : goal.overflow_step-i
-overflow_step-i c = omega arith
-
-pub loop-i-smaller : goal.loop-i-smaller
-loop-i-smaller c = omega arith
 
 pub loop-i-preserved : goal.loop-i-preserved
 loop-i-preserved c = let l = c.loop-i in let k = c.write_direction in (omega arith, k.auto.w ∙ l.invariant.1, directed-more c.args.n c.args.r l.i c.args.w.now l.w k.new.w c.requires.0 k.ensures l.invariant.2)

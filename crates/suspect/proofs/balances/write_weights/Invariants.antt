@@ -8,7 +8,7 @@ use Rattle.workspace.proofs.Copies.{Laid}
 use Rattle.suspect.proofs.balances.write_weights.Given as goal
 
 abbrev pub invariant-loop-k : goal.invariant-loop-k
-invariant-loop-k l = (l.k ≤ l.m) × (length l.w ≡ length l.initial.w) × Laid 426 l.n l.k (λ j i. weight (nth l.still i) (at l.spreads i) (entry l.n l.balances j i)) l.initial.w l.w
+invariant-loop-k l = (l.k ≤ l.day.m) × (length l.w ≡ length l.initial.w) × Laid 426 l.day.n l.k (λ j i. weight (nth l.day.still.now i) (at l.day.spreads.now i) (entry l.day.n l.day.balances.now j i)) l.initial.w l.w
 
 abbrev pub decreases-loop-k : goal.decreases-loop-k
-decreases-loop-k l = l.m - l.k
+decreases-loop-k l = l.day.m - l.k

@@ -1,5 +1,4 @@
 -- `mark_of`: unchecked, tied, near, or none of these.
-use Rattle.numbers.specs.Numbers.{at}
 use Rattle.suspect.proofs.Decisions.{lit-tiny, lit-six}
 use Rattle.suspect.specs.Suspect.{mark_of}
 use Rattle.suspect.proofs.decide.mark_of.Goals as goal
@@ -11,9 +10,6 @@ returns-then-h c = rw (rw lit-tiny at c.if-h.true)
 pub returns-then-tied : goal.returns-then-tied
 unfolding mark_of
 returns-then-tied c = rw (rw lit-tiny at c.if-h.false, c.if-tied.true)
-
-pub square_of-s-requires : goal.square_of-s-requires
-square_of-s-requires c = tt
 
 pub returns-then-square-s : goal.returns-then-square-s
 unfolding mark_of

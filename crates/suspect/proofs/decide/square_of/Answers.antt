@@ -1,5 +1,4 @@
 -- `square_of`: unchecked, or not.
-use Rattle.numbers.specs.Numbers.{at}
 use Rattle.householder.proofs.Leading.{lit--1}
 use Rattle.suspect.proofs.Decisions.{lit-tiny}
 use Rattle.suspect.specs.Suspect.{square_of}

@@ -1,5 +1,4 @@
 -- `still_of`: both, only the first, or neither.
-use Rattle.numbers.specs.Numbers.{at}
 use Rattle.workspace.proofs.Readings.{lit-+0}
 use Rattle.suspect.proofs.Decisions.{lit-tiny}
 use Rattle.suspect.specs.Suspect.{still_of}

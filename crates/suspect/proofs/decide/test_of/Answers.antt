@@ -1,5 +1,4 @@
 -- `test_of`: unchecked, or not.
-use Rattle.numbers.specs.Numbers.{at}
 use Rattle.workspace.proofs.Readings.{lit-+0}
 use Rattle.suspect.proofs.Decisions.{lit-tiny}
 use Rattle.suspect.specs.Suspect.{test_of}
@@ -8,9 +7,6 @@ use Rattle.suspect.proofs.decide.test_of.Goals as goal
 pub returns-then-h : goal.returns-then-h
 unfolding test_of
 returns-then-h c = rw (rw lit-tiny at c.if-h.true) lit-+0
-
-pub sqrt-x-requires : goal.sqrt-x-requires
-sqrt-x-requires c = tt
 
 pub returns : goal.returns
 unfolding test_of

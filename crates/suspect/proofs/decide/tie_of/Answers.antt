@@ -1,5 +1,4 @@
 -- `tie_of`: one is unchecked, or the product decides.
-use Rattle.numbers.specs.Numbers.{at}
 use Rattle.suspect.proofs.Decisions.{lit-tiny, lit-tied}
 use Rattle.suspect.specs.Suspect.{tie_of}
 use Rattle.suspect.proofs.decide.tie_of.Goals as goal

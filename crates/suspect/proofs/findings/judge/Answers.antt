@@ -7,24 +7,6 @@ use Rattle.suspect.proofs.Decisions.{lead-most, finding-is}
 use Rattle.suspect.proofs.Measures.{misfit-in}
 use Rattle.suspect.proofs.findings.judge.Goals as goal
 
-pub dot_within-misfit-requires : goal.dot_within-misfit-requires
-dot_within-misfit-requires c = omega arith
-
-pub find_lead-best-requires : goal.find_lead-best-requires
-find_lead-best-requires c = omega arith
-
-pub all_within-within-requires : goal.all_within-within-requires
-all_within-within-requires c = omega arith
-
-pub agree_of-agree-requires : goal.agree_of-agree-requires
-agree_of-agree-requires c = omega arith
-
-pub explained_of-explained-requires : goal.explained_of-explained-requires
-explained_of-explained-requires c = omega arith
-
-pub overflow_cast-freedom : goal.overflow_cast-freedom
-overflow_cast-freedom c = omega arith
-
 pub overflow_cast-first : goal.overflow_cast-first
 overflow_cast-first c = let a = c.args in
     let h : c.find_lead-best.result.index ≤ a.n = rw c.find_lead-best.ensures (lead-most (vec 1020 a.n a.w.now) (vec 1056 a.n a.w.now) a.n) in

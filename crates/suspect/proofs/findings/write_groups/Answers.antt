@@ -2,7 +2,6 @@
 use mathlib.Core.Path.{◌≡◌, refl}
 use native.Mathlib.Omega.{arith}
 use lib.ListN.{length-set}
-use Rattle.numbers.specs.Numbers.{at}
 use Rattle.workspace.proofs.Writes.{written_none, written-more}
 use Rattle.suspect.proofs.findings.write_groups.Goals as goal
 
@@ -14,21 +13,6 @@ group_of-l-requires c = (c.requires.0, c.requires.1, omega arith, c.requires.2)
 
 pub overflow_cast-iw : goal.overflow_cast-iw
 overflow_cast-iw c = omega (arith, c.group_of-l.ensures.1, c.requires)
-
-pub overflow_add-iw : goal.overflow_add-iw
-overflow_add-iw c = omega arith
-
-pub offset_bounds-iw-i : goal.offset_bounds-iw-i
-offset_bounds-iw-i c = omega arith
-
-pub bounds-iw-i : goal.bounds-iw-i
-bounds-iw-i c = omega arith
-
-pub overflow_step-i : goal.overflow_step-i
-overflow_step-i c = omega arith
-
-pub loop-i-smaller : goal.loop-i-smaller
-loop-i-smaller c = omega arith
 
 pub loop-i-preserved : goal.loop-i-preserved
 loop-i-preserved c = let l = c.loop-i in (omega arith, simp length-set l.invariant.1, written-more 0 18 l.i _ _ l.iw _ (omega arith) c.group_of-l.ensures.0 l.invariant.2)

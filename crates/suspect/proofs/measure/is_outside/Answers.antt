@@ -1,47 +1,34 @@
 -- `is_outside`: after k turns it speaks of k balances.
-use mathlib.Core.Path.{◌≡◌}
+use mathlib.Core.Path.{◌≡◌, ◌∙◌}
 use native.Mathlib.Omega.{arith}
-use Rattle.numbers.specs.Numbers.{at}
 use Rattle.numbers.proofs.Lists.{index-lt}
+use Rattle.workspace.proofs.Readings.{lit-+0}
 use Rattle.suspect.proofs.Decisions.{outside-none, outside-more}
 use Rattle.suspect.proofs.Preparing.{few}
 use Rattle.suspect.proofs.measure.is_outside.Goals as goal
+use Rattle.suspect.proofs.measure.is_outside.Goals.{then-all, else-all}
 
 pub loop-k-init : goal.loop-k-init
 loop-k-init c = (omega arith, outside-none _ _ _ _ _)
 
-pub bounds-still-i : goal.bounds-still-i
-bounds-still-i c = omega arith
-
-pub offset_bounds-spreads-i : goal.offset_bounds-spreads-i
-offset_bounds-spreads-i c = omega arith
-
-pub bounds-spreads-i : goal.bounds-spreads-i
-bounds-spreads-i c = omega arith
-
 pub overflow_mul-k : goal.overflow_mul-k
-overflow_mul-k c = let l = c.loop-k in omega (arith, few l.k c.args.n (omega (arith, c.requires)) c.requires.0, c.requires.0)
+overflow_mul-k c = let d = c.args.day.now in omega (arith, few c.loop-k.k d.n (omega (arith, d.few_balances)) d.few_meters)
 
 pub overflow_add-k : goal.overflow_add-k
-overflow_add-k c = let l = c.loop-k in omega (arith, few l.k c.args.n (omega (arith, c.requires)) c.requires.0, c.requires.0)
+overflow_add-k c = let d = c.args.day.now in omega (arith, few c.loop-k.k d.n (omega (arith, d.few_balances)) d.few_meters, d.few_meters, c.requires)
 
-pub offset_bounds-balances-k : goal.offset_bounds-balances-k
-offset_bounds-balances-k c = let l = c.loop-k in omega (arith, few l.k c.args.n (omega (arith, c.requires)) c.requires.0, c.requires.0)
+pub offset_bounds-day-k : goal.offset_bounds-day-k
+offset_bounds-day-k c = let d = c.args.day.now in omega (arith, few c.loop-k.k d.n (omega (arith, d.few_balances)) d.few_meters, d.few_meters, c.requires)
 
-pub bounds-balances-k : goal.bounds-balances-k
-bounds-balances-k c = let l = c.loop-k in omega (arith, index-lt c.args.m c.args.n l.k c.args.i (omega arith) c.requires.2, c.requires.4)
-
-pub outside_too-all-requires : goal.outside_too-all-requires
-outside_too-all-requires c = tt
-
-pub overflow_step-k : goal.overflow_step-k
-overflow_step-k c = omega arith
-
-pub loop-k-smaller : goal.loop-k-smaller
-loop-k-smaller c = omega arith
+pub bounds-day-k : goal.bounds-day-k
+bounds-day-k c = let d = c.args.day.now in omega (arith, index-lt d.m d.n c.loop-k.k c.args.i (omega arith) c.requires, d.balance)
 
 pub loop-k-preserved : goal.loop-k-preserved
-loop-k-preserved c = let l = c.loop-k in (omega arith, outside-more c.args.n c.args.spreads.now c.args.balances.now c.args.still.now c.args.i l.k l.all _ l.invariant.1 c.outside_too-all.ensures)
+loop-k-preserved c = let d = c.args.day.now in let l = c.loop-k in (
+  omega arith,
+  outside-more d.n d.spreads.now d.balances.now d.still.now c.args.i l.k l.all _ l.invariant.1
+      (elim c.if-all.branch [ then-all w ↦ w.all-is ∙ rw (w.if-all.true, c.weight_of-x.ensures, lit-+0) | else-all w ↦ w.all-is ∙ rw w.if-all.false ]),
+)
 
 pub returns : goal.returns
-returns c = let l = c.loop-k in let e : l.k ≡ c.args.m = omega arith in rw e at l.invariant.1
+returns c = let l = c.loop-k in let e : l.k ≡ c.args.day.now.m = omega arith in rw e at l.invariant.1

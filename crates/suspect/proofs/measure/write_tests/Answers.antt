@@ -16,36 +16,6 @@ use Rattle.suspect.proofs.measure.write_tests.Goals as goal
 pub loop-i-init : goal.loop-i-init
 loop-i-init c = (omega arith, refl, written_none _ _ _ _)
 
-pub correction_of-p-requires : goal.correction_of-p-requires
-correction_of-p-requires c = omega arith
-
-pub overflow_add-i : goal.overflow_add-i
-overflow_add-i c = omega arith
-
-pub offset_bounds-w-i : goal.offset_bounds-w-i
-offset_bounds-w-i c = omega arith
-
-pub bounds-w-i : goal.bounds-w-i
-bounds-w-i c = omega arith
-
-pub test_of-requires : goal.test_of-requires
-test_of-requires c = tt
-
-pub overflow_add-w : goal.overflow_add-w
-overflow_add-w c = omega arith
-
-pub offset_bounds-w-i-in-loop-i : goal.offset_bounds-w-i-in-loop-i
-offset_bounds-w-i-in-loop-i c = omega arith
-
-pub bounds-w-i-in-loop-i : goal.bounds-w-i-in-loop-i
-bounds-w-i-in-loop-i c = omega arith
-
-pub overflow_step-i : goal.overflow_step-i
-overflow_step-i c = omega arith
-
-pub loop-i-smaller : goal.loop-i-smaller
-loop-i-smaller c = omega arith
-
 pub loop-i-preserved : goal.loop-i-preserved
 loop-i-preserved c = let l = c.loop-i in
     let d = directions-stay c.args.n c.args.w.now l.w c.requires.0 (λ x h. l.invariant.2.before x (omega arith)) in

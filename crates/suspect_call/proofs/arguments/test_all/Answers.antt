@@ -1,41 +1,16 @@
 -- `tests/test_all`: what is still to test gives the answer.
 use mathlib.Core.Path.{sym, ◌∙◌}
 use native.Mathlib.Omega.{arith}
-use Rattle.suspect_call.proofs.Testing.{tested-none, tested-on, tested-out, tested-all}
+use Rattle.std.proofs.lemmas.Result.{err_from_is_err_and}
+use Rattle.suspect_call.proofs.Testing.{tested-on, tested-out, tested-all}
 use Rattle.suspect_call.proofs.arguments.test_all.Goals as goal
 
-pub loop-i-init : goal.loop-i-init
-loop-i-init c = (omega arith, tested-none _ _ _)
-
-pub offset_bounds-values-i : goal.offset_bounds-values-i
-offset_bounds-values-i c = omega arith
-
-pub bounds-values-i : goal.bounds-values-i
-bounds-values-i c = omega arith
-
-pub offset_bounds-spreads-i : goal.offset_bounds-spreads-i
-offset_bounds-spreads-i c = omega arith
-
-pub bounds-spreads-i : goal.bounds-spreads-i
-bounds-spreads-i c = omega arith
-
-pub overflow_cast-i : goal.overflow_cast-i
-overflow_cast-i c = omega arith
-
-pub test_meter-told-requires : goal.test_meter-told-requires
-test_meter-told-requires c = tt
-
-pub returns-in_default : goal.returns-in_default
-returns-in_default c = let l = c.loop-i in let e = c.in_default.is in e ∙ sym (l.invariant.1 ∙ tested-out _ _ _ _ _ (omega arith) (sym c.test_meter-told.ensures ∙ e))
-
-pub overflow_step-i : goal.overflow_step-i
-overflow_step-i c = omega arith
-
-pub loop-i-smaller : goal.loop-i-smaller
-loop-i-smaller c = omega arith
+pub returns-in_err-test_meter : goal.returns-in_err-test_meter
+returns-in_err-test_meter c = let p = err_from_is_err_and c.from_residual.result c.from_residual.ensures.1 in
+    rw (p.1, p.2) (sym (c.loop-i.invariant.1 ∙ tested-out _ _ _ _ _ (omega arith) (sym c.test_meter.ensures ∙ c.in_err-test_meter.was)))
 
 pub loop-i-preserved : goal.loop-i-preserved
-loop-i-preserved c = let l = c.loop-i in (omega arith, l.invariant.1 ∙ tested-on _ _ _ _ (omega arith) (sym c.test_meter-told.ensures ∙ c.in-Done.is))
+loop-i-preserved c = (omega arith, c.loop-i.invariant.1 ∙ tested-on _ _ _ _ (omega arith) (sym c.test_meter.ensures ∙ c.in_ok-test_meter.was))
 
 pub returns : goal.returns
 returns c = sym (c.loop-i.invariant.1 ∙ tested-all _ _ _ _ (omega arith))

@@ -1,16 +1,11 @@
 -- `ahead` meets its contract.
-use mathlib.Core.Bool.{false≢true}
-use Rattle.householder.proofs.Leading.{lit-clear}
+use mathlib.Core.Path.{◌≡◌}
+use native.Mathlib.Omega.{arith}
+use Rattle.householder.specs.inner.Search.{taken}
+use Rattle.householder.proofs.Leading.{lit-clear, is-ahead}
 use Rattle.householder.proofs.search.Lead.ahead.Goals as goal
 
-pub returns-then-old-2 : goal.returns-then-old-2
-returns-then-old-2 c = λ e. absurd (false≢true e)
-
-pub returns-then-old-3 : goal.returns-then-old-3
-returns-then-old-3 c = λ _. (c.if-old.true, c.if-old-2.false, rw lit-clear at c.if-old-3.true)
-
-pub returns-else-old-3 : goal.returns-else-old-3
-returns-else-old-3 c = λ e. absurd (false≢true e)
-
-pub returns-else-old : goal.returns-else-old
-returns-else-old c = λ e. absurd (false≢true e)
+pub returns-in-Some-Squares : goal.returns-in-Some-Squares
+returns-in-Some-Squares c = let l = c.in-Some-Squares in
+    let e : c.args.old ≡ taken l.field-0-0 l.sum = grind arith in
+    λ h. is-ahead _ _ _ e (rw lit-clear at h)

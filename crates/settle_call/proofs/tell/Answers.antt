@@ -1,8 +1,0 @@
--- `tell`: a bound, or why not.
-use Rattle.settle_call.proofs.tell.Goals as goal
-
-pub returns-in-Done : goal.returns-in-Done
-returns-in-Done c = rw c.in-Done.is
-
-pub returns-in-Refused : goal.returns-in-Refused
-returns-in-Refused c = rw c.in-Refused.is
