@@ -200,7 +200,7 @@ fn run_lent(operation: Operation, call: &Call, values: &Values) -> u64 {
     let ys = length_at(call, 3, 1200);
     let ws = length_at(call, 0, 8231);
     let iws = length_at(call, 1, 551);
-    let mut x = first_output(operation, call, values);
+    let mut x = first_output(operation as usize, call, values);
     let mut y = lent_output(call);
     let mut w = room(call);
     let mut iw = places(call);

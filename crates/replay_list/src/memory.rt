@@ -41,16 +41,16 @@ fn load(to: &mut [f64], from: &[f64]) {
     to[..n].copy_from_slice(&from[..n]);
 }
 
-// An operation whose output is its first input: an update, square or packed, and an answer to a search.
-fn is_changed(operation: Operation) -> bool {
+// The number of an operation whose output is its first input: an update, square or packed, and an answer to a search.
+fn is_changed(operation: usize) -> bool {
     matches!(
-        operation,
-        Operation::Update | Operation::PackedUpdate | Operation::Tell
+        Operation::try_from(operation as u64),
+        Ok(Operation::Update | Operation::PackedUpdate | Operation::Tell)
     )
 }
 
 // The memory of the first output: for an update the matrix, for an answer the machine, which are changed where they stand.
-pub fn first_output(operation: Operation, call: &Call, values: &Values) -> Output
+pub fn first_output(operation: usize, call: &Call, values: &Values) -> Output
     ensures { 1200 ≡ length result }
 {
     if !is_changed(operation) {

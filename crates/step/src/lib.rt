@@ -13,7 +13,7 @@ ghost use Rattle.step_rows.specs.Lent.{problem_in};
 ghost use Rattle.step.specs.inner.Work.{ExactIn, RelaxedIn, Left, Tries, passed_or_failed, unrelaxed, later, EndsStep};
 ghost use Rattle.step.specs.inner.Places.{EXACT_EQUALITY_MULTIPLIERS, EXACT_MULTIPLIERS, EXACT_X, RELAXED_MULTIPLIERS, RELAXED_X, STEP_ROOM, STEP_WORDS};
 
-use step_rows::Subproblem;
+use step_rows::{Constraints, Subproblem};
 use workspace::Refusal;
 
 // ---- where things stand in the part of the step
@@ -110,11 +110,19 @@ fn write_exact(p: &Subproblem, w: &mut [f64]) -> Sizes
     requires { STEP_ROOM ≤ length w.old }
     ensures { ExactIn (problem_in p.now) (vec 0 p.now.n w.old) result w.new }
 {
-    let equalities = step_rows::push_equalities(p, w, EXACT_C);
+    let constraints = Constraints {
+        n: p.n,
+        m: p.m,
+        kinds: p.kinds,
+        values: p.values,
+        widths: p.widths,
+        jacobian: p.jacobian,
+    };
+    let equalities = step_rows::push_equalities(&constraints, w, EXACT_C);
     assembly::gather_sides(w, equalities, p.n);
     workspace::load_matrix(p.factor, w, EXACT_E, p.n, p.n);
     workspace::copy_up(w, 0, EXACT_F, p.n);
-    let inequalities = step_rows::push_inequalities(p, w, EXACT_G);
+    let inequalities = step_rows::push_inequalities(&constraints, p.lower, p.upper, w, EXACT_G);
     Sizes {
         equalities,
         inequalities,
@@ -165,7 +173,15 @@ fn write_relaxed(p: &Subproblem, w: &mut [f64]) -> usize
     let root = numbers::sqrt(Step::RELAXATION_WEIGHT);
     assembly::write_matrix(p.factor, w, p.n, root);
     assembly::write_side(w, p.n);
-    step_rows::push_relaxed_rows(p, w, RELAXED_G)
+    let constraints = Constraints {
+        n: p.n,
+        m: p.m,
+        kinds: p.kinds,
+        values: p.values,
+        widths: p.widths,
+        jacobian: p.jacobian,
+    };
+    step_rows::push_relaxed_rows(&constraints, p.lower, p.upper, w, RELAXED_G)
 }
 
 // From LSI's answer to g rows: the multipliers in constraint order, the step, and the relaxation.

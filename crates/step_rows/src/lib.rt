@@ -8,13 +8,13 @@ mod subproblem;
 
 ghost use Rattle.std.specs.Prelude.{◌≡◌, cond, [], ◌∷◌, ◌++◌, map, ℕ, ◌+◌, ◌*◌, ◌≤◌, ◌<◌, eqb, length};
 ghost use Rattle.std.specs.Float.Ieee.{neg};
-ghost use Rattle.numbers.specs.Numbers.{+0, ◌⊖◌, at, row};
+ghost use Rattle.numbers.specs.Numbers.{+0, ◌⊖◌, at, nth, row};
 ghost use Rattle.workspace.specs.Readings.{Block};
-ghost use Rattle.step_rows.specs.Problem.{constraint_of, constraint_at, row_of, unit, side_of, lower_row, upper_row, each, bound_rows, equation_of, equality_rows, floors_of, delta_rows, inequality_rows, relaxed_rows};
-ghost use Rattle.step_rows.specs.Lent.{problem_in};
+ghost use Rattle.step_rows.specs.Problem.{constraint_of, constraint_at, row_of, unit, side_of, lower_row, upper_row, each, equation_of, equality_rows, floors_of, delta_rows, inequality_rows, relaxed_rows};
+ghost use Rattle.step_rows.specs.Lent.{problem_in, bounded};
 ghost use Rattle.step_rows.specs.inner.Work.{Pushed};
 
-pub use crate::subproblem::Subproblem;
+pub use crate::subproblem::{Constraints, Subproblem};
 
 // The side of a raw bound: closed at a number, or open, as is any nonfinite one.
 pub fn side_of(bound: f64) -> Option<f64>
@@ -188,14 +188,22 @@ fn push_bound(
     push_upper(side_of(upper), w, o, c, n, i)
 }
 
-// The bounds of all variables, in rows of `columns` coefficients.
-fn push_bounds(p: &Subproblem, w: &mut [f64], o: usize, k: usize, columns: usize) -> usize
-    requires { (p.now.n ≤ columns) × (columns ≤ 17) × (o + k * 18 + p.now.n * 36 ≤ length w.old) }
-    ensures { (result ≤ k + 2 * p.now.n) × Pushed o columns k result (bound_rows columns (problem_in p.now)) w.old w.new }
+// The bounds of the first n variables, in rows of `columns` coefficients.
+fn push_bounds(
+    lower: &[f64],
+    upper: &[f64],
+    w: &mut [f64],
+    o: usize,
+    k: usize,
+    columns: usize,
+    n: usize,
+) -> usize
+    requires { (n ≤ columns) × (columns ≤ 17) × (length lower.now ≡ n) × (length upper.now ≡ n) × (o + k * 18 + n * 36 ≤ length w.old) }
+    ensures { (result ≤ k + 2 * n) × Pushed o columns k result (each n (λ i. lower_row columns i (side_of (at lower.now i)) ++ upper_row columns i (side_of (at upper.now i)))) w.old w.new }
 {
     let mut c = k;
-    for i in 0..p.n {
-        c = push_bound(p.lower[i], p.upper[i], w, o, c, columns, i);
+    for i in 0..n {
+        c = push_bound(lower[i], upper[i], w, o, c, columns, i);
     }
     c
 }
@@ -227,14 +235,14 @@ fn push_equation(
 }
 
 // The equalities.
-pub fn push_equalities(p: &Subproblem, w: &mut [f64], o: usize) -> usize
-    requires { o + p.now.m * 18 ≤ length w.old }
-    ensures { (result ≤ p.now.m) × Pushed o p.now.n 0 result (equality_rows (problem_in p.now)) w.old w.new }
+pub fn push_equalities(cs: &Constraints, w: &mut [f64], o: usize) -> usize
+    requires { o + cs.now.m * 18 ≤ length w.old }
+    ensures { (result ≤ cs.now.m) × Pushed o cs.now.n 0 result (equality_rows (bounded cs.now [] [])) w.old w.new }
 {
     let mut k = 0;
-    for j in 0..p.m {
-        let constraint = p.constraint(j);
-        k = push_equation(constraint, p.jacobian, w, o, k, p.n, j, p.values[j]);
+    for j in 0..cs.m {
+        let constraint = Constraint::of(cs.kinds[j], cs.widths[j]);
+        k = push_equation(constraint, cs.jacobian, w, o, k, cs.n, j, cs.values[j]);
     }
     k
 }
@@ -276,25 +284,31 @@ fn push_floor(
 }
 
 // The floors and bands.
-fn push_floors(p: &Subproblem, w: &mut [f64], o: usize) -> usize
-    requires { o + p.now.m * 36 ≤ length w.old }
-    ensures { (result ≤ 2 * p.now.m) × Pushed o p.now.n 0 result (each p.now.m (λ j. floors_of (constraint_at (problem_in p.now) j) (row p.now.n j p.now.jacobian.now) (at p.now.values.now j))) w.old w.new }
+fn push_floors(cs: &Constraints, w: &mut [f64], o: usize) -> usize
+    requires { o + cs.now.m * 36 ≤ length w.old }
+    ensures { (result ≤ 2 * cs.now.m) × Pushed o cs.now.n 0 result (each cs.now.m (λ j. floors_of (constraint_of (nth cs.now.kinds.now j) (at cs.now.widths.now j)) (row cs.now.n j cs.now.jacobian.now) (at cs.now.values.now j))) w.old w.new }
 {
     let mut k = 0;
-    for j in 0..p.m {
-        let constraint = p.constraint(j);
-        k = push_floor(constraint, p.jacobian, w, o, k, p.n, j, p.values[j]);
+    for j in 0..cs.m {
+        let constraint = Constraint::of(cs.kinds[j], cs.widths[j]);
+        k = push_floor(constraint, cs.jacobian, w, o, k, cs.n, j, cs.values[j]);
     }
     k
 }
 
 // The inequalities of the exact problem: constraints, and then per variable lower, upper.
-pub fn push_inequalities(p: &Subproblem, w: &mut [f64], o: usize) -> usize
-    requires { o + 1152 ≤ length w.old }
-    ensures { (result ≤ 64) × Pushed o p.now.n 0 result (inequality_rows (problem_in p.now)) w.old w.new }
+pub fn push_inequalities(
+    cs: &Constraints,
+    lower: &[f64],
+    upper: &[f64],
+    w: &mut [f64],
+    o: usize,
+) -> usize
+    requires { (cs.now.n ≤ 16) × (cs.now.m ≤ 16) × (length lower.now ≡ cs.now.n) × (length upper.now ≡ cs.now.n) × (o + 1152 ≤ length w.old) }
+    ensures { (result ≤ 64) × Pushed o cs.now.n 0 result (inequality_rows (bounded cs.now lower.now upper.now)) w.old w.new }
 {
-    let k = push_floors(p, w, o);
-    push_bounds(p, w, o, k, p.n)
+    let k = push_floors(cs, w, o);
+    push_bounds(lower, upper, w, o, k, cs.n, cs.n)
 }
 
 // ---- the relaxed problem, in one column more
@@ -309,12 +323,18 @@ fn push_delta(w: &mut [f64], o: usize, k: usize, n: usize)
 }
 
 // The rows of the relaxed problem: constraints, then per variable lower, upper, and last those of delta.
-pub fn push_relaxed_rows(p: &Subproblem, w: &mut [f64], o: usize) -> usize
-    requires { o + 1188 ≤ length w.old }
-    ensures { (result ≤ 66) × Pushed o (p.now.n + 1) 0 result (relaxed_rows (problem_in p.now)) w.old w.new }
+pub fn push_relaxed_rows(
+    cs: &Constraints,
+    lower: &[f64],
+    upper: &[f64],
+    w: &mut [f64],
+    o: usize,
+) -> usize
+    requires { (cs.now.n ≤ 16) × (cs.now.m ≤ 16) × (length lower.now ≡ cs.now.n) × (length upper.now ≡ cs.now.n) × (o + 1188 ≤ length w.old) }
+    ensures { (result ≤ 66) × Pushed o (cs.now.n + 1) 0 result (relaxed_rows (bounded cs.now lower.now upper.now)) w.old w.new }
 {
-    let k = relaxed::push_all_relaxed(p, w, o);
-    let c = push_bounds(p, w, o, k, p.n + 1);
-    push_delta(w, o, c, p.n);
+    let k = relaxed::push_all_relaxed(cs, w, o);
+    let c = push_bounds(lower, upper, w, o, k, cs.n + 1, cs.n);
+    push_delta(w, o, c, cs.n);
     c + 2
 }

@@ -1,9 +1,8 @@
 // The constraints of the relaxed problem, in one column more.
 ghost use Rattle.std.specs.Prelude.{◌≡◌, cond, [], ◌∷◌, map, ℕ, ◌+◌, ◌*◌, ◌≤◌, length};
 ghost use Rattle.std.specs.Float.Ieee.{neg, lt};
-ghost use Rattle.numbers.specs.Numbers.{+0, ◌⊖◌, at, row};
-ghost use Rattle.step_rows.specs.Problem.{constraint_at, each, opposed_rows, loosened_row, relaxed_of};
-ghost use Rattle.step_rows.specs.Lent.{problem_in};
+ghost use Rattle.numbers.specs.Numbers.{+0, ◌⊖◌, at, nth, row};
+ghost use Rattle.step_rows.specs.Problem.{constraint_of, each, opposed_rows, loosened_row, relaxed_of};
 ghost use Rattle.step_rows.specs.inner.Work.{Pushed};
 
 // What an inequality has in the last column: -c, only if c < 0.
@@ -87,14 +86,14 @@ fn push_relaxed(
 }
 
 // All constraints.
-pub fn push_all_relaxed(p: &crate::Subproblem, w: &mut [f64], o: usize) -> usize
-    requires { o + p.now.m * 36 ≤ length w.old }
-    ensures { (result ≤ 2 * p.now.m) × Pushed o (p.now.n + 1) 0 result (each p.now.m (λ j. relaxed_of (constraint_at (problem_in p.now) j) (row p.now.n j p.now.jacobian.now) (at p.now.values.now j))) w.old w.new }
+pub fn push_all_relaxed(cs: &crate::Constraints, w: &mut [f64], o: usize) -> usize
+    requires { (cs.now.n ≤ 16) × (o + cs.now.m * 36 ≤ length w.old) }
+    ensures { (result ≤ 2 * cs.now.m) × Pushed o (cs.now.n + 1) 0 result (each cs.now.m (λ j. relaxed_of (constraint_of (nth cs.now.kinds.now j) (at cs.now.widths.now j)) (row cs.now.n j cs.now.jacobian.now) (at cs.now.values.now j))) w.old w.new }
 {
     let mut k = 0;
-    for j in 0..p.m {
-        let constraint = p.constraint(j);
-        k = push_relaxed(constraint, p.jacobian, w, o, k, p.n, j, p.values[j]);
+    for j in 0..cs.m {
+        let constraint = crate::Constraint::of(cs.kinds[j], cs.widths[j]);
+        k = push_relaxed(constraint, cs.jacobian, w, o, k, cs.n, j, cs.values[j]);
     }
     k
 }

@@ -9,10 +9,10 @@ use Rattle.step_rows.specs.inner.Work.{Pushed}
 use Rattle.step_rows.proofs.push_bounds.Given as goal
 
 abbrev pub invariant-loop-i : goal.invariant-loop-i
-invariant-loop-i l = (l.i ≤ l.p.n)
+invariant-loop-i l = (l.i ≤ l.n)
     × (length l.w ≡ length l.initial.w)
     × (l.c ≤ l.k + 2 * l.i)
-    × Pushed l.o l.columns l.k l.c (each l.i (λ i'. lower_row l.columns i' (side_of (at l.p.lower.now i')) ++ upper_row l.columns i' (side_of (at l.p.upper.now i')))) l.initial.w l.w
+    × Pushed l.o l.columns l.k l.c (each l.i (λ i'. lower_row l.columns i' (side_of (at l.lower i')) ++ upper_row l.columns i' (side_of (at l.upper i')))) l.initial.w l.w
 
 abbrev pub decreases-loop-i : goal.decreases-loop-i
-decreases-loop-i l = l.p.n - l.i
+decreases-loop-i l = l.n - l.i
